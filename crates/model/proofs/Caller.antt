@@ -1,0 +1,75 @@
+-- What a caller reads from the result and the buffer of a call that meets its contract.
+use Prim.Native.Nat.{ℕ, _^_, _<_}
+use native.Mathlib.Omega.{arith}
+use mathlib.Core.Path.{_≡_, sym, ap, ap₂, _∙_, subst⁻¹}
+use mathlib.Core.List.{List}
+use lib.Seq.{take-append-seam, drop-append-seam}
+use lib.ListN.{length, take, drop, length-append, length-drop}
+use Rattle.model.specs.Base.{filter, Bytes}
+use Rattle.model.specs.Job.{run, written, packed, bufferAfter}
+use Rattle.model.specs.Calls.{Call, ran, Met, read, replies, numberOf, offsetOf, writtenOf, hasBytes, Reads}
+use Rattle.model.proofs.Lists.{all-append, all-drop}
+use Rattle.model.proofs.Runs.{Ends, ends}
+use Rattle.model.proofs.Read.{read-answers}
+use Rattle.model.proofs.Sound.{run-fits, run-bytes}
+
+-- what a job writes reads as its answers of a byte or more
+pub read-written : (job : List ℕ) (room : ℕ) → read (written (run job room)) ≡ filter hasBytes (run job room .answers)
+unfolding written
+read-written job room = read-answers (run job room .answers) (run-fits job room)
+
+-- what a call returns fits a 64-bit number
+pub packed-lt : (job : List ℕ) (room : ℕ) → packed (run job room) < 2 ^ 64
+unfolding packed
+packed-lt job room = let e = ends job room in omega (arith, e .number-small, e .offset-small, e .written-small)
+
+module _ (c : Call) (m : Met c) where
+  e : Ends (c .job) (length (c .before)) (ran c)
+  e = ends (c .job) (length (c .before))
+
+  number-is : numberOf c ≡ ran c .number
+  unfolding packed
+  number-is = rw (m .returned) (omega (arith, e .offset-small, e .written-small))
+
+  offset-is : offsetOf c ≡ ran c .offset
+  unfolding packed
+  offset-is = rw (m .returned) (omega (arith, e .offset-small, e .written-small))
+
+  written-is : writtenOf c ≡ length (written (ran c))
+  unfolding packed
+  written-is = rw (m .returned) (omega (arith, e .offset-small, e .written-small))
+
+  bytes-are : take (writtenOf c) (c .after) ≡ written (ran c)
+  unfolding bufferAfter
+  bytes-are = ap₂ take written-is (m .after) ∙ take-append-seam (written (ran c)) (drop (length (written (ran c))) (c .before))
+
+  rest-is : drop (writtenOf c) (c .after) ≡ drop (writtenOf c) (c .before)
+  unfolding bufferAfter
+  rest-is = ap₂ drop written-is (m .after) ∙ drop-append-seam (written (ran c)) (drop (length (written (ran c))) (c .before)) ∙ ap (λ (n : ℕ). drop n (c .before)) (sym written-is)
+
+  whole-is : length (c .after) ≡ length (c .before)
+  unfolding bufferAfter
+  whole-is = ap length (m .after) ∙ length-append (written (ran c)) (drop (length (written (ran c))) (c .before)) ∙ omega (arith, length-drop (length (written (ran c))) (c .before), e .fits)
+
+  small-is : Bytes (c .job) → Bytes (c .before) → Bytes (c .after)
+  unfolding bufferAfter
+  small-is a b = subst⁻¹ Bytes (m .after) (all-append (λ (b : ℕ). b < 256) (written (ran c)) (drop (length (written (ran c))) (c .before)) (run-bytes (c .job) (length (c .before)) a) (all-drop (λ (b : ℕ). b < 256) (length (written (ran c))) (c .before) b))
+
+  answers-are : replies c ≡ filter hasBytes (ran c .answers)
+  answers-are = ap read bytes-are ∙ read-written (c .job) (length (c .before))
+
+  pub caller : Reads c
+  caller = record {
+    number = number-is;
+    offset = offset-is;
+    answers = answers-are;
+    bytes = bytes-are;
+    rest = rest-is;
+    whole = whole-is;
+    small = small-is;
+    numbered = omega (arith, number-is, e .number-small);
+    accepted = λ z. offset-is ∙ e .accepted (sym number-is ∙ z);
+    too-long = λ z. let t = e .too-long (sym number-is ∙ z) in (offset-is ∙ t .0, written-is ∙ t .1);
+    cut = λ z. offset-is ∙ e .cut (sym number-is ∙ z);
+    refused = λ g. omega (arith, offset-is, e .refused (omega (arith, number-is)));
+  }

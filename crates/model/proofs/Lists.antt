@@ -1,0 +1,180 @@
+-- What the tests on lists and bits say. Nothing here is from the paper.
+use Prim.Native.Nat.{ℕ, zero, suc, _+_, _≤_, _<_}
+use native.Mathlib.Omega.{arith}
+use native.Mathlib.Decide.{decLt}
+use mathlib.Core.Path.{_≡_, refl, subst, subst⁻¹}
+use mathlib.Core.Logic.{_⊎_, inl, inr}
+use mathlib.Core.Bool.{Bool, true, false, not, cond, _&&_, _||_}
+use mathlib.Core.List.{List, [], _∷_, _++_, List·Memᴰ, List·Memᴰ·head, List·Memᴰ·tail, Memᴰ·append-left, Memᴰ·append-right}
+use lib.Dec.{T}
+use lib.ListN.{take, drop}
+use Rattle.model.specs.Base.{from, below, every, some, filter, join, implies, All}
+
+pub yes-or-no : (b : Bool) → T b ⊎ T (not b)
+yes-or-no true = inl tt
+yes-or-no false = inr tt
+
+pub twice : (a : Bool) → T (not (not a)) → T a
+twice true u = tt
+twice false u = u
+
+pub and-l : (a b : Bool) → T (a && b) → T a
+and-l true b t = tt
+and-l false b t = t
+
+pub and-r : (a b : Bool) → T (a && b) → T b
+and-r true b t = t
+and-r false b t = absurd t
+
+pub and-i : (a b : Bool) → T a → T b → T (a && b)
+and-i true b s t = t
+and-i false b s t = s
+
+pub or-cases : (a b : Bool) → T (a || b) → T a ⊎ T b
+or-cases true b t = inl tt
+or-cases false b t = inr t
+
+pub or-l : (a b : Bool) → T a → T (a || b)
+or-l true b t = tt
+or-l false b t = absurd t
+
+pub or-r : (a b : Bool) → T b → T (a || b)
+or-r true b t = tt
+or-r false b t = t
+
+pub implies-e : (a b : Bool) → T (implies a b) → T a → T b
+implies-e true b t s = t
+implies-e false b t s = absurd s
+
+pub implies-i : (a b : Bool) → (T a → T b) → T (implies a b)
+implies-i true b f = f tt
+implies-i false b f = tt
+
+pub T-true : {b : Bool} → T b → b ≡ true
+T-true {b} t = go b t
+  where
+    go : (b : Bool) → T b → b ≡ true
+    go true t = refl
+    go false t = absurd t
+
+pub T-false : {b : Bool} → T (not b) → b ≡ false
+T-false {b} t = go b t
+  where
+    go : (b : Bool) → T (not b) → b ≡ false
+    go true t = absurd t
+    go false t = refl
+
+module _ {A : Type 0} where
+  pub every-e : (f : A → Bool) {x : A} {xs : List A} → List·Memᴰ x xs → T (every f xs) → T (f x)
+  every-e f (List·Memᴰ·head {x = y} {xs = ys} e) t = subst⁻¹ (λ (z : A). T (f z)) e (and-l (f y) (every f ys) t)
+  every-e f (List·Memᴰ·tail {x = y} {xs = ys} h) t = every-e f h (and-r (f y) (every f ys) t)
+
+  pub every-i : (f : A → Bool) (xs : List A) → ((x : A) → List·Memᴰ x xs → T (f x)) → T (every f xs)
+  every-i f [] h = tt
+  every-i f (x ∷ xs) h = and-i (f x) (every f xs) (h x (List·Memᴰ·head refl)) (every-i f xs (λ y m. h y (List·Memᴰ·tail m)))
+
+  pub some-i : (f : A → Bool) {x : A} {xs : List A} → List·Memᴰ x xs → T (f x) → T (some f xs)
+  some-i f (List·Memᴰ·head {x = y} {xs = ys} e) t = or-l (f y) (some f ys) (subst (λ (z : A). T (f z)) e t)
+  some-i f (List·Memᴰ·tail {x = y} {xs = ys} h) t = or-r (f y) (some f ys) (some-i f h t)
+
+  pub some-e : (f : A → Bool) (xs : List A) → T (some f xs) → (x : A) × List·Memᴰ x xs × T (f x)
+  some-e f [] t = absurd t
+  some-e f (x ∷ xs) t = go (or-cases (f x) (some f xs) t) (some-e f xs)
+    where
+      go : T (f x) ⊎ T (some f xs) → (T (some f xs) → (y : A) × List·Memᴰ y xs × T (f y)) → (y : A) × List·Memᴰ y (x ∷ xs) × T (f y)
+      go (inl s) r = (x, List·Memᴰ·head refl, s)
+      go (inr s) r = let q = r s in (q .0, List·Memᴰ·tail (q .1), q .2)
+
+  -- a test that fails on a list fails at one of its entries
+  pub not-every : (f : A → Bool) (xs : List A) → T (not (every f xs)) → (x : A) × List·Memᴰ x xs × T (not (f x))
+  not-every f [] t = absurd t
+  not-every f (x ∷ xs) t = go (f x) refl t (not-every f xs)
+    where
+      go : (b : Bool) → f x ≡ b → T (not (b && every f xs)) → (T (not (every f xs)) → (y : A) × List·Memᴰ y xs × T (not (f y))) → (y : A) × List·Memᴰ y (x ∷ xs) × T (not (f y))
+      go true e s r = let q = r s in (q .0, List·Memᴰ·tail (q .1), q .2)
+      go false e s r = (x, List·Memᴰ·head refl, rw e tt)
+
+  pub filter-i : (f : A → Bool) {x : A} {xs : List A} → List·Memᴰ x xs → T (f x) → List·Memᴰ x (filter f xs)
+  filter-i f {x} (List·Memᴰ·head {x = y} {xs = ys} e) t = rw (T-true {b = f y} (subst (λ (z : A). T (f z)) e t)) (List·Memᴰ·head e)
+  filter-i f {x} (List·Memᴰ·tail {x = y} {xs = ys} h) t = go (f y) (filter-i f h t)
+    where
+      go : (b : Bool) → List·Memᴰ x (filter f ys) → List·Memᴰ x (cond b (y ∷ filter f ys) (filter f ys))
+      go true m = List·Memᴰ·tail m
+      go false m = m
+
+  pub filter-e : (f : A → Bool) {x : A} (xs : List A) → List·Memᴰ x (filter f xs) → List·Memᴰ x xs × T (f x)
+  filter-e f [] m = elim m [ ]
+  filter-e f {x} (y ∷ ys) m = go (f y) refl m (filter-e f ys)
+    where
+      step : T (f y) → (List·Memᴰ x (filter f ys) → List·Memᴰ x ys × T (f x)) → List·Memᴰ x (y ∷ filter f ys) → List·Memᴰ x (y ∷ ys) × T (f x)
+      step t r (List·Memᴰ·head e) = (List·Memᴰ·head e, subst⁻¹ (λ (z : A). T (f z)) e t)
+      step t r (List·Memᴰ·tail h) = (List·Memᴰ·tail (r h .0), r h .1)
+
+      go : (b : Bool) → f y ≡ b → List·Memᴰ x (cond b (y ∷ filter f ys) (filter f ys)) → (List·Memᴰ x (filter f ys) → List·Memᴰ x ys × T (f x)) → List·Memᴰ x (y ∷ ys) × T (f x)
+      go true e h r = step (rw e tt) r h
+      go false e h r = (List·Memᴰ·tail (r h .0), r h .1)
+
+  pub join-i : {x : A} {xs : List A} {xss : List (List A)} → List·Memᴰ x xs → List·Memᴰ xs xss → List·Memᴰ x (join xss)
+  join-i {x} m (List·Memᴰ·head {xs = yss} e) = Memᴰ·append-left (join yss) (subst (λ (l : List A). List·Memᴰ x l) e m)
+  join-i m (List·Memᴰ·tail {x = ys} h) = Memᴰ·append-right ys (join-i m h)
+
+-- the numbers from i on
+pub from-i : (i k x : ℕ) → i ≤ x → x < i + k → List·Memᴰ x (from i k)
+from-i i zero x h l = absurd (omega arith)
+from-i i (suc k) x h l = go (decLt i x) (from-i (suc i) k x)
+  where
+    go : Dec (i < x) → (suc i ≤ x → x < suc i + k → List·Memᴰ x (from (suc i) k)) → List·Memᴰ x (from i (suc k))
+    go (yes e) r = List·Memᴰ·tail (r e (omega arith))
+    go (no e) r = let q : x ≡ i = omega arith in List·Memᴰ·head q
+
+pub from-e : (i k : ℕ) {x : ℕ} → List·Memᴰ x (from i k) → (i ≤ x) × (x < i + k)
+from-e i zero m = elim m [ ]
+from-e i (suc k) (List·Memᴰ·head e) = omega arith
+from-e i (suc k) (List·Memᴰ·tail m) = let r = from-e (suc i) k m in omega arith
+
+pub below-i : {k x : ℕ} → x < k → List·Memᴰ x (below k)
+below-i {k} {x} h = from-i 0 k x (omega arith) (omega arith)
+
+pub below-e : (k : ℕ) {x : ℕ} → List·Memᴰ x (below k) → x < k
+below-e k m = let r = from-e 0 k m in omega arith
+
+-- each entry is so
+
+module _ {A : Type 0} (P : A → Type 0) where
+  pub all-append : (xs ys : List A) → All P xs → All P ys → All P (xs ++ ys)
+  all-append [] ys a b = b
+  all-append (x ∷ xs) ys a b = (a .0, all-append xs ys (a .1) b)
+
+  pub all-left : (xs ys : List A) → All P (xs ++ ys) → All P xs
+  all-left [] ys a = tt
+  all-left (x ∷ xs) ys a = (a .0, all-left xs ys (a .1))
+
+  pub all-right : (xs ys : List A) → All P (xs ++ ys) → All P ys
+  all-right [] ys a = a
+  all-right (x ∷ xs) ys a = all-right xs ys (a .1)
+
+  pub all-filter : (f : A → Bool) (xs : List A) → All P xs → All P (filter f xs)
+  all-filter f [] a = tt
+  all-filter f (x ∷ xs) a = go (f x) (all-filter f xs (a .1))
+    where
+      go : (b : Bool) → All P (filter f xs) → All P (cond b (x ∷ filter f xs) (filter f xs))
+      go true r = (a .0, r)
+      go false r = r
+
+  pub all-take : (n : ℕ) (xs : List A) → All P xs → All P (take n xs)
+  all-take zero xs a = tt
+  all-take (suc n) [] a = tt
+  all-take (suc n) (x ∷ xs) a = (a .0, all-take n xs (a .1))
+
+  pub all-drop : (n : ℕ) (xs : List A) → All P xs → All P (drop n xs)
+  all-drop zero xs a = a
+  all-drop (suc n) [] a = tt
+  all-drop (suc n) (x ∷ xs) a = all-drop n xs (a .1)
+
+  pub all-of : (xs : List A) → ((x : A) → List·Memᴰ x xs → P x) → All P xs
+  all-of [] f = tt
+  all-of (x ∷ xs) f = (f x (List·Memᴰ·head refl), all-of xs (λ y m. f y (List·Memᴰ·tail m)))
+
+  pub all-e : (xs : List A) → All P xs → {x : A} → List·Memᴰ x xs → P x
+  all-e (y ∷ ys) a (List·Memᴰ·head e) = subst⁻¹ P e (a .0)
+  all-e (y ∷ ys) a (List·Memᴰ·tail m) = all-e ys (a .1) m

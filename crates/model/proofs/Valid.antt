@@ -1,0 +1,234 @@
+-- What every problem of a job keeps: its rows are well formed and its candidates legal. So an L answers what the library call fills.
+use Prim.Native.Nat.{ℕ, _+_, _*_, _/_, _%_, _^_, _≤_, _<_}
+use native.Mathlib.Omega.{arith}
+use native.Mathlib.Decide.{ℕ-discrete, decLt}
+use mathlib.Core.Path.{_≡_, refl, ap, ap₂, _∙_, subst, subst⁻¹}
+use mathlib.Core.Bool.{Bool, true, false, not, cond, _&&_, _||_}
+use mathlib.Core.List.{List, [], _∷_, _++_, map}
+use lib.Dec.{T, leb, ltb, eqb, leb→le, nleb→lt, eqb-refl, not-T, T-not}
+use lib.Arith.{le→nltb}
+use lib.Bits.{bitAnd, and-zero-r}
+use lib.Pow.{pow-pos}
+use lib.Seq.{getD-set-same, getD-set-other}
+use lib.ListN.{getD, length, replicate, length-set, length-replicate, getD-replicate, List·getD-eq-default, length-map}
+use Rattle.model.specs.Base.{below, some, join, All}
+use Rattle.model.specs.Table.{Table, Term, formed, holdsNoOff, legal}
+use Rattle.model.specs.Primes.{primes}
+use Rattle.model.specs.Sets.{coverable}
+use Rattle.model.specs.Candidates.{basis, covering}
+use Rattle.model.specs.Commands.{Kind, is, kindOf, allowed, Problem, Context, operand, operandTerm, start, count, coveringOf, withRow, problemAfter, empty}
+use Rattle.model.specs.Answers.{Answer, answerFor, answer}
+use Rattle.model.specs.Refusals.{size, Refusal, refuse, firstOf, refusalsOf}
+use Rattle.model.specs.Job.{Run, run}
+use Rattle.model.specs.Library.{unpack, badVertex, refusalsOfWord, callRefusals, listCovers, setsOf}
+use Rattle.model.proofs.Lists.{twice, and-l, and-r, and-i, some-e, all-append, all-of}
+use Rattle.model.proofs.Cubes.{prime-e, primes-e}
+use Rattle.model.proofs.Runs.{context, Passed, run-ind}
+use Rattle.model.proofs.Sound.{Small, Sound, after-sound}
+use Rattle.model.proofs.Library.{listed-told}
+
+pub record Valid (q : Problem) : Type 0 where
+  pub sound : Sound q
+  pub sizes : 1 ≤ q .place → T (size (q .table .n)) × T (size (q .table .m))
+  pub rows : 1 ≤ q .place → (length (q .table .on) ≡ 2 ^ q .table .n) × (length (q .table .dc) ≡ 2 ^ q .table .n)
+  pub good : (v : ℕ) → T (not (badVertex (q .table) v))
+  pub early : q .place ≤ 1 → q .cands ≡ []
+  pub legal : All (λ t. T (legal (q .table) t)) (q .cands)
+
+-- ---- rows
+
+-- a row of example bytes shares no bit and has none at m or above
+abbrev badRow : ℕ → ℕ → ℕ → Bool
+badRow m x y = ltb 0 (bitAnd x y) || (leb (2 ^ m) x || leb (2 ^ m) y)
+
+zeros-good : (m : ℕ) → T (not (badRow m 0 0))
+zeros-good m = rw (and-zero-r 0) (go (leb (2 ^ m) 0) refl)
+  where
+    go : (b : Bool) → leb (2 ^ m) 0 ≡ b → T (not (b || b))
+    go true e = absurd (omega (arith, pow-pos m, leb→le (2 ^ m) 0 (rw e tt)))
+    go false e = tt
+
+zero-row : (n v : ℕ) → _≡_ {A = ℕ} (getD (replicate n 0) v 0) 0
+zero-row n v = go (decLt v n)
+  where
+    go : Dec (v < n) → _≡_ {A = ℕ} (getD (replicate n 0) v 0) 0
+    go (yes h) = getD-replicate n v 0 0 h
+    go (no h) = List·getD-eq-default (replicate n 0) 0 (omega (arith, length-replicate {A = ℕ} n 0))
+
+set-good : (p : Table) (u x y : ℕ) → u < length (p .on) → u < length (p .dc) → T (not (badRow (p .m) x y)) → ((v : ℕ) → T (not (badVertex p v))) → (v : ℕ) → T (not (badVertex (withRow p u x y) v))
+set-good p u x y h k g f v = go (ℕ-discrete v u)
+  where
+    go : Dec (v ≡ u) → T (not (badVertex (withRow p u x y) v))
+    go (yes e) = rw (e, getD-set-same (p .on) u x 0 h, getD-set-same (p .dc) u y 0 k) g
+    go (no d) = rw (getD-set-other (p .on) u v x 0 d, getD-set-other (p .dc) u v y 0 d) (f v)
+
+-- ---- one command
+
+place-one : (k : Kind) (n : ℕ) → T (not (is k Kind.I)) → T (allowed k n) → 1 ≤ n
+place-one k n i a = leb→le 1 n (subst (λ (b : Bool). T (leb (cond b 0 1) n)) (no (is k Kind.I) i) (and-l (leb (cond (is k Kind.I) 0 1) n) _ a))
+  where
+    no : (b : Bool) → T (not b) → b ≡ false
+    no true t = absurd t
+    no false t = refl
+
+place-low : (n : ℕ) → T (allowed Kind.R n) → n ≤ 1
+place-low n a = leb→le n 1 (and-r (leb 1 n) (leb n 1) a)
+
+not-or-l : (x y : Bool) → T (not (x || y)) → T (not x)
+not-or-l true y n = n
+not-or-l false y n = tt
+
+after-valid : (t : Context) (k : Kind) → T (allowed k (t .problem .place)) → All (λ r. T (not (r .applies))) (refusalsOf t k) → Valid (t .problem) → Valid (problemAfter t k)
+unfolding refusalsOf problemAfter legal
+after-valid t Kind.I p a s =
+    let h = twice (size (operand t 0) && size (operand t 1)) (a .0) in
+    record {
+      sound = after-sound t Kind.I a (s .sound);
+      sizes = λ l. (and-l (size (operand t 0)) (size (operand t 1)) h, and-r (size (operand t 0)) (size (operand t 1)) h);
+      rows = λ l. (length-replicate (2 ^ operand t 0) 0, length-replicate (2 ^ operand t 0) 0);
+      good = λ v. rw (zero-row (2 ^ operand t 0) v) (zeros-good (operand t 1));
+      early = λ l. refl;
+      legal = tt;
+    }
+after-valid t Kind.R p a s =
+    let o = place-one Kind.R (t .problem .place) tt p in
+    let l = nleb→lt (2 ^ t .problem .table .n) (operand t 0) (not-or-l (leb (2 ^ t .problem .table .n) (operand t 0)) (some (eqb (operand t 0)) (t .problem .rowsAt)) (a .0)) in
+    let none = s .early (place-low (t .problem .place) p) in
+    record {
+      sound = after-sound t Kind.R a (s .sound);
+      sizes = λ q. s .sizes o;
+      rows = λ q. (length-set (t .problem .table .on) (operand t 0) (operand t 1) ∙ s .rows o .0, length-set (t .problem .table .dc) (operand t 0) (operand t 2) ∙ s .rows o .1);
+      good = set-good (t .problem .table) (operand t 0) (operand t 1) (operand t 2) (omega (arith, s .rows o .0)) (omega (arith, s .rows o .1)) (a .1 .0) (s .good);
+      early = λ q. none;
+      legal = subst⁻¹ (λ (ts : List Term). All (λ u. T (formed (withRow (t .problem .table) (operand t 0) (operand t 1) (operand t 2)) u && holdsNoOff (withRow (t .problem .table) (operand t 0) (operand t 1) (operand t 2)) u)) ts) none tt;
+    }
+after-valid t Kind.T p a s =
+    let o = place-one Kind.T (t .problem .place) tt p in
+    record {
+      sound = after-sound t Kind.T a (s .sound);
+      sizes = λ q. s .sizes o;
+      rows = λ q. s .rows o;
+      good = s .good;
+      early = λ q. absurd (omega (arith, q));
+      legal = all-append (λ (u : Term). T (formed (t .problem .table) u && holdsNoOff (t .problem .table) u)) (t .problem .cands) (operandTerm t ∷ []) (s .legal)
+          (and-i (formed (t .problem .table) (operandTerm t)) (holdsNoOff (t .problem .table) (operandTerm t)) (twice (formed (t .problem .table) (operandTerm t)) (a .0)) (twice (holdsNoOff (t .problem .table) (operandTerm t)) (a .1 .0)), tt);
+    }
+after-valid t Kind.P p a s =
+    let o = place-one Kind.P (t .problem .place) tt p in
+    record {
+      sound = after-sound t Kind.P a (s .sound);
+      sizes = λ q. s .sizes o;
+      rows = λ q. s .rows o;
+      good = s .good;
+      early = λ q. absurd (omega (arith, q));
+      legal = all-of (λ (u : Term). T (formed (t .problem .table) u && holdsNoOff (t .problem .table) u)) (primes (t .problem .table)) (λ u m. prime-e (t .problem .table) u (primes-e (t .problem .table) u m) .0);
+    }
+after-valid t Kind.L p a s = let o = place-one Kind.L (t .problem .place) tt p in record { sound = after-sound t Kind.L a (s .sound); sizes = λ q. s .sizes o; rows = λ q. s .rows o; good = s .good; early = λ q. absurd (omega (arith, q)); legal = s .legal }
+after-valid t Kind.C p a s = let o = place-one Kind.C (t .problem .place) tt p in record { sound = after-sound t Kind.C a (s .sound); sizes = λ q. s .sizes o; rows = λ q. s .rows o; good = s .good; early = λ q. absurd (omega (arith, q)); legal = s .legal }
+after-valid t Kind.E p a s = s
+after-valid t Kind.none p a s = s
+
+-- ---- whole jobs
+
+valid-empty : Valid empty
+valid-empty = record {
+  sound = record { inputs = omega arith; outputs = omega arith; few = omega arith; small = tt };
+  sizes = λ l. absurd (omega (arith, l));
+  rows = λ l. absurd (omega (arith, l));
+  good = λ v. zeros-good 0;
+  early = λ l. refl;
+  legal = tt;
+}
+
+abbrev Keeps : Problem → List ℕ → ℕ → ℕ → Run → Type 0
+Keeps q bs free at r = Valid q → All (λ t. Valid (t .problem)) (r .contexts)
+
+-- every command of a job finds a valid problem
+pub valid : (job : List ℕ) (room : ℕ) → All (λ t. Valid (t .problem)) (run job room .contexts)
+valid job room = run-ind Keeps (λ q free at v. tt) (λ q b bs free at n v. (v, tt)) (λ q b bs free at h z e v. (v, tt))
+    (λ q b bs free at h z e r f v. (v, f (after-valid (context q b bs free) (kindOf b) (h .place) (h .own) v)))
+    (λ r. All (λ t. Valid (t .problem)) (r .contexts)) job room (λ l. tt) (λ l m r f. f valid-empty)
+
+-- ---- the library call on what a job has
+
+-- a term as a 32-bit number
+abbrev pub pack : Term → ℕ
+pack t = t .care + 256 * t .value + 65536 * t .outputs
+
+low-byte : (x y : ℕ) → x < 256 → (x + 256 * y) % 256 ≡ x
+low-byte x y h = omega arith
+
+unpack-pack : (t : Term) → Small t → unpack (pack t) ≡ t
+unpack-pack t s =
+    let a : pack t % 256 ≡ t .care = omega (arith, s .0) in
+    let h : pack t / 256 ≡ t .value + 256 * t .outputs = omega (arith, s .0) in
+    let b : pack t / 256 % 256 ≡ t .value = ap (λ (x : ℕ). x % 256) h ∙ low-byte (t .value) (t .outputs) (s .1) in
+    let k : pack t / 65536 ≡ t .outputs + 256 * 0 = omega (arith, s .0, s .1) in
+    let c : pack t / 65536 % 256 ≡ t .outputs = ap (λ (x : ℕ). x % 256) k ∙ low-byte (t .outputs) 0 (s .2) in
+    rw (a, b, c)
+
+unpack-all : (ts : List Term) → All Small ts → map unpack (map pack ts) ≡ ts
+unpack-all [] a = refl
+unpack-all (t ∷ ts) a = ap₂ (λ (u : Term) (us : List Term). u ∷ us) (unpack-pack t (a .0)) (unpack-all ts (a .1))
+
+none-first : (rs : List Refusal) → All (λ r. T (not (r .applies))) rs → firstOf rs ≡ 0
+none-first [] a = refl
+none-first (r ∷ rs) a = go (r .applies) (a .0) (none-first rs (a .1))
+  where
+    go : (b : Bool) → T (not b) → firstOf rs ≡ 0 → cond b (r .no) (firstOf rs) ≡ 0
+    go true t e = absurd t
+    go false t e = e
+
+not-not : (b : Bool) → T b → T (not (not b))
+not-not true t = tt
+not-not false t = t
+
+words-pass : (p : Table) (ts : List Term) → All Small ts → All (λ t. T (legal p t)) ts → All (λ r. T (not (r .applies))) (join (map (refusalsOfWord p) (map pack ts)))
+unfolding legal
+words-pass p [] s l = tt
+words-pass p (t ∷ ts) s l =
+    let top : pack t / 2 ^ 24 ≡ 0 = omega (arith, s .0 .0, s .0 .1, s .0 .2) in
+    let f = and-l (formed p t) (holdsNoOff p t) (l .0) in
+    let h = and-r (formed p t) (holdsNoOff p t) (l .0) in
+    (rw (top, unpack-pack t (s .0)) (not-not (formed p t) f), (rw (unpack-pack t (s .0)) (not-not (holdsNoOff p t) h), words-pass p ts (s .1) (l .1)))
+
+-- no refusal of the library call applies where none applies to an L
+library-passes : (q : Problem) → Valid q → 1 ≤ q .place → T (coverable (covering (basis (q .table) (q .cands)))) → firstOf (callRefusals (q .table) (map pack (q .cands))) ≡ 0
+unfolding callRefusals
+library-passes q v o c = none-first (callRefusals p words) (not-not (size (p .n) && size (p .m) && (eqb (length (p .on)) (2 ^ p .n) && eqb (length (p .dc)) (2 ^ p .n))) shape, (clean, (few, rest)))
+  where
+    p : Table
+    p = q .table
+
+    words : List ℕ
+    words = map pack (q .cands)
+
+    full : (xs : List ℕ) → length xs ≡ 2 ^ p .n → T (eqb (length xs) (2 ^ p .n))
+    full xs e = rw e (eqb-refl (2 ^ p .n))
+
+    shape : T (size (p .n) && size (p .m) && (eqb (length (p .on)) (2 ^ p .n) && eqb (length (p .dc)) (2 ^ p .n)))
+    shape =
+        and-i (size (p .n) && size (p .m)) (eqb (length (p .on)) (2 ^ p .n) && eqb (length (p .dc)) (2 ^ p .n)) (and-i (size (p .n)) (size (p .m)) (v .sizes o .0) (v .sizes o .1))
+        (and-i (eqb (length (p .on)) (2 ^ p .n)) (eqb (length (p .dc)) (2 ^ p .n)) (full (p .on) (v .rows o .0)) (full (p .dc) (v .rows o .1)))
+
+    clean : T (not (some (badVertex p) (below (2 ^ p .n))))
+    clean = not-T (some (badVertex p) (below (2 ^ p .n))) (λ t. let e = some-e (badVertex p) (below (2 ^ p .n)) t in T-not (badVertex p (e .0)) (v .good (e .0)) (e .2))
+
+    few : T (not (ltb 64 (length words)))
+    few = le→nltb 64 (length words) (omega (arith, length-map (q .cands) pack, v .sound .few))
+
+    rest : All (λ r. T (not (r .applies))) (join (map (refusalsOfWord p) words) ++ (refuse 12 (not (coverable (covering (basis p (map unpack words))))) ∷ []))
+    rest = all-append (λ (r : Refusal). T (not (r .applies))) (join (map (refusalsOfWord p) words)) (refuse 12 (not (coverable (covering (basis p (map unpack words))))) ∷ [])
+        (words-pass p (q .cands) (v .sound .small) (v .legal))
+        (subst⁻¹ (λ (ts : List Term). T (not (not (coverable (covering (basis p ts)))))) (unpack-all (q .cands) (v .sound .small)) (not-not (coverable (covering (basis p (q .cands)))) c), tt)
+
+-- an L answers what the library call fills into a row of `count` entries
+pub page-library : (t : Context) → t .kind ≡ Kind.L → Valid (t .problem) → Passed t → (old : List ℕ) → length old ≡ count t
+    → let l = listCovers (t .problem .table) (map pack (t .problem .cands)) (start t) old in (l .number ≡ 0) × (answer t ≡ Answer.paged (setsOf l) (l .above))
+unfolding answer answerFor refusalsOf
+page-library t e v h old n =
+    let a : T (allowed Kind.L (t .problem .place)) = subst (λ (k : Kind). T (allowed k (t .problem .place))) e (h .place) in
+    let w : All (λ r. T (not (r .applies))) (refusalsOf t Kind.L) = subst (λ (k : Kind). All (λ r. T (not (r .applies))) (refusalsOf t k)) e (h .own) in
+    let z = library-passes (t .problem) v (place-one Kind.L (t .problem .place) tt a) (twice (coverable (coveringOf t)) (w .0)) in
+    let d = listed-told (t .problem .table) (map pack (t .problem .cands)) (start t) old z in
+    (d .number, rw (e, d .sets, d .above, unpack-all (t .problem .cands) (v .sound .small), n))

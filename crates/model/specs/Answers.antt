@@ -1,0 +1,46 @@
+-- Paper 01, "Job stream": the answers, as data and as bytes.
+use Prim.Native.Nat.{ℕ}
+use mathlib.Core.Bool.{Bool, cond}
+use mathlib.Core.List.{List, [], _∷_, _++_, map}
+use lib.ListN.{length}
+use Rattle.model.specs.Base.{join}
+use Rattle.model.specs.Table.{Term}
+use Rattle.model.specs.Primes.{primes}
+use Rattle.model.specs.Sets.{irredundants, cheapest, cost}
+use Rattle.model.specs.Pages.{page, more}
+use Rattle.model.specs.Commands.{Kind, Context, low, start, count, coveringOf}
+
+-- I, R and T answer nothing
+pub data Answer : Type 0 where
+  nothing : Answer
+  primesAre : List Term → Answer
+  paged : List ℕ → Bool → Answer
+  cheapestIs : ℕ → ℕ → Answer
+  ended : Answer
+
+-- P: "0x70, count byte, then care, value and outputs of each prime"; L: "0x6C, sets k, more (0 or 1), k times 8 bytes";
+-- C: "0x63, cost (2 bytes), set (8) of the cheapest"; E: "0x65"
+abbrev pub bytesOf : Answer → List ℕ
+bytesOf nothing = []
+bytesOf (primesAre ts) = 0x70 ∷ length ts ∷ join (map (λ t. t .care ∷ t .value ∷ t .outputs ∷ []) ts)
+bytesOf (paged ss m) = 0x6c ∷ length ss ∷ cond m 1 0 ∷ join (map (low 8) ss)
+bytesOf (cheapestIs c s) = 0x63 ∷ (low 2 c ++ low 8 s)
+bytesOf ended = 0x65 ∷ []
+
+-- the answer of a command that is not refused. L: "they are the lister's for a row of count entries"
+unfoldable pub answerFor : Context → Kind → Answer
+answerFor x Kind.I = nothing
+answerFor x Kind.R = nothing
+answerFor x Kind.T = nothing
+answerFor x Kind.P = primesAre (primes (x .problem .table))
+answerFor x Kind.L =
+    let all = irredundants (coveringOf x) in
+    paged (page all (start x) (count x)) (more all (start x) (count x))
+answerFor x Kind.C =
+    let s = cheapest (coveringOf x) in
+    cheapestIs (cost (coveringOf x) s) s
+answerFor x Kind.E = ended
+answerFor x Kind.none = nothing
+
+unfoldable pub answer : Context → Answer
+answer x = answerFor x (x .kind)

@@ -1,0 +1,69 @@
+-- Paper 01, "When a job stops": the refusals of a command, as data. 1 and 2 are the job's own (`Job`).
+use Prim.Native.Nat.{ℕ, _^_}
+use mathlib.Core.Bool.{Bool, not, cond, _&&_, _||_}
+use mathlib.Core.List.{List, [], _∷_, _++_}
+use lib.Dec.{leb, ltb, eqb}
+use lib.Bits.{bitAnd}
+use lib.ListN.{length}
+use Rattle.model.specs.Base.{some}
+use Rattle.model.specs.Table.{Table, formed, holdsNoOff}
+use Rattle.model.specs.Primes.{primes}
+use Rattle.model.specs.Sets.{coverable}
+use Rattle.model.specs.Commands.{Kind, is, allowed, width, Context, operand, operandTerm, coveringOf}
+use Rattle.model.specs.Answers.{bytesOf, answer}
+
+-- a refusal's number, and whether it applies
+pub record Refusal : Type 0 where
+  pub no : ℕ
+  pub applies : Bool
+
+abbrev pub refuse : ℕ → Bool → Refusal
+refuse n b = record { no = n; applies = b }
+
+-- "tried in this order": the first that applies, 0 where none does
+abbrev pub firstOf : List Refusal → ℕ
+firstOf [] = 0
+firstOf (r ∷ rs) = let q = firstOf rs in cond (r .applies) (r .no) q
+
+-- "1 to 8"
+abbrev pub size : ℕ → Bool
+size k = leb 1 k && leb k 8
+
+-- "on and dc share a bit, or one has bit m or above", for m outputs
+abbrev pub badRow : ℕ → ℕ → ℕ → Bool
+badRow m on dc = ltb 0 (bitAnd on dc) || (leb (2 ^ m) on || leb (2 ^ m) dc)
+
+-- 6 to 13, by command:
+-- 6 "I has n or m outside 1 to 8"
+-- 7 "R names a vertex of 2^n or more, or one that has a row"; 8 `badRow`
+-- 9 and 10 "a term has a care bit n or above, ..", "holds an off cell"; 11 "a 65th candidate comes, or there are more than 64 primes"
+-- 12 "at L or C a wanted cell is held by no candidate"; 13 "bytes follow E"
+unfoldable pub refusalsOf : Context → Kind → List Refusal
+refusalsOf x Kind.I = refuse 6 (not (size (operand x 0) && size (operand x 1))) ∷ []
+refusalsOf x Kind.R =
+    refuse 7 (leb (2 ^ x .problem .table .n) (operand x 0) || some (eqb (operand x 0)) (x .problem .rowsAt))
+    ∷ refuse 8 (badRow (x .problem .table .m) (operand x 1) (operand x 2))
+    ∷ []
+refusalsOf x Kind.T =
+    refuse 9 (not (formed (x .problem .table) (operandTerm x)))
+    ∷ refuse 10 (not (holdsNoOff (x .problem .table) (operandTerm x)))
+    ∷ refuse 11 (leb 64 (length (x .problem .cands)))
+    ∷ []
+refusalsOf x Kind.P = refuse 11 (ltb 64 (length (primes (x .problem .table)))) ∷ []
+refusalsOf x Kind.L = refuse 12 (not (coverable (coveringOf x))) ∷ []
+refusalsOf x Kind.C = refuse 12 (not (coverable (coveringOf x))) ∷ []
+refusalsOf x Kind.E = refuse 13 (ltb 0 (length (x .rest))) ∷ []
+refusalsOf x Kind.none = []
+
+-- 3 "the byte is no command"; 4 "the command is not allowed at this place"; 5 "operand bytes are missing"; the command's own;
+-- 14 "the answer is longer than the free part"
+unfoldable pub refusals : Context → List Refusal
+refusals x =
+    (refuse 3 (is (x .kind) Kind.none)
+    ∷ refuse 4 (not (allowed (x .kind) (x .problem .place)))
+    ∷ refuse 5 (ltb (length (x .rest)) (width (x .kind)))
+    ∷ [])
+    ++ (refusalsOf x (x .kind) ++ (refuse 14 (ltb (x .free) (length (bytesOf (answer x)))) ∷ []))
+
+unfoldable pub refusal : Context → ℕ
+refusal x = firstOf (refusals x)

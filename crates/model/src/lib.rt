@@ -1,0 +1,22 @@
+// The papers' words as definitions (specs/), and the theorems over them (proofs/).
+//
+// What a reader must believe is in specs/, in the order of paper 01; docs/REVIEW.md leads from each sentence of the paper to
+// its definition and its theorem. The only code here is the term, which other crates pass around.
+ghost use mathlib.Core.Path.{_≡_};
+ghost use Rattle.model.specs.Table.{inCube};
+
+// A product term: the inputs that it reads, their values, and the outputs that it drives.
+pub struct Term {
+    pub care: u8,
+    pub value: u8,
+    pub outputs: u8,
+}
+
+impl Term {
+    // Whether vertex v lies in the term's cube.
+    pub fn in_cube(self, v: u8) -> bool
+        ensures { λ r. ⌜ r ≡ inCube (self .care) (self .value) v ⌝ }
+    {
+        (v & self.care) == (self.value & self.care)
+    }
+}
