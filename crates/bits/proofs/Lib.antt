@@ -1,0 +1,5 @@
+pub mod Shifts
+pub mod Digits
+pub mod Decide
+pub mod Members
+pub mod Parts

@@ -1,0 +1,151 @@
+-- Parts of a set, a set without another, disjoint sets, and one member of a set, all by their bits.
+use mathlib.Core.Path.{_≡_, refl, sym, ap, _∙_, subst}
+use mathlib.Core.Logic.{_↔_, _⊎_, inl, inr, ⊎-elim}
+use Prim.Native.Nat.{ℕ, zero, suc, _-_, _/_, _%_, _^_, _≤_, _<_, min}
+use native.Mathlib.Omega.{arith}
+use lib.Arith.{bin-ind}
+use lib.Bits.{bitAnd, bitOr, bitXor, differ, and-le-r}
+use Rattle.model.specs.Sets.{Within}
+use Rattle.bits.specs.Bits.{digit, Single, Part, Minus, Member}
+use Rattle.bits.proofs.Digits.{eq?, digit-first, digit-next, digit-lt, digit-and, digit-or, digit-xor, digit-ext, member-ext, a-member, pow-here, pow-only, digit-bit}
+use Rattle.bits.proofs.Members.{part-of, to-part, and-left, and-right, and-both, not-zero}
+
+-- ---- parts
+
+pub part-le : (t s : ℕ) → Part t s → t ≤ s
+unfolding Part
+part-le t s p = subst (λ (x : ℕ). x ≤ s) p (and-le-r t s)
+
+pub members : (t s : ℕ) → Part t s → (b : ℕ) → digit b t ≡ 1 → digit b s ≡ 1
+unfolding Part
+members t s p = part-of t s p
+
+pub by-members : (t s : ℕ) → ((b : ℕ) → digit b t ≡ 1 → digit b s ≡ 1) → Part t s
+unfolding Part
+by-members t s f = to-part t s f
+
+pub part-self : (s : ℕ) → Part s s
+part-self s = by-members s s (λ b m. m)
+
+pub part-trans : (a b c : ℕ) → Part a b → Part b c → Part a c
+part-trans a b c p q = by-members a c (λ j m. members b c q j (members a b p j m))
+
+-- ---- a set without another
+
+zero-or-one : (x : ℕ) → x < 2 → (x ≡ 0) ⊎ (x ≡ 1)
+zero-or-one x lt = ⊎-elim (λ e. inl e) (λ n. inr (omega arith)) (eq? x 0)
+
+differ-min : (x y : ℕ) → x < 2 → y < 2 → differ x (min x y) ≡ x - y
+differ-min x y hx hy =
+    ⊎-elim
+    (λ (e : x ≡ 0). ⊎-elim (λ (f : y ≡ 0). rw (e, f)) (λ (f : y ≡ 1). rw (e, f)) (zero-or-one y hy))
+    (λ (e : x ≡ 1). ⊎-elim (λ (f : y ≡ 0). rw (e, f)) (λ (f : y ≡ 1). rw (e, f)) (zero-or-one y hy))
+    (zero-or-one x hx)
+
+pub minus-bits : (a b : ℕ) → Minus a b (bitXor a (bitAnd a b))
+unfolding Minus
+minus-bits a b c =
+    digit-xor c a (bitAnd a b) ∙ ap (differ (digit c a)) (digit-and c a b) ∙ differ-min (digit c a) (digit c b) (digit-lt c a) (digit-lt c b)
+
+pub minus-part : (a b r : ℕ) → Minus a b r → Part r a
+unfolding Minus
+minus-part a b r m = by-members r a (λ c h. omega (arith, m c, digit-lt c a))
+
+-- ---- the lowest member
+
+-- the bits above the lowest, where the lowest is the first
+odd-others : (n c : ℕ) → (n - 1) / 2 ≡ n / 2 → (c ≡ 0 → ⊥) → digit c n ≤ digit c (n - 1)
+odd-others n zero e d = absurd (d refl)
+odd-others n (suc c) e d = omega (arith, digit-next c n, digit-next c (n - 1), ap (digit c) e)
+
+-- the other bits, where the first is not set
+even-others : (n b c : ℕ) → n % 2 ≡ 0 → (n - 1) / 2 ≡ n / 2 - 1 → ((j : ℕ) → (j ≡ b → ⊥) → digit j (n / 2) ≤ digit j (n / 2 - 1))
+    → (c ≡ suc b → ⊥) → digit c n ≤ digit c (n - 1)
+even-others n b zero z e f d = omega (arith, digit-first n)
+even-others n b (suc c) z e f d =
+    omega (arith, digit-next c n, digit-next c (n - 1), ap (digit c) e, f c (λ q. d (ap suc q)))
+
+-- the lowest digit of x is the only one that x has and x - 1 has not
+lowest-bit : (x : ℕ) → (x ≡ 0 → ⊥) → (b : ℕ) × (digit b x ≡ 1) × (digit b (x - 1) ≡ 0) × ((c : ℕ) → (c ≡ b → ⊥) → digit c x ≤ digit c (x - 1))
+lowest-bit =
+    bin-ind (λ (x : ℕ). (x ≡ 0 → ⊥) → (b : ℕ) × (digit b x ≡ 1) × (digit b (x - 1) ≡ 0) × ((c : ℕ) → (c ≡ b → ⊥) → digit c x ≤ digit c (x - 1)))
+    (λ h. absurd (h refl))
+    (λ n ih h. ⊎-elim
+    (λ o. (0, digit-first n ∙ o, digit-first (n - 1) ∙ omega arith, λ c d. odd-others n c (omega arith) d))
+    (λ o.
+    let z : n % 2 ≡ 0 = omega arith in
+    let e : (n - 1) / 2 ≡ n / 2 - 1 = omega arith in
+    let r : (b : ℕ) × (digit b (n / 2) ≡ 1) × (digit b (n / 2 - 1) ≡ 0) × ((c : ℕ) → (c ≡ b → ⊥) → digit c (n / 2) ≤ digit c (n / 2 - 1))
+    = ih (λ y. h (omega arith)) in
+    (suc (r .0), digit-next (r .0) n ∙ r .1, digit-next (r .0) (n - 1) ∙ ap (digit (r .0)) e ∙ r .2, λ c d. even-others n (r .0) c z e (r .3) d))
+    (eq? (n % 2) 1))
+
+pub lowest-member : (x m : ℕ) → 0 < x → Minus x (x - 1) m → Member x m
+unfolding Minus Single
+lowest-member x m p d =
+    let l : (b : ℕ) × (digit b x ≡ 1) × (digit b (x - 1) ≡ 0) × ((c : ℕ) → (c ≡ b → ⊥) → digit c x ≤ digit c (x - 1))
+    = lowest-bit x (λ e. omega arith) in
+    let b : ℕ = l .0 in
+    let here : digit b m ≡ 1 = omega (arith, d b, l .1, l .2) in
+    record {
+      single = (
+        b,
+        member-ext m (2 ^ b)
+            (λ c h. ⊎-elim (λ e. subst (λ (j : ℕ). digit j (2 ^ b) ≡ 1) (sym e) (pow-here b)) (λ n. absurd (omega (arith, d c, l .3 c n))) (eq? c b))
+            (λ c h. subst (λ (j : ℕ). digit j m ≡ 1) (sym (pow-only c b h)) here),
+      );
+      part = minus-part x (x - 1) m d;
+    }
+
+-- ---- one member
+
+-- which member it is
+pub the-member : (x m : ℕ) → Member x m → (b : ℕ) × (m ≡ 2 ^ b) × (digit b x ≡ 1)
+unfolding Single
+the-member x m h =
+    let b : ℕ = h .single .0 in
+    (b, h .single .1, members m x (h .part) b (ap (digit b) (h .single .1) ∙ pow-here b))
+
+pub member-of-more : (x y m : ℕ) → Part x y → Member x m → Member y m
+member-of-more x y m p h = record { single = h .single; part = part-trans m x y (h .part) p }
+
+-- without a member there is less
+pub minus-member-less : (x m r : ℕ) → Member x m → Minus x m r → r < x
+unfolding Minus
+minus-member-less x m r h d =
+    let w : (b : ℕ) × (m ≡ 2 ^ b) × (digit b x ≡ 1) = the-member x m h in
+    let b : ℕ = w .0 in
+    let g : digit b m ≡ 1 = ap (digit b) (w .1) ∙ pow-here b in
+    let le : r ≤ x = part-le r x (minus-part x m r d) in
+    ⊎-elim (λ e. absurd (omega (arith, d b, w .2, ap (digit b) e))) (λ n. omega arith) (eq? r x)
+
+-- ---- parts of an `and`, and disjoint sets
+
+pub part-and-left : (a b : ℕ) → Part (bitAnd a b) b
+part-and-left a b = by-members (bitAnd a b) b (λ c h. and-right c a b h)
+
+pub part-and-less : (a b x : ℕ) → Part a x → Part (bitAnd a b) x
+part-and-less a b x p = by-members (bitAnd a b) x (λ c h. members a x p c (and-left c a b h))
+
+pub apart-by : (a b : ℕ) → ((c : ℕ) → digit c a ≡ 1 → digit c b ≡ 1 → ⊥) → bitAnd a b ≡ 0
+apart-by a b f =
+    ⊎-elim (λ (e : bitAnd a b ≡ 0). e)
+    (λ (n : bitAnd a b ≡ 0 → ⊥).
+    let m : (c : ℕ) × (digit c (bitAnd a b) ≡ 1) = a-member (bitAnd a b) n in
+    absurd (f (m .0) (and-left (m .0) a b (m .1)) (and-right (m .0) a b (m .1))))
+    (eq? (bitAnd a b) 0)
+
+pub no-common : (a b c : ℕ) → bitAnd a b ≡ 0 → digit c a ≡ 1 → digit c b ≡ 1 → ⊥
+no-common a b c z p q = not-zero c (bitAnd a b) (and-both c a b p q) z
+
+pub and-or : (t a b : ℕ) → bitAnd t (bitOr a b) ≡ bitOr (bitAnd t a) (bitAnd t b)
+and-or t a b =
+    digit-ext (bitAnd t (bitOr a b)) (bitOr (bitAnd t a) (bitAnd t b)) λ c.
+    omega (arith, digit-and c t (bitOr a b), digit-or c a b, digit-or c (bitAnd t a) (bitAnd t b), digit-and c t a, digit-and c t b)
+
+-- crate model's subsets
+pub part-within : (t s : ℕ) → Part t s ↔ Within t s
+part-within t s = (
+  λ p i b. digit-bit i s .1 (members t s p i (digit-bit i t .0 b)),
+  λ w. by-members t s (λ i d. digit-bit i s .0 (w i (digit-bit i t .1 d))),
+)

@@ -1,0 +1,31 @@
+-- What the contracts on bits cite: a number's bits as numbers, and sets as numbers whose bits are the members.
+use mathlib.Core.Path.{_≡_}
+use mathlib.Core.Bool.{Bool, true, false}
+use Prim.Native.Nat.{ℕ, _-_, _/_, _%_, _^_}
+use lib.Bits.{bitAnd}
+
+-- r says whether P holds
+unfoldable pub Decides : Type 0 → Bool → Type 0
+Decides P true = P
+Decides P false = P → ⊥
+
+-- bit b of x as a number, 0 or 1 (law `digit-bit`: 1 where crate model's `bit` is true)
+unfoldable pub digit : ℕ → ℕ → ℕ
+digit b x = x / 2 ^ b % 2
+
+-- x has exactly one member
+unfoldable pub Single : ℕ → Type 0
+Single x = (b : ℕ) × (x ≡ 2 ^ b)
+
+-- every member of t is one of s (law `part-within`: crate model's `Within`)
+unfoldable pub Part : ℕ → ℕ → Type 0
+Part t s = bitAnd t s ≡ t
+
+-- r has the members of a that b has not
+unfoldable pub Minus : ℕ → ℕ → ℕ → Type 0
+Minus a b r = (c : ℕ) → digit c r ≡ digit c a - digit c b
+
+-- m is one member of x
+pub record Member (x m : ℕ) : Type 0 where
+  pub single : Single m
+  pub part : Part m x

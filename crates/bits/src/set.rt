@@ -1,0 +1,57 @@
+// Members of a 64-bit set.
+ghost use mathlib.Core.Path.{_≡_};
+ghost use Prim.Native.Nat.{_-_, _^_, _≤_, _<_};
+ghost use Rattle.model.specs.Base.{bit};
+ghost use Rattle.bits.specs.Bits.{Decides, Single, Minus, Member};
+
+// The set of the one member i: 2^i.
+pub fn power(i: u64) -> u64
+    requires { ⌜ i < 64 ⌝ }
+    ensures { λ r. ⌜ r ≡ 2 ^ i ⌝ }
+{
+    1u64 << i
+}
+
+// The members below i: 2^i - 1.
+pub fn low_mask(i: u64) -> u64
+    requires { ⌜ i ≤ 64 ⌝ }
+    ensures { λ r. ⌜ r ≡ 2 ^ i - 1 ⌝ }
+{
+    if i == 64 {
+        return 0xffff_ffff_ffff_ffff;
+    }
+    power(i) - 1
+}
+
+// Whether i is a member of s.
+pub fn has(s: u64, i: u64) -> bool
+    requires { ⌜ i < 64 ⌝ }
+    ensures { λ r. ⌜ r ≡ bit i s ⌝ }
+{
+    (s >> i) & 1 == 1
+}
+
+// Whether x has exactly one member.
+pub fn is_single(x: u64) -> bool
+    ensures { λ r. ⌜ Decides (Single x) r ⌝ }
+{
+    if x == 0 {
+        return false;
+    }
+    x & (x - 1) == 0
+}
+
+// The members of a that are not in b.
+pub fn minus(a: u64, b: u64) -> u64
+    ensures { λ r. ⌜ Minus a b r ⌝ }
+{
+    a ^ (a & b)
+}
+
+// The lowest member of x.
+pub fn lowest(x: u64) -> u64
+    requires { ⌜ 0 < x ⌝ }
+    ensures { λ r. ⌜ Member x r ⌝ }
+{
+    minus(x, x - 1)
+}
