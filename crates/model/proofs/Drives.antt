@@ -15,7 +15,7 @@ use Rattle.model.specs.Base.{bit, below, every, fromBits, join}
 use Rattle.model.specs.Table.{Table, Term, Cell, isOn, isDc, isOff, holds, inCube, cells, cell, term, formed, holdsNoOff, legal}
 use Rattle.model.specs.Primes.{drives, contains, prime}
 use Rattle.model.specs.Sets.{Within}
-use Rattle.model.proofs.Lists.{yes-or-no, or-cases, and-l, and-r, and-i, every-e, every-i, below-e, below-i, T-true, T-false}
+use Rattle.model.proofs.Lists.{bool-ext, yes-or-no, or-cases, and-l, and-r, and-i, every-e, every-i, below-e, below-i, T-true, T-false}
 use Rattle.model.proofs.Bits.{bit0-i, bit-le, bit-lt, within-le, lacks, without-within, within-without}
 use Rattle.model.proofs.Cubes.{bit-and, bits-ext, Agree, agree-e, agree-i, setBit, set-here, set-other, cell-i, Formed, legal-formed, holds-e, holds-i, contains-i, Wider, wider, same-e, wider-same, prime-e, prime-i}
 
@@ -111,12 +111,6 @@ no-off-i p t w = cells-every p (λ c. not (holds t c && isOff p c)) (λ v j k m.
     drives-e p (t .care) (t .value) j (w j (q .1)) .1 v k (q .0) o))
 
 -- ---- the example halves of a cube with a free input
-
-bool-ext : (a b : Bool) → (T a → T b) → (T b → T a) → a ≡ b
-bool-ext true true f g = refl
-bool-ext true false f g = absurd (f tt)
-bool-ext false true f g = absurd (g tt)
-bool-ext false false f g = refl
 
 set-more : (i k c : ℕ) → T (bit k c) → T (bit k (setBit i c))
 set-more i k c t = go (ℕ-discrete k i)

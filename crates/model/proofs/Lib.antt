@@ -5,6 +5,7 @@ pub mod Sets
 pub mod Pages
 pub mod Cheapest
 pub mod Rows
+pub mod Matrix
 pub mod Cubes
 pub mod Drives
 pub mod Order

@@ -64,6 +64,12 @@ T-false {b} t = go b t
     go true t = absurd t
     go false t = refl
 
+pub bool-ext : (a b : Bool) → (T a → T b) → (T b → T a) → a ≡ b
+bool-ext true true f g = refl
+bool-ext true false f g = absurd (f tt)
+bool-ext false true f g = absurd (g tt)
+bool-ext false false f g = refl
+
 module _ {A : Type 0} where
   pub every-e : (f : A → Bool) {x : A} {xs : List A} → List·Memᴰ x xs → T (every f xs) → T (f x)
   every-e f (List·Memᴰ·head {x = y} {xs = ys} e) t = subst⁻¹ (λ (z : A). T (f z)) e (and-l (f y) (every f ys) t)

@@ -1,4 +1,4 @@
--- The presence function of document 000: a point's candidates as a number; a set is a cover where it meets each point's number.
+-- Rows of the covering matrix (document 000's presence function): a set is a cover where it meets the row of each point.
 use Prim.Native.Nat.{ℕ, _+_, _*_, _/_, _%_, _<_, min}
 use native.Mathlib.Omega.{arith}
 use mathlib.Core.Path.{_≡_, _∙_}
@@ -8,7 +8,7 @@ use mathlib.Core.List.{List, [], _∷_}
 use lib.Dec.{T, ltb, ltb→lt, lt→ltb}
 use lib.Bits.{bitAnd, and-step, and-zero-r}
 use Rattle.model.specs.Base.{bit, some, every}
-use Rattle.model.specs.Sets.{Covering, members, covers, cover}
+use Rattle.model.specs.Sets.{Covering, members, covers, cover, rowOf}
 use Rattle.model.proofs.Lists.{yes-or-no, T-true, T-false, or-cases, or-l, or-r, every-e, every-i}
 use Rattle.model.proofs.Bits.{bit0-e, bit0-n}
 
@@ -47,26 +47,21 @@ meet-step s x false = (λ k. inl (omega (arith, step)), back)
     back (inr k) = absurd (k .1)
 
 module _ {A X : Type 0} (holds : A → X → Bool) where
-  -- the candidates that hold the point
-  unfoldable pub rowOf : List A → X → ℕ
-  rowOf [] x = 0
-  rowOf (t ∷ ts) x = rowOf ts x * 2 + cond (holds t x) 1 0
-
-  pub held-iff : (ts : List A) (c : X) (s : ℕ) → T (some (λ t. holds t c) (members ts s)) ↔ (0 < bitAnd s (rowOf ts c))
+  pub held-iff : (ts : List A) (c : X) (s : ℕ) → T (some (λ t. holds t c) (members ts s)) ↔ (0 < bitAnd s (rowOf holds ts c))
   unfolding rowOf
   held-iff [] c s = (λ t. absurd t, λ h. absurd (omega (arith, and-zero-r s)))
   held-iff (t ∷ ts) c s = (λ h. m .1 (to (yes-or-no (bit 0 s)) h (held-iff ts c (s / 2))), λ k. back (m .0 k) (held-iff ts c (s / 2)))
     where
-      m : (0 < bitAnd s (rowOf ts c * 2 + cond (holds t c) 1 0)) ↔ ((0 < bitAnd (s / 2) (rowOf ts c)) ⊎ (T (bit 0 s) × T (holds t c)))
-      m = meet-step s (rowOf ts c) (holds t c)
+      m : (0 < bitAnd s (rowOf holds ts c * 2 + cond (holds t c) 1 0)) ↔ ((0 < bitAnd (s / 2) (rowOf holds ts c)) ⊎ (T (bit 0 s) × T (holds t c)))
+      m = meet-step s (rowOf holds ts c) (holds t c)
 
       r : List A
       r = members ts (s / 2)
 
-      to : T (bit 0 s) ⊎ T (not (bit 0 s)) → T (some (λ u. holds u c) (cond (bit 0 s) (t ∷ r) r)) → T (some (λ u. holds u c) r) ↔ (0 < bitAnd (s / 2) (rowOf ts c)) → (0 < bitAnd (s / 2) (rowOf ts c)) ⊎ (T (bit 0 s) × T (holds t c))
+      to : T (bit 0 s) ⊎ T (not (bit 0 s)) → T (some (λ u. holds u c) (cond (bit 0 s) (t ∷ r) r)) → T (some (λ u. holds u c) r) ↔ (0 < bitAnd (s / 2) (rowOf holds ts c)) → (0 < bitAnd (s / 2) (rowOf holds ts c)) ⊎ (T (bit 0 s) × T (holds t c))
       to (inl o) h ih = go (or-cases (holds t c) (some (λ u. holds u c) r) (rw (T-true {b = bit 0 s} o) at h))
         where
-          go : T (holds t c) ⊎ T (some (λ u. holds u c) r) → (0 < bitAnd (s / 2) (rowOf ts c)) ⊎ (T (bit 0 s) × T (holds t c))
+          go : T (holds t c) ⊎ T (some (λ u. holds u c) r) → (0 < bitAnd (s / 2) (rowOf holds ts c)) ⊎ (T (bit 0 s) × T (holds t c))
           go (inl x) = inr (o, x)
           go (inr x) = inl (ih .0 x)
       to (inr o) h ih = inl (ih .0 (rw (T-false {b = bit 0 s} o) at h))
@@ -75,7 +70,7 @@ module _ {A X : Type 0} (holds : A → X → Bool) where
       keep true x = or-r (holds t c) (some (λ u. holds u c) r) x
       keep false x = x
 
-      back : (0 < bitAnd (s / 2) (rowOf ts c)) ⊎ (T (bit 0 s) × T (holds t c)) → T (some (λ u. holds u c) r) ↔ (0 < bitAnd (s / 2) (rowOf ts c)) → T (some (λ u. holds u c) (cond (bit 0 s) (t ∷ r) r))
+      back : (0 < bitAnd (s / 2) (rowOf holds ts c)) ⊎ (T (bit 0 s) × T (holds t c)) → T (some (λ u. holds u c) r) ↔ (0 < bitAnd (s / 2) (rowOf holds ts c)) → T (some (λ u. holds u c) (cond (bit 0 s) (t ∷ r) r))
       back (inl k) ih = keep (bit 0 s) (ih .1 k)
       back (inr k) ih = rw (T-true {b = bit 0 s} (k .0)) (or-l (holds t c) (some (λ u. holds u c) r) (k .1))
 

@@ -5,7 +5,7 @@ use mathlib.Core.Logic.{_≢_}
 use mathlib.Core.Bool.{Bool, not, cond, _&&_}
 use mathlib.Core.List.{List, [], _∷_}
 use lib.Dec.{T, ltb}
-use lib.ListN.{length}
+use lib.ListN.{getD, length}
 use Rattle.model.specs.Base.{bit, below, every, some, filter, sum}
 
 -- the points to be held (the wanted cells), and the candidates, "as they came", with what each holds and what it costs
@@ -97,3 +97,8 @@ module _ {A X : Type 0} (holds : A → X → Bool) where
   unfoldable pub rowOf : List A → X → ℕ
   rowOf [] x = 0
   rowOf (t ∷ ts) x = rowOf ts x * 2 + cond (holds t x) 1 0
+
+-- the covering problem by its rows alone: candidate i, of these costs, holds row r where i is one of r. It has the same covers, costs and
+-- cheapest (laws `rows-irredundants`, `rows-cheapest`)
+abbrev pub ofRows : List ℕ → List ℕ → Covering ℕ ℕ
+ofRows costs rows = record { points = rows; holds = bit; weight = λ i. getD costs i 0; cands = below (length costs) }

@@ -1,0 +1,146 @@
+-- The covering problem by its rows has the same covers, costs and cheapest.
+use Prim.Native.Nat.{ℕ, zero, suc, _+_, _*_, _/_, _%_, _-_, _^_, _<_}
+use native.Mathlib.Omega.{arith}
+use native.Mathlib.Nat.{pow-suc}
+use mathlib.Core.Path.{_≡_, refl, sym, ap, ap₂, _∙_, subst, subst⁻¹}
+use mathlib.Core.Logic.{_⊎_, inl, inr}
+use mathlib.Core.Bool.{Bool, true, false, not, cond, _&&_}
+use mathlib.Core.List.{List, [], _∷_, map}
+use lib.Dec.{T}
+use lib.Bits.{bitAnd}
+use lib.ListN.{getD, length, length-map}
+use Rattle.model.specs.Base.{bit, from, below, every, some, filter, sum}
+use Rattle.model.specs.Sets.{Covering, members, covers, cover, coverable, redundant, irredundant, irredundants, cost, least, leastOf, cheapest, rowOf, ofRows}
+use Rattle.model.proofs.Lists.{yes-or-no, bool-ext, T-true, T-false}
+use Rattle.model.proofs.Bits.{bit0-e, bit0-n}
+use Rattle.model.proofs.Rows.{held-iff}
+
+-- ---- the row of a row
+pub rowOf-lt : {A X : Type 0} (holds : A → X → Bool) (ts : List A) (x : X) → rowOf holds ts x < 2 ^ length ts
+unfolding rowOf
+rowOf-lt holds [] x = omega arith
+rowOf-lt holds (t ∷ ts) x = go (holds t x) (rowOf-lt holds ts x)
+  where
+    go : (b : Bool) → rowOf holds ts x < 2 ^ length ts → rowOf holds ts x * 2 + cond b 1 0 < 2 ^ suc (length ts)
+    go true h = omega (arith, pow-suc 2 (length ts))
+    go false h = omega (arith, pow-suc 2 (length ts))
+
+bit-flag : (r : ℕ) → cond (bit 0 r) 1 0 ≡ r % 2
+bit-flag r = go (yes-or-no (bit 0 r))
+  where
+    go : T (bit 0 r) ⊎ T (not (bit 0 r)) → cond (bit 0 r) 1 0 ≡ r % 2
+    go (inl t) = rw (T-true {b = bit 0 r} t) (sym (bit0-e r t))
+    go (inr t) = rw (T-false {b = bit 0 r} t) (sym (bit0-n r t))
+
+-- the row of row r is r
+row-bits : (k i r q : ℕ) → ((j : ℕ) → bit (i + j) r ≡ bit j q) → q < 2 ^ k → rowOf bit (from i k) r ≡ q
+unfolding rowOf
+row-bits zero i r q f l = omega arith
+row-bits (suc k) i r q f l =
+    let e : rowOf bit (from (suc i) k) r ≡ q / 2 = row-bits k (suc i) r (q / 2) (λ j. up j) (omega (arith, pow-suc 2 k)) in
+    let b : cond (bit i r) 1 0 ≡ q % 2 = ap (λ (x : Bool). cond x 1 0) here ∙ bit-flag q in
+    omega arith
+  where
+    here : bit i r ≡ bit 0 q
+    here = let e : i + 0 ≡ i = omega arith in subst (λ (x : ℕ). bit x r ≡ bit 0 q) e (f 0)
+
+    up : (j : ℕ) → bit (suc i + j) r ≡ bit j (q / 2)
+    up j = let e : i + suc j ≡ suc i + j = omega arith in subst (λ (x : ℕ). bit x r ≡ bit j (q / 2)) e (f (suc j))
+
+-- ---- two covering problems with the same covers
+
+filter-same : {A : Type 0} (f g : A → Bool) (xs : List A) → ((x : A) → f x ≡ g x) → filter f xs ≡ filter g xs
+filter-same f g [] h = refl
+filter-same f g (x ∷ xs) h = rw (h x, filter-same f g xs h)
+
+every-same : {A : Type 0} (f g : A → Bool) (xs : List A) → ((x : A) → f x ≡ g x) → every f xs ≡ every g xs
+every-same f g [] h = refl
+every-same f g (x ∷ xs) h = rw (h x, every-same f g xs h)
+
+least-same : (f g : ℕ → ℕ) (b : ℕ) (ss : List ℕ) → ((s : ℕ) → f s ≡ g s) → least f b ss ≡ least g b ss
+least-same f g b [] h = refl
+least-same f g b (s ∷ ss) h = rw (h s, h b) (least-same f g _ ss h)
+
+leastOf-same : (f g : ℕ → ℕ) (ss : List ℕ) → ((s : ℕ) → f s ≡ g s) → leastOf f ss ≡ leastOf g ss
+leastOf-same f g [] h = refl
+leastOf-same f g (s ∷ ss) h = least-same f g s ss h
+
+module _ {A X B Y : Type 0} (k : Covering A X) (j : Covering B Y) (size : length (k .cands) ≡ length (j .cands)) (same : (s : ℕ) → cover k s ≡ cover j s) where
+  irredundant-same : (s : ℕ) → irredundant k s ≡ irredundant j s
+  unfolding irredundant redundant
+  irredundant-same s = rw (same s, size) (ap (λ (b : Bool). cover j s && b) (every-same _ _ (below (length (j .cands))) (λ i. rw (same (s - 2 ^ i)))))
+
+  pub irredundants-same : irredundants k ≡ irredundants j
+  unfolding irredundants
+  irredundants-same = rw size (filter-same (irredundant k) (irredundant j) (below (2 ^ length (j .cands))) irredundant-same)
+
+  pub cheapest-same : ((s : ℕ) → cost k s ≡ cost j s) → cheapest k ≡ cheapest j
+  unfolding cheapest
+  cheapest-same c = rw irredundants-same (leastOf-same (cost k) (cost j) (irredundants j) c)
+
+-- ---- the rows of a covering problem
+
+from-length : (i k : ℕ) → length (from i k) ≡ k
+from-length i zero = refl
+from-length i (suc k) = ap suc (from-length (suc i) k)
+
+-- costs by index, from i on
+sum-index : {A : Type 0} (w : A → ℕ) (ts : List A) (cs : List ℕ) (i s : ℕ) → ((j : ℕ) → getD cs (i + j) 0 ≡ getD (map w ts) j 0)
+    → sum (λ j. getD cs j 0) (members (from i (length ts)) s) ≡ sum w (members ts s)
+sum-index w [] cs i s f = refl
+sum-index w (t ∷ ts) cs i s f = go (bit 0 s) (sum-index w ts cs (suc i) (s / 2) up)
+  where
+    up : (j : ℕ) → getD cs (suc i + j) 0 ≡ getD (map w ts) j 0
+    up j = let e : i + suc j ≡ suc i + j = omega arith in subst (λ (x : ℕ). getD cs x 0 ≡ getD (map w ts) j 0) e (f (suc j))
+
+    first : getD cs i 0 ≡ w t
+    first = let e : i + 0 ≡ i = omega arith in subst (λ (x : ℕ). getD cs x 0 ≡ w t) e (f 0)
+
+    go : (b : Bool) → sum (λ j. getD cs j 0) (members (from (suc i) (length ts)) (s / 2)) ≡ sum w (members ts (s / 2))
+        → sum (λ j. getD cs j 0) (cond b (i ∷ members (from (suc i) (length ts)) (s / 2)) (members (from (suc i) (length ts)) (s / 2)))
+        ≡ sum w (cond b (t ∷ members ts (s / 2)) (members ts (s / 2)))
+    go true later = ap₂ (λ (x y : ℕ). x + y) first later
+    go false later = later
+
+every-map : {A B : Type 0} (f : B → Bool) (g : A → B) (xs : List A) → every f (map g xs) ≡ every (λ x. f (g x)) xs
+every-map f g [] = refl
+every-map f g (x ∷ xs) = rw (every-map f g xs)
+
+module _ {A X : Type 0} (k : Covering A X) where
+  abbrev rows : List ℕ
+  rows = map (rowOf (k .holds) (k .cands)) (k .points)
+
+  abbrev costs : List ℕ
+  costs = map (k .weight) (k .cands)
+
+  -- by its rows
+  abbrev pub byRows : Covering ℕ ℕ
+  byRows = ofRows costs rows
+
+  rows-size : length (byRows .cands) ≡ length (k .cands)
+  rows-size = from-length 0 (length costs) ∙ length-map (k .cands) (k .weight)
+
+  rows-held : (s : ℕ) (x : X) → some (λ i. bit i (rowOf (k .holds) (k .cands) x)) (members (below (length costs)) s) ≡ some (λ t. k .holds t x) (members (k .cands) s)
+  rows-held s x =
+      let r : ℕ = rowOf (k .holds) (k .cands) x in
+      let m = length-map (k .cands) (k .weight) in
+      let e : rowOf bit (below (length costs)) r ≡ r = row-bits (length costs) 0 r r (λ j. let z : 0 + j ≡ j = omega arith in ap (λ (i : ℕ). bit i r) z) (subst⁻¹ (λ (n : ℕ). r < 2 ^ n) m (rowOf-lt (k .holds) (k .cands) x)) in
+      let a = held-iff bit (below (length costs)) r s in
+      let b = held-iff (k .holds) (k .cands) x s in
+      bool-ext (some (λ i. bit i r) (members (below (length costs)) s)) (some (λ t. k .holds t x) (members (k .cands) s))
+      (λ t. b .1 (subst (λ (q : ℕ). 0 < bitAnd s q) e (a .0 t)))
+      (λ t. a .1 (subst⁻¹ (λ (q : ℕ). 0 < bitAnd s q) e (b .0 t)))
+
+  pub rows-cover : (s : ℕ) → cover byRows s ≡ cover k s
+  unfolding cover covers
+  rows-cover s = every-map _ (rowOf (k .holds) (k .cands)) (k .points) ∙ every-same _ _ (k .points) (rows-held s)
+
+  pub rows-cost : (s : ℕ) → cost byRows s ≡ cost k s
+  unfolding cost
+  rows-cost s = rw (length-map (k .cands) (k .weight)) (sum-index (k .weight) (k .cands) costs 0 s (λ j. let z : 0 + j ≡ j = omega arith in ap (λ (i : ℕ). getD costs i 0) z))
+
+  pub rows-irredundants : irredundants byRows ≡ irredundants k
+  rows-irredundants = irredundants-same byRows k rows-size rows-cover
+
+  pub rows-cheapest : cheapest byRows ≡ cheapest k
+  rows-cheapest = cheapest-same byRows k rows-size rows-cover rows-cost
