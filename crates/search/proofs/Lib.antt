@@ -1,0 +1,11 @@
+pub mod Sets
+pub mod Reducing
+pub mod Tightening
+pub mod Tree
+pub mod Listing
+pub mod Costing
+pub mod Bounding
+pub mod Valuing
+pub mod Thinning
+pub mod Parting
+pub mod Pinning

@@ -1,0 +1,53 @@
+-- `search::dominance::cheaper` meets its contract. The invariant: rest is a part of x.
+use borrow.Author.Needs.{needs}
+use native.Mathlib.Omega.{arith}
+use Rattle.bits.specs.Bits.{Part}
+use Rattle.bits.proofs.Parts.{part-self, part-trans, minus-part, minus-member-less}
+use Rattle.search.proofs.Thinning.{cheaper-one, cheaper-none}
+use Rattle.search.proofs.dominance.cheaper.Statement.{statement}
+use Rattle.search.proofs.dominance.cheaper.Tie as tie
+
+abbrev Inv-loop : tie.InvT-loop
+Inv-loop costs x p rest₀ rest = Part rest x
+
+abbrev μ-loop : tie.MeasureT-loop
+μ-loop costs x p rest₀ rest = rest
+
+loop-holds : tie.Need-loop-holds Inv-loop μ-loop
+loop-holds c = part-self _
+
+lowest-requires : tie.Need-lowest-requires Inv-loop μ-loop
+lowest-requires c κs = omega (arith, c .loop-test .taken)
+
+price-requires : tie.Need-price-requires Inv-loop μ-loop
+price-requires c κs = c .lowest .ensures .single
+
+returns : tie.Need-returns Inv-loop μ-loop
+returns c = cheaper-one _ _ _ _ _ _ (c .before .before .before .before .loop .inv) (c .before .before .lowest .ensures) (c .before .price .ensures) (c .if1 .taken)
+
+minus-requires : tie.Need-minus-requires Inv-loop μ-loop
+minus-requires c κs = search needs
+
+loop-less : tie.Need-loop-less Inv-loop μ-loop
+loop-less c = minus-member-less _ _ _ (c .before .before .before .lowest .ensures) (c .minus .ensures)
+
+loop-again : tie.Need-loop-again Inv-loop μ-loop
+loop-again c = part-trans _ _ _ (minus-part _ _ _ (c .minus .ensures)) (c .before .before .before .before .before .loop .inv)
+
+returns-2 : tie.Need-returns-2 Inv-loop μ-loop
+returns-2 c = cheaper-none _ _ _
+
+pub cheaper-spec : {M : Type 1} → statement M
+cheaper-spec =
+    tie.close
+    (tie.spec
+    Inv-loop
+    μ-loop
+    loop-holds
+    lowest-requires
+    price-requires
+    returns
+    minus-requires
+    loop-less
+    loop-again
+    returns-2)

@@ -1,0 +1,4 @@
+pub mod Covers
+pub mod Reduction
+pub mod Pruning
+pub mod Costs
