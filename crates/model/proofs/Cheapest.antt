@@ -1,45 +1,17 @@
--- What a lister that goes from set to set has to show.
+-- The cheapest: the least cost, then the least number.
 use Prim.Native.Nat.{ℕ, suc, _^_, _≤_, _<_}
 use native.Mathlib.Omega.{arith}
-use native.Mathlib.Decide.{decLe}
 use native.Mathlib.Nat.{le-antisymm}
 use mathlib.Core.Path.{_≡_, refl, ap}
 use mathlib.Core.Bool.{Bool, true, false, cond}
 use mathlib.Core.List.{List, [], _∷_, List·Memᴰ, List·Memᴰ·head, List·Memᴰ·tail}
-use lib.Dec.{T, leb, ltb, le→leb, ltb→lt, nltb→le}
-use lib.Arith.{lt→nleb}
+use lib.Dec.{T, ltb, ltb→lt, nltb→le}
 use lib.ListN.{length}
-use Rattle.model.specs.Base.{filter}
 use Rattle.model.specs.Sets.{Covering, cover, Irredundant, Best, least, leastOf, coverable, cost, irredundants, cheapest}
 use Rattle.model.specs.Pages.{Rising}
-use Rattle.model.proofs.Lists.{T-true, T-false}
 use Rattle.model.proofs.Bits.{within-le}
 use Rattle.model.proofs.Sets.{least-le-first, listed, cost-more, cheapest-le, cheapest-irredundant}
-use Rattle.model.proofs.Pages.{rising, rising-down, keep}
-
-pub rising-ge : (b : ℕ) (xs : List ℕ) {x : ℕ} → Rising b xs → List·Memᴰ x xs → b ≤ x
-rising-ge b (y ∷ ys) r (List·Memᴰ·head e) = omega (arith, r .0)
-rising-ge b (y ∷ ys) r (List·Memᴰ·tail m) = omega (arith, r .0, rising-ge (suc y) ys (r .1) m)
-
--- the least set at or above a stands first, and then those above it
-pub atOrAbove-cons : (b a s : ℕ) (all : List ℕ) → Rising b all → List·Memᴰ s all → a ≤ s → ((r : ℕ) → List·Memᴰ r all → a ≤ r → s ≤ r) → filter (leb a) all ≡ s ∷ filter (leb (suc s)) all
-atOrAbove-cons b a s (y ∷ ys) u (List·Memᴰ·head e) h l =
-    let q : leb a y ≡ true = T-true {b = leb a y} (le→leb a y (omega arith)) in
-    let n : leb (suc s) y ≡ false = T-false {b = leb (suc s) y} (lt→nleb (suc s) y (omega arith)) in
-    rw (q, n, keep (suc y) a ys (u .1) (omega arith), keep (suc y) (suc s) ys (u .1) (omega arith), e)
-atOrAbove-cons b a s (y ∷ ys) u (List·Memᴰ·tail m) h l =
-    let g = rising-ge (suc y) ys (u .1) m in
-    let q : leb a y ≡ false = T-false {b = leb a y} (lt→nleb a y (go (decLe a y) g)) in
-    let n : leb (suc s) y ≡ false = T-false {b = leb (suc s) y} (lt→nleb (suc s) y (omega arith)) in
-    rw (q, n) (atOrAbove-cons (suc y) a s ys (u .1) m h (λ r k. l r (List·Memᴰ·tail k)))
-  where
-    go : Dec (a ≤ y) → suc y ≤ s → y < a
-    go (yes c) g = absurd (omega (arith, l y (List·Memᴰ·head refl) c))
-    go (no c) g = omega arith
-
-pub atOrAbove-nil : (a : ℕ) (all : List ℕ) → ((r : ℕ) → List·Memᴰ r all → r < a) → filter (leb a) all ≡ []
-atOrAbove-nil a [] h = refl
-atOrAbove-nil a (y ∷ ys) h = rw (T-false {b = leb a y} (lt→nleb a y (h y (List·Memᴰ·head refl)))) (atOrAbove-nil a ys (λ r k. h r (List·Memᴰ·tail k)))
+use Rattle.model.proofs.Pages.{rising, rising-down}
 
 -- of those that cost the same, the cheapest is the smallest
 least-small : (f : ℕ → ℕ) (b : ℕ) (ss : List ℕ) → Rising (suc b) ss → (x : ℕ) → List·Memᴰ x (b ∷ ss) → f x ≤ f (least f b ss) → least f b ss ≤ x

@@ -80,12 +80,12 @@ module _ {A X B Y : Type 0} (k : Covering A X) (j : Covering B Y) (size : length
 
 -- ---- the rows of a covering problem
 
-from-length : (i k : ℕ) → length (from i k) ≡ k
+pub from-length : (i k : ℕ) → length (from i k) ≡ k
 from-length i zero = refl
 from-length i (suc k) = ap suc (from-length (suc i) k)
 
 -- costs by index, from i on
-sum-index : {A : Type 0} (w : A → ℕ) (ts : List A) (cs : List ℕ) (i s : ℕ) → ((j : ℕ) → getD cs (i + j) 0 ≡ getD (map w ts) j 0)
+pub sum-index : {A : Type 0} (w : A → ℕ) (ts : List A) (cs : List ℕ) (i s : ℕ) → ((j : ℕ) → getD cs (i + j) 0 ≡ getD (map w ts) j 0)
     → sum (λ j. getD cs j 0) (members (from i (length ts)) s) ≡ sum w (members ts s)
 sum-index w [] cs i s f = refl
 sum-index w (t ∷ ts) cs i s f = go (bit 0 s) (sum-index w ts cs (suc i) (s / 2) up)

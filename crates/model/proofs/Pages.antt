@@ -1,11 +1,12 @@
 -- Joined pages of a rising list.
-use Prim.Native.Nat.{ℕ, zero, suc, _^_, _≤_, min}
+use Prim.Native.Nat.{ℕ, zero, suc, _^_, _≤_, _<_, min}
 use native.Mathlib.Omega.{arith}
+use native.Mathlib.Decide.{decLe}
 use native.Mathlib.Nat.{le-refl}
 use mathlib.Core.Path.{_≡_, refl, sym, ap, _∙_, subst, subst⁻¹}
 use mathlib.Core.Logic.{_↔_}
 use mathlib.Core.Bool.{Bool, true, false, not, cond}
-use mathlib.Core.List.{List, [], _∷_, _++_, append-assoc}
+use mathlib.Core.List.{List, [], _∷_, _++_, append-assoc, List·Memᴰ, List·Memᴰ·head, List·Memᴰ·tail}
 use lib.Dec.{T, leb, ltb, nltb→le, le→leb, lt→ltb}
 use lib.Arith.{lt→nleb, le→nltb}
 use lib.Seq.{take-all}
@@ -26,15 +27,6 @@ rising-filter f i (suc k) = go (f i) (rising-filter f (suc i) k)
     go : (b : Bool) → Rising (suc i) (filter f (from (suc i) k)) → Rising i (cond b (i ∷ filter f (from (suc i) k)) (filter f (from (suc i) k)))
     go true r = (le-refl i, r)
     go false r = rising-down i (suc i) (filter f (from (suc i) k)) (omega arith) r
-
--- some of a rising list, as K11 and K12 list them
-pub rising-part : (f : ℕ → Bool) (b : ℕ) (xs : List ℕ) → Rising b xs → Rising b (filter f xs)
-rising-part f b [] r = tt
-rising-part f b (x ∷ xs) r = go (f x) (rising-part f (suc x) xs (r .1))
-  where
-    go : (c : Bool) → Rising (suc x) (filter f xs) → Rising b (cond c (x ∷ filter f xs) (filter f xs))
-    go true q = (r .0, q)
-    go false q = rising-down b (suc x) (filter f xs) (omega (arith, r .0)) q
 
 pub rising : {A X : Type 0} (k : Covering A X) → Rising 0 (irredundants k)
 unfolding irredundants
@@ -89,3 +81,29 @@ module _ (all : List ℕ) (up : Rising 0 all) where
 
       none : all ≡ joinedSets ++ take c left → T (not (ltb c (length left)))
       none h = le→nltb c (length left) (omega (arith, simp (length-append, length-take) at (ap length (sym e ∙ h))))
+
+-- ---- a lister that goes from set to set
+
+pub rising-ge : (b : ℕ) (xs : List ℕ) {x : ℕ} → Rising b xs → List·Memᴰ x xs → b ≤ x
+rising-ge b (y ∷ ys) r (List·Memᴰ·head e) = omega (arith, r .0)
+rising-ge b (y ∷ ys) r (List·Memᴰ·tail m) = omega (arith, r .0, rising-ge (suc y) ys (r .1) m)
+
+-- the least set at or above a stands first, and then those above it
+pub atOrAbove-cons : (b a s : ℕ) (all : List ℕ) → Rising b all → List·Memᴰ s all → a ≤ s → ((r : ℕ) → List·Memᴰ r all → a ≤ r → s ≤ r) → filter (leb a) all ≡ s ∷ filter (leb (suc s)) all
+atOrAbove-cons b a s (y ∷ ys) u (List·Memᴰ·head e) h l =
+    let q : leb a y ≡ true = T-true {b = leb a y} (le→leb a y (omega arith)) in
+    let n : leb (suc s) y ≡ false = T-false {b = leb (suc s) y} (lt→nleb (suc s) y (omega arith)) in
+    rw (q, n, keep (suc y) a ys (u .1) (omega arith), keep (suc y) (suc s) ys (u .1) (omega arith), e)
+atOrAbove-cons b a s (y ∷ ys) u (List·Memᴰ·tail m) h l =
+    let g = rising-ge (suc y) ys (u .1) m in
+    let q : leb a y ≡ false = T-false {b = leb a y} (lt→nleb a y (go (decLe a y) g)) in
+    let n : leb (suc s) y ≡ false = T-false {b = leb (suc s) y} (lt→nleb (suc s) y (omega arith)) in
+    rw (q, n) (atOrAbove-cons (suc y) a s ys (u .1) m h (λ r k. l r (List·Memᴰ·tail k)))
+  where
+    go : Dec (a ≤ y) → suc y ≤ s → y < a
+    go (yes c) g = absurd (omega (arith, l y (List·Memᴰ·head refl) c))
+    go (no c) g = omega arith
+
+pub atOrAbove-nil : (a : ℕ) (all : List ℕ) → ((r : ℕ) → List·Memᴰ r all → r < a) → filter (leb a) all ≡ []
+atOrAbove-nil a [] h = refl
+atOrAbove-nil a (y ∷ ys) h = rw (T-false {b = leb a y} (lt→nleb a y (h y (List·Memᴰ·head refl)))) (atOrAbove-nil a ys (λ r k. h r (List·Memᴰ·tail k)))

@@ -9,3 +9,4 @@ pub mod Valuing
 pub mod Thinning
 pub mod Parting
 pub mod Pinning
+pub mod Bridge
