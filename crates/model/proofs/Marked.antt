@@ -12,7 +12,7 @@ use Rattle.model.specs.Commands.{kindOf, problemAfter}
 use Rattle.model.specs.Answers.{answer, answerFor}
 use Rattle.model.specs.Refusals.{refusal, refusals, refusalsOf}
 use Rattle.model.specs.Job.{run, packed, written}
-use Rattle.model.specs.Cases.{outcome, cases, example, examplePrimes, exampleJob, exampleAnswers}
+use Rattle.model.specs.Cases.{outcome, cases, example, examplePrimes, exampleJob, exampleAnswers, stops}
 
 -- a to h
 pub marked : map (λ c. outcome (c .of) (c .by)) cases ≡ map (λ c. c .gives) cases
@@ -32,3 +32,8 @@ marked-result = refl
 pub marked-bytes : written (run exampleJob 32768) ≡ exampleAnswers
 unfolding irredundants irredundant redundant cover covers coverable isOn onCells cells holds termCost cost cheapest ones onesIn primes prime legal formed holdsNoOff isOff isDc contains sameTerm containedIn terms run kindOf written refusal refusals refusalsOf answer answerFor problemAfter page more atOrAbove
 marked-bytes = refl
+
+-- jobs that stop, a refusal or more each
+pub stopped-jobs : map (λ c. packed (run (c .job) (c .room))) stops ≡ map (λ c. c .number * 2 ^ 32 + c .offset * 2 ^ 16 + c .written) stops
+unfolding irredundants irredundant redundant cover covers coverable isOn onCells cells holds termCost cost cheapest ones onesIn primes prime legal formed holdsNoOff isOff isDc contains sameTerm containedIn terms run kindOf packed written refusal refusals refusalsOf answer answerFor problemAfter page more atOrAbove
+stopped-jobs = refl

@@ -1,6 +1,6 @@
 -- Paper 01, "The two-output example of document 003": the marked cases as one table, and the job with all its bytes
 -- (theorems: proofs/Marked).
-use Prim.Native.Nat.{ℕ}
+use Prim.Native.Nat.{ℕ, zero, suc}
 use mathlib.Core.Bool.{cond}
 use mathlib.Core.List.{List, [], _∷_, _++_, map}
 use Rattle.model.specs.Table.{Table, Term, term}
@@ -88,3 +88,82 @@ exampleAnswers =
     ∷ 0x00 ∷ 0x00 ∷ 0x00 ∷ 0x1a ∷ 0x00 ∷ 0x00 ∷ 0x00 ∷ 0x00 ∷ 0x00 ∷ 0x00 ∷ 0x00 ∷ 0x29 ∷ 0x00 ∷ 0x00 ∷ 0x00 ∷ 0x00
     ∷ 0x00 ∷ 0x00 ∷ 0x00 ∷ 0x34 ∷ 0x00 ∷ 0x00 ∷ 0x00 ∷ 0x00 ∷ 0x00 ∷ 0x00 ∷ 0x00 ∷ 0x38 ∷ 0x00 ∷ 0x00 ∷ 0x00 ∷ 0x00
     ∷ 0x00 ∷ 0x00 ∷ 0x00 ∷ 0x63 ∷ 0x06 ∷ 0x00 ∷ 0x29 ∷ 0x00 ∷ 0x00 ∷ 0x00 ∷ 0x00 ∷ 0x00 ∷ 0x00 ∷ 0x00 ∷ 0x65 ∷ []
+
+-- ---- refusals: jobs that stop, each with its number, offset and written. Where two refusals apply, the first in the paper's order is given
+
+pub record Stopped : Type 0 where
+  pub job : List ℕ
+  pub room : ℕ
+  pub number : ℕ
+  pub offset : ℕ
+  pub written : ℕ
+
+abbrev stopped : List ℕ → ℕ → ℕ → ℕ → ℕ → Stopped
+stopped job room n offset w = record { job = job; room = room; number = n; offset = offset; written = w }
+
+-- I with one input and one output; rows and terms on it
+abbrev i11 : List ℕ → List ℕ
+i11 bs = 0x49 ∷ 1 ∷ 1 ∷ bs
+
+abbrev row : ℕ → ℕ → ℕ → List ℕ → List ℕ
+row v on dc bs = 0x52 ∷ v ∷ on ∷ dc ∷ bs
+
+abbrev t : ℕ → ℕ → ℕ → List ℕ → List ℕ
+t care value outputs bs = 0x54 ∷ care ∷ value ∷ outputs ∷ bs
+
+-- an L from 0 on
+abbrev l : ℕ → List ℕ → List ℕ
+l count bs = 0x4c ∷ 0 ∷ 0 ∷ 0 ∷ 0 ∷ 0 ∷ 0 ∷ 0 ∷ 0 ∷ count ∷ bs
+
+-- k times the same term, both cells free
+abbrev times : ℕ → List ℕ → List ℕ
+times zero bs = bs
+times (suc k) bs = t 0 0 1 (times k bs)
+
+abbrev pub stops : List Stopped
+stops =
+    -- 1: the answer buffer is too long
+    stopped [] 32769 1 0 0
+    -- 2: no bytes; a job without E
+    ∷ stopped [] 9 2 0 0
+    ∷ stopped (i11 []) 9 2 3 0
+    -- 3
+    ∷ stopped (0 ∷ []) 9 3 0 0
+    ∷ stopped (i11 (0x6c ∷ [])) 9 3 3 0
+    -- 4: R before I, though its operands are missing; I twice; R, P behind T; T, P behind P; T behind C
+    ∷ stopped (0x52 ∷ []) 9 4 0 0
+    ∷ stopped (i11 (i11 [])) 9 4 3 0
+    ∷ stopped (i11 (row 0 0 1 (row 1 0 1 (t 0 0 1 (row 0 0 1 []))))) 9 4 15 0
+    ∷ stopped (i11 (row 0 0 1 (row 1 0 1 (t 0 0 1 (0x50 ∷ []))))) 9 4 15 0
+    ∷ stopped (i11 (0x50 ∷ t 0 0 1 [])) 9 4 4 2
+    ∷ stopped (i11 (0x50 ∷ 0x50 ∷ [])) 9 4 4 2
+    ∷ stopped (i11 (0x43 ∷ t 0 0 1 [])) 20 4 4 11
+    -- 5: before 6; an L of eight operand bytes
+    ∷ stopped (0x49 ∷ 0 ∷ []) 9 5 0 0
+    ∷ stopped (i11 (0x4c ∷ 0 ∷ 0 ∷ 0 ∷ 0 ∷ 0 ∷ 0 ∷ 0 ∷ 0 ∷ [])) 9 5 3 0
+    -- 6
+    ∷ stopped (0x49 ∷ 0 ∷ 1 ∷ []) 9 6 0 0
+    ∷ stopped (0x49 ∷ 1 ∷ 9 ∷ []) 9 6 0 0
+    -- 7: before 8; a second row of a vertex
+    ∷ stopped (i11 (row 2 1 1 [])) 9 7 3 0
+    ∷ stopped (i11 (row 1 0 0 (row 1 0 0 []))) 9 7 7 0
+    -- 8: a shared bit; a bit above m
+    ∷ stopped (i11 (row 0 1 1 [])) 9 8 3 0
+    ∷ stopped (i11 (row 0 0 2 [])) 9 8 3 0
+    -- 9: before 10: care, value, no outputs, outputs
+    ∷ stopped (i11 (t 2 0 1 [])) 9 9 3 0
+    ∷ stopped (i11 (t 0 1 1 [])) 9 9 3 0
+    ∷ stopped (i11 (t 0 0 0 [])) 9 9 3 0
+    ∷ stopped (i11 (t 0 0 2 [])) 9 9 3 0
+    -- 10: before 11: vertex 1 is off
+    ∷ stopped (i11 (row 0 1 0 (t 0 0 1 []))) 9 10 7 0
+    -- 11: the 65th candidate
+    ∷ stopped (i11 (row 0 0 1 (row 1 0 1 (times 65 [])))) 9 11 267 0
+    -- 12: before 14
+    ∷ stopped (i11 (row 0 1 0 (l 1 []))) 0 12 7 0
+    ∷ stopped (i11 (row 0 1 0 (0x43 ∷ []))) 0 12 7 0
+    -- 13: before 14; the offset is E's
+    ∷ stopped (i11 (0x45 ∷ 0x45 ∷ [])) 0 13 3 0
+    -- 14: the finished C stands
+    ∷ stopped (i11 (0x43 ∷ l 1 [])) 21 14 4 11
+    ∷ []
