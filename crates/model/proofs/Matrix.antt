@@ -5,13 +5,13 @@ use native.Mathlib.Nat.{pow-suc}
 use mathlib.Core.Path.{_≡_, refl, sym, ap, ap₂, _∙_, subst, subst⁻¹}
 use mathlib.Core.Logic.{_⊎_, inl, inr}
 use mathlib.Core.Bool.{Bool, true, false, not, cond, _&&_}
-use mathlib.Core.List.{List, [], _∷_, map}
+use mathlib.Core.List.{List, [], _∷_, map, List·Memᴰ, List·Memᴰ·head, List·Memᴰ·tail}
 use lib.Dec.{T}
 use lib.Bits.{bitAnd}
 use lib.ListN.{getD, length, length-map}
 use Rattle.model.specs.Base.{bit, from, below, every, some, filter, sum}
 use Rattle.model.specs.Sets.{Covering, members, covers, cover, coverable, redundant, irredundant, irredundants, cost, least, leastOf, cheapest, rowOf, ofRows}
-use Rattle.model.proofs.Lists.{yes-or-no, bool-ext, T-true, T-false}
+use Rattle.model.proofs.Lists.{yes-or-no, bool-ext, T-true, T-false, below-e}
 use Rattle.model.proofs.Bits.{bit0-e, bit0-n}
 use Rattle.model.proofs.Rows.{held-iff}
 
@@ -49,9 +49,9 @@ row-bits (suc k) i r q f l =
 
 -- ---- two covering problems with the same covers
 
-filter-same : {A : Type 0} (f g : A → Bool) (xs : List A) → ((x : A) → f x ≡ g x) → filter f xs ≡ filter g xs
+filter-same : {A : Type 0} (f g : A → Bool) (xs : List A) → ((x : A) → List·Memᴰ x xs → f x ≡ g x) → filter f xs ≡ filter g xs
 filter-same f g [] h = refl
-filter-same f g (x ∷ xs) h = rw (h x, filter-same f g xs h)
+filter-same f g (x ∷ xs) h = rw (h x (List·Memᴰ·head refl), filter-same f g xs (λ y m. h y (List·Memᴰ·tail m)))
 
 every-same : {A : Type 0} (f g : A → Bool) (xs : List A) → ((x : A) → f x ≡ g x) → every f xs ≡ every g xs
 every-same f g [] h = refl
@@ -65,14 +65,14 @@ leastOf-same : (f g : ℕ → ℕ) (ss : List ℕ) → ((s : ℕ) → f s ≡ g 
 leastOf-same f g [] h = refl
 leastOf-same f g (s ∷ ss) h = least-same f g s ss h
 
-module _ {A X B Y : Type 0} (k : Covering A X) (j : Covering B Y) (size : length (k .cands) ≡ length (j .cands)) (same : (s : ℕ) → cover k s ≡ cover j s) where
-  irredundant-same : (s : ℕ) → irredundant k s ≡ irredundant j s
+module _ {A X B Y : Type 0} (k : Covering A X) (j : Covering B Y) (size : length (k .cands) ≡ length (j .cands)) (same : (s : ℕ) → s < 2 ^ length (k .cands) → cover k s ≡ cover j s) where
+  irredundant-same : (s : ℕ) → s < 2 ^ length (k .cands) → irredundant k s ≡ irredundant j s
   unfolding irredundant redundant
-  irredundant-same s = rw (same s, size) (ap (λ (b : Bool). cover j s && b) (every-same _ _ (below (length (j .cands))) (λ i. rw (same (s - 2 ^ i)))))
+  irredundant-same s l = rw (same s l, ← size) (ap (λ (b : Bool). cover j s && b) (every-same _ _ (below (length (k .cands))) (λ i. rw (same (s - 2 ^ i) (omega arith)))))
 
   pub irredundants-same : irredundants k ≡ irredundants j
   unfolding irredundants
-  irredundants-same = rw size (filter-same (irredundant k) (irredundant j) (below (2 ^ length (j .cands))) irredundant-same)
+  irredundants-same = rw (← size) (filter-same (irredundant k) (irredundant j) (below (2 ^ length (k .cands))) (λ s m. irredundant-same s (below-e (2 ^ length (k .cands)) m)))
 
   pub cheapest-same : ((s : ℕ) → cost k s ≡ cost j s) → cheapest k ≡ cheapest j
   unfolding cheapest
@@ -140,7 +140,7 @@ module _ {A X : Type 0} (k : Covering A X) where
   rows-cost s = rw (length-map (k .cands) (k .weight)) (sum-index (k .weight) (k .cands) costs 0 s (λ j. let z : 0 + j ≡ j = omega arith in ap (λ (i : ℕ). getD costs i 0) z))
 
   pub rows-irredundants : irredundants byRows ≡ irredundants k
-  rows-irredundants = irredundants-same byRows k rows-size rows-cover
+  rows-irredundants = irredundants-same byRows k rows-size (λ s l. rows-cover s)
 
   pub rows-cheapest : cheapest byRows ≡ cheapest k
-  rows-cheapest = cheapest-same byRows k rows-size rows-cover rows-cost
+  rows-cheapest = cheapest-same byRows k rows-size (λ s l. rows-cover s) rows-cost

@@ -10,3 +10,4 @@ pub mod Thinning
 pub mod Parting
 pub mod Pinning
 pub mod Bridge
+pub mod Same
