@@ -18,6 +18,7 @@ use Rattle.model.specs.Commands.{Kind, is, kindOf, width, Problem, Conte
 use Rattle.model.specs.Answers.{bytesOf, answerFor, answer}
 use Rattle.model.specs.Refusals.{size, refusalsOf, refusal}
 use Rattle.model.specs.Job.{Run, stop, answerThen, run, written}
+use Rattle.model.specs.Invariants.{Small, Sound}
 use Rattle.model.proofs.Lists.{twice, and-l, and-r, below-e, all-append, all-filter, all-take, all-drop, all-of}
 use Rattle.model.proofs.Bits.{within-le}
 use Rattle.model.proofs.Sets.{cheapest-irredundant}
@@ -26,16 +27,6 @@ use Rattle.model.proofs.Runs.{context, Passed, run-ind}
 use Rattle.model.proofs.Read.{Fits}
 
 -- ---- problems
-
--- each of its numbers is a byte
-abbrev pub Small : Term → Type 0
-Small t = (t .care < 256) × (t .value < 256) × (t .outputs < 256)
-
-pub record Sound (q : Problem) : Type 0 where
-  pub inputs : q .table .n ≤ 8
-  pub outputs : q .table .m ≤ 8
-  pub few : length (q .cands) ≤ 64
-  pub small : All Small (q .cands)
 
 formed-small : (p : Table) (t : Term) → p .n ≤ 8 → p .m ≤ 8 → Formed p t → Small t
 formed-small p t n m f =

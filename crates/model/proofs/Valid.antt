@@ -21,19 +21,12 @@ use Rattle.model.specs.Answers.{Answer, answerFor, answer}
 use Rattle.model.specs.Refusals.{size, Refusal, refuse, firstOf, refusalsOf}
 use Rattle.model.specs.Job.{Run, run}
 use Rattle.model.specs.Library.{unpack, badVertex, refusalsOfWord, callRefusals, listCovers, setsOf}
+use Rattle.model.specs.Invariants.{Small, Sound, Valid}
 use Rattle.model.proofs.Lists.{twice, and-l, and-r, and-i, some-e, all-append, all-of}
 use Rattle.model.proofs.Cubes.{prime-e, primes-e}
 use Rattle.model.proofs.Runs.{context, Passed, run-ind}
-use Rattle.model.proofs.Sound.{Small, Sound, after-sound}
+use Rattle.model.proofs.Sound.{after-sound}
 use Rattle.model.proofs.Library.{listed-told}
-
-pub record Valid (q : Problem) : Type 0 where
-  pub sound : Sound q
-  pub sizes : 1 ≤ q .place → T (size (q .table .n)) × T (size (q .table .m))
-  pub rows : 1 ≤ q .place → (length (q .table .on) ≡ 2 ^ q .table .n) × (length (q .table .dc) ≡ 2 ^ q .table .n)
-  pub good : (v : ℕ) → T (not (badVertex (q .table) v))
-  pub early : q .place ≤ 1 → q .cands ≡ []
-  pub legal : All (λ t. T (legal (q .table) t)) (q .cands)
 
 -- ---- rows
 
@@ -64,7 +57,7 @@ set-good p u x y h k g f v = go (ℕ-discrete v u)
 
 -- ---- one command
 
-place-one : (k : Kind) (n : ℕ) → T (not (is k Kind.I)) → T (allowed k n) → 1 ≤ n
+pub place-one : (k : Kind) (n : ℕ) → T (not (is k Kind.I)) → T (allowed k n) → 1 ≤ n
 place-one k n i a = leb→le 1 n (subst (λ (b : Bool). T (leb (cond b 0 1) n)) (no (is k Kind.I) i) (and-l (leb (cond (is k Kind.I) 0 1) n) _ a))
   where
     no : (b : Bool) → T (not b) → b ≡ false
@@ -78,7 +71,7 @@ not-or-l : (x y : Bool) → T (not (x || y)) → T (not x)
 not-or-l true y n = n
 not-or-l false y n = tt
 
-after-valid : (t : Context) (k : Kind) → T (allowed k (t .problem .place)) → All (λ r. T (not (r .applies))) (refusalsOf t k) → Valid (t .problem) → Valid (problemAfter t k)
+pub after-valid : (t : Context) (k : Kind) → T (allowed k (t .problem .place)) → All (λ r. T (not (r .applies))) (refusalsOf t k) → Valid (t .problem) → Valid (problemAfter t k)
 unfolding refusalsOf problemAfter legal
 after-valid t Kind.I p a s =
     let h = twice (size (operand t 0) && size (operand t 1)) (a .0) in
@@ -130,7 +123,7 @@ after-valid t Kind.none p a s = s
 
 -- ---- whole jobs
 
-valid-empty : Valid empty
+pub valid-empty : Valid empty
 valid-empty = record {
   sound = record { inputs = omega arith; outputs = omega arith; few = omega arith; small = tt };
   sizes = λ l. absurd (omega (arith, l));

@@ -18,11 +18,14 @@ pub data Answer : Type 0 where
   cheapestIs : ℕ → ℕ → Answer
   ended : Answer
 
+abbrev pub termBytes : Term → List ℕ
+termBytes t = t .care ∷ t .value ∷ t .outputs ∷ []
+
 -- P: "0x70, count byte, then care, value and outputs of each prime"; L: "0x6C, sets k, more (0 or 1), k times 8 bytes";
 -- C: "0x63, cost (2 bytes), set (8) of the cheapest"; E: "0x65"
 abbrev pub bytesOf : Answer → List ℕ
 bytesOf nothing = []
-bytesOf (primesAre ts) = 0x70 ∷ length ts ∷ join (map (λ t. t .care ∷ t .value ∷ t .outputs ∷ []) ts)
+bytesOf (primesAre ts) = 0x70 ∷ length ts ∷ join (map termBytes ts)
 bytesOf (paged ss m) = 0x6c ∷ length ss ∷ cond m 1 0 ∷ join (map (low 8) ss)
 bytesOf (cheapestIs c s) = 0x63 ∷ (low 2 c ++ low 8 s)
 bytesOf ended = 0x65 ∷ []

@@ -10,6 +10,7 @@ pub mod Answers
 pub mod Refusals
 pub mod Job
 pub mod Library
+pub mod Invariants
 pub mod Calls
 pub mod Demand3
 pub mod Cases

@@ -1,0 +1,130 @@
+-- Lists by parts, lists in arrays, and a filter that passes one entry. Nothing here is from the paper.
+use Prim.Native.Nat.{ℕ, zero, suc, _+_, _-_, _≤_, _<_, min}
+use native.Mathlib.Omega.{arith}
+use native.Mathlib.Decide.{decLt}
+use native.Mathlib.Numerals.{add-one}
+use mathlib.Core.Path.{_≡_, refl, sym, ap, ap₂, _∙_, subst, subst⁻¹}
+use mathlib.Core.Bool.{Bool, true, false, cond}
+use mathlib.Core.List.{List, [], _∷_, _++_, map, append-nil, append-assoc}
+use borrow.Author.Tests.{eq-eqb, ne-eqb}
+use lib.Dec.{eqb}
+use lib.ListN.{length, take, set, length-append, length-take, length-set}
+use lib.Seq.{take-all, take-append-le, take-suc-set}
+use Rattle.model.specs.Base.{from, below, filter, join}
+use Rattle.table.specs.Lists.{Filled, parts, upTo}
+
+-- ---- numbers in a row, in two parts
+
+from-split : (i k d s : ℕ) → s ≡ k + d → from i s ≡ from i k ++ from (i + k) d
+from-split i zero d s e =
+    let g : s ≡ d = omega arith in
+    let h : i + 0 ≡ i = omega arith in
+    rw (g, h)
+from-split i (suc k) d zero e = absurd (omega arith)
+from-split i (suc k) d (suc s) e =
+    let g : suc i + k ≡ i + suc k = omega arith in
+    ap (λ (l : List ℕ). i ∷ l) (from-split (suc i) k d s (omega arith) ∙ ap (λ (x : ℕ). from (suc i) k ++ from x d) g)
+
+below-split : (k s : ℕ) → k ≤ s → below s ≡ below k ++ from k (s - k)
+below-split k s l =
+    let e : 0 + k ≡ k = omega arith in
+    from-split 0 k (s - k) s (omega arith) ∙ ap (λ (x : ℕ). below k ++ from x (s - k)) e
+
+-- ---- a filtered list of parts
+
+pub map-append : {A B : Type 0} (f : A → B) (xs ys : List A) → map f (xs ++ ys) ≡ map f xs ++ map f ys
+map-append f [] ys = refl
+map-append {B} f (x ∷ xs) ys = ap (λ (l : List B). f x ∷ l) (map-append f xs ys)
+
+module _ {A : Type 0} where
+  join-append : (xs ys : List (List A)) → join (xs ++ ys) ≡ join xs ++ join ys
+  join-append [] ys = refl
+  join-append (x ∷ xs) ys = ap (λ (l : List A). x ++ l) (join-append xs ys) ∙ sym (append-assoc x (join xs) (join ys))
+
+  pub filter-append : (f : A → Bool) (xs ys : List A) → filter f (xs ++ ys) ≡ filter f xs ++ filter f ys
+  filter-append f [] ys = refl
+  filter-append f (x ∷ xs) ys = go (f x) (filter-append f xs ys)
+    where
+      go : (b : Bool) → filter f (xs ++ ys) ≡ filter f xs ++ filter f ys → cond b (x ∷ filter f (xs ++ ys)) (filter f (xs ++ ys)) ≡ cond b (x ∷ filter f xs) (filter f xs) ++ filter f ys
+      go true h = ap (λ (l : List A). x ∷ l) h
+      go false h = h
+
+  module _ (part : ℕ → List A) (k : ℕ) where
+    pub parts-split : (s : ℕ) → k ≤ s → parts part s ≡ parts part k ++ join (map part (from k (s - k)))
+    parts-split s l =
+        ap (λ (xs : List ℕ). join (map part xs)) (below-split k s l)
+        ∙ ap join (map-append part (below k) (from k (s - k)))
+        ∙ join-append (map part (below k)) (map part (from k (s - k)))
+
+    pub parts-next : parts part (k + 1) ≡ parts part k ++ part k
+    parts-next =
+        let e : k + 1 - k ≡ 1 = omega arith in
+        parts-split (k + 1) (omega arith) ∙ ap (λ (x : ℕ). parts part k ++ join (map part (from k x))) e ∙ ap (λ (l : List A). parts part k ++ l) (append-nil (part k))
+
+  module _ (f : A → Bool) (part : ℕ → List A) (k : ℕ) where
+    -- what passes f in the parts from k up to s - 1
+    abbrev pub rest : ℕ → List A
+    rest s = filter f (join (map part (from k (s - k))))
+
+    pub upTo-split : (s : ℕ) → k ≤ s → upTo f part s ≡ upTo f part k ++ rest s
+    upTo-split s l = ap (filter f) (parts-split part k s l) ∙ filter-append f (parts part k) (join (map part (from k (s - k))))
+
+    pub upTo-next : upTo f part (k + 1) ≡ upTo f part k ++ filter f (part k)
+    upTo-next = ap (filter f) (parts-next part k) ∙ filter-append f (parts part k) (part k)
+
+  -- ---- a filter over numbers that passes none, or r alone
+
+  module _ (f : A → Bool) (g : ℕ → A) where
+    pub passes-none : (xs : List ℕ) → ((o : ℕ) → f (g o) ≡ false) → filter f (map g xs) ≡ []
+    passes-none [] h = refl
+    passes-none (x ∷ xs) h = rw (h x) (passes-none xs h)
+
+    module _ (r : ℕ) (h : (o : ℕ) → f (g o) ≡ eqb o r) where
+      passes-past : (i k : ℕ) → r < i → filter f (map g (from i k)) ≡ []
+      passes-past i zero l = refl
+      passes-past i (suc k) l = rw (h i ∙ ne-eqb i r (λ e. omega arith)) (passes-past (suc i) k (omega arith))
+
+      passes-from : (i k : ℕ) → i ≤ r → r < i + k → filter f (map g (from i k)) ≡ g r ∷ []
+      passes-from i zero a b = absurd (omega arith)
+      passes-from i (suc k) a b = go (decLt i r) (passes-from (suc i) k)
+        where
+          go : Dec (i < r) → (suc i ≤ r → r < suc i + k → filter f (map g (from (suc i) k)) ≡ g r ∷ []) → cond (f (g i)) (g i ∷ filter f (map g (from (suc i) k))) (filter f (map g (from (suc i) k))) ≡ g r ∷ []
+          go (yes l) ih = rw (h i ∙ ne-eqb i r (λ e. omega arith)) (ih l (omega arith))
+          go (no l) ih =
+              let e : i ≡ r = omega arith in
+              rw (h i ∙ eq-eqb i r e) (ap₂ (λ (x : A) (l : List A). x ∷ l) (ap g e) (passes-past (suc i) k (omega arith)))
+
+      pub passes-one : (k : ℕ) → r < k → filter f (map g (below k)) ≡ g r ∷ []
+      passes-one k l = passes-from 0 k (omega arith) (omega arith)
+
+  -- ---- an array that holds a list, with one entry more
+
+  module _ (cap : ℕ) (array : List A) (count : ℕ) where
+    pub filled-next : (xs : List A) (x : A) → Filled cap xs array count → count < cap → Filled cap (xs ++ (x ∷ [])) (set array count x) (count + 1)
+    filled-next xs x f l = record {
+      size = length-set array count x ∙ f .size;
+      counted = omega (arith, f .counted, length-append xs (x ∷ []));
+      same =
+          ap (λ (k : ℕ). take k (set array count x)) (add-one count)
+          ∙ take-suc-set array count x (omega (arith, f .size))
+          ∙ ap (λ (l : List A). l ++ (x ∷ [])) (f .same);
+    }
+
+    -- an array that holds as much of a list as fits
+    module _ (xs : List A) (f : Filled cap (take cap xs) array count) where
+      pub counts : count ≡ min cap (length xs)
+      counts = f .counted ∙ length-take cap xs
+
+      pub first-next : (x : A) → count < cap → Filled cap (take cap (xs ++ (x ∷ []))) (set array count x) (count + 1)
+      first-next x l =
+          let n : length xs ≡ count = omega (arith, counts) in
+          let m : length (xs ++ (x ∷ [])) ≡ length xs + 1 = length-append xs (x ∷ []) in
+          let e : take cap xs ≡ xs = take-all cap xs (omega arith) in
+          let g : take cap (xs ++ (x ∷ [])) ≡ xs ++ (x ∷ []) = take-all cap (xs ++ (x ∷ [])) (omega arith) in
+          subst⁻¹ (λ (ys : List A). Filled cap ys (set array count x) (count + 1)) g
+          (filled-next xs x (subst (λ (ys : List A). Filled cap ys array count) e f) l)
+
+      pub first-full : (ys : List A) → cap ≤ count → Filled cap (take cap (xs ++ ys)) array count
+      first-full ys l =
+          let n : cap ≤ length xs = omega (arith, counts) in
+          subst⁻¹ (λ (zs : List A). Filled cap zs array count) (take-append-le cap xs ys n) f

@@ -1,0 +1,77 @@
+-- What the contracts on cubes cite.
+use Prim.Native.Nat.{ℕ, _-_, _^_, _≤_, _<_}
+use mathlib.Core.Path.{_≡_}
+use mathlib.Core.Bool.{Bool, true, false, not, _&&_}
+use mathlib.Core.List.{List}
+use lib.Bits.{bitAnd, bitOr}
+use lib.Dec.{T, eqb, ltb}
+use lib.ListN.{getD}
+use Rattle.model.specs.Base.{bit}
+use Rattle.model.specs.declared.Term.{Term}
+use Rattle.model.specs.Table.{Table, term, formed, holdsNoOff, legal}
+use Rattle.model.specs.Primes.{drives, prime}
+use Rattle.model.specs.Sets.{Within}
+
+-- may is on | dc of table p at each vertex; p has n inputs
+pub record Allowed (p : Table) (n : ℕ) (may : List ℕ) : Type 0 where
+  pub inputs : p .n ≡ n
+  pub on-or-dc : (v : ℕ) → v < 2 ^ n → getD may v 0 ≡ bitOr (getD (p .on) v 0) (getD (p .dc) v 0)
+  pub outputs : (v : ℕ) → v < 2 ^ n → getD may v 0 < 2 ^ p .m
+
+-- on and dc have the bytes of table p, of n inputs, none above the outputs
+pub record TableBytes (p : Table) (n : ℕ) (on dc : List ℕ) : Type 0 where
+  pub inputs : p .n ≡ n
+  pub on-bytes : (v : ℕ) → v < 2 ^ n → getD on v 0 ≡ getD (p .on) v 0
+  pub dc-bytes : (v : ℕ) → v < 2 ^ n → getD dc v 0 ≡ getD (p .dc) v 0
+  pub on-lt : (v : ℕ) → v < 2 ^ n → getD on v 0 < 2 ^ p .m
+  pub dc-lt : (v : ℕ) → v < 2 ^ n → getD dc v 0 < 2 ^ p .m
+
+-- may is right for every table that on and dc come from
+abbrev pub MayOf : List ℕ → List ℕ → List ℕ → Type 0
+MayOf on dc may = (p : Table) (n : ℕ) → n ≤ 8 → TableBytes p n on dc → Allowed p n may
+
+-- care and value are a cube over n inputs
+pub record Cube (n care value : ℕ) : Type 0 where
+  pub inputs : n ≤ 8
+  pub care-lt : care < 2 ^ n
+  pub value-in : Within value care
+
+-- r is the first of n inputs that care leaves free; n where there is none
+pub record FirstFree (n care r : ℕ) : Type 0 where
+  pub within : r ≤ n
+  pub before : (i : ℕ) → i < r → T (bit i care)
+  pub here : r < n → T (not (bit r care))
+
+-- r is what the cube may drive, by every table that may comes from
+abbrev pub Drives : List ℕ → ℕ → ℕ → ℕ → ℕ → Type 0
+Drives may n care value r = (p : Table) → Allowed p n may → r ≡ drives p care value
+
+-- r tells whether t is well-formed (refusal 9 does not apply) in a table of n inputs and m outputs
+abbrev pub TellsFormed : ℕ → ℕ → Term → Bool → Type 0
+TellsFormed n m t r = (p : Table) → p .n ≡ n → p .m ≡ m → r ≡ formed p t
+
+-- r tells whether t holds no off cell (refusal 10 does not apply)
+abbrev pub TellsNoOff : List ℕ → ℕ → Term → Bool → Type 0
+TellsNoOff may n t r = (p : Table) → Allowed p n may → t .outputs < 2 ^ p .m → r ≡ holdsNoOff p t
+
+-- r tells whether t is legal
+abbrev pub TellsLegal : List ℕ → ℕ → ℕ → Term → Bool → Type 0
+TellsLegal may n m t r = (p : Table) → Allowed p n may → p .m ≡ m → r ≡ legal p t
+
+-- input i is a literal of the cube, and the cube without it may drive the outputs
+unfoldable pub droppable : Table → ℕ → ℕ → ℕ → ℕ → Bool
+droppable p care value outputs i =
+    let d = drives p (care - 2 ^ i) (bitAnd value (care - 2 ^ i)) in
+    bit i care && eqb (bitAnd outputs d) outputs
+
+abbrev pub TellsDroppable : List ℕ → ℕ → ℕ → ℕ → ℕ → ℕ → Bool → Type 0
+TellsDroppable may n care value outputs i r = (p : Table) → Allowed p n may → r ≡ droppable p care value outputs i
+
+-- the answer tells whether one of n inputs is droppable
+abbrev pub SomeDroppable : List ℕ → ℕ → ℕ → ℕ → ℕ → Bool → Type 0
+SomeDroppable may n care value outputs true = (p : Table) → Allowed p n may → (i : ℕ) × T (droppable p care value outputs i)
+SomeDroppable may n care value outputs false = (p : Table) → Allowed p n may → (i : ℕ) → i < n → T (not (droppable p care value outputs i))
+
+-- the cube's prime is the one with outputs r; where r is 0 it has none
+abbrev pub PrimeOutputs : List ℕ → ℕ → ℕ → ℕ → ℕ → Type 0
+PrimeOutputs may n care value r = (p : Table) → Allowed p n may → (o : ℕ) → prime p (term care value o) ≡ (eqb o r && ltb 0 r)
