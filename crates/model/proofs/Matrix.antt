@@ -13,6 +13,7 @@ use Rattle.model.specs.Base.{bit, from, below, every, some, filter, sum}
 use Rattle.model.specs.Sets.{Covering, members, covers, cover, coverable, redundant, irredundant, irredundants, cost, least, leastOf, cheapest, rowOf, ofRows}
 use Rattle.model.proofs.Lists.{yes-or-no, bool-ext, T-true, T-false, below-e}
 use Rattle.model.proofs.Bits.{bit0-e, bit0-n}
+use Rattle.model.proofs.Sets.{members-all}
 use Rattle.model.proofs.Rows.{held-iff}
 
 -- ---- the row of a row
@@ -77,6 +78,11 @@ module _ {A X B Y : Type 0} (k : Covering A X) (j : Covering B Y) (size : length
   pub cheapest-same : ((s : ℕ) → cost k s ≡ cost j s) → cheapest k ≡ cheapest j
   unfolding cheapest
   cheapest-same c = rw irredundants-same (leastOf-same (cost k) (cost j) (irredundants j) c)
+
+-- all candidates together are the set of all
+pub coverable-all : {A X : Type 0} (k : Covering A X) → coverable k ≡ cover k (2 ^ length (k .cands) - 1)
+unfolding cover coverable
+coverable-all k = rw (members-all (k .cands))
 
 -- ---- the rows of a covering problem
 
@@ -144,3 +150,6 @@ module _ {A X : Type 0} (k : Covering A X) where
 
   pub rows-cheapest : cheapest byRows ≡ cheapest k
   rows-cheapest = cheapest-same byRows k rows-size (λ s l. rows-cover s) rows-cost
+
+  pub rows-coverable : coverable byRows ≡ coverable k
+  rows-coverable = coverable-all byRows ∙ rw rows-size (rows-cover (2 ^ length (k .cands) - 1)) ∙ sym (coverable-all k)

@@ -19,7 +19,7 @@ use Rattle.model.proofs.Lists.{twice, all-append, all-left, all-right}
 -- ---- what an answered command has passed
 
 -- the numbers that a command can be refused by
-abbrev Numbered : Refusal → Type 0
+abbrev pub Numbered : Refusal → Type 0
 Numbered r = (3 ≤ r .no) × (r .no ≤ 14)
 
 first-none : (rs : List Refusal) → All Numbered rs → firstOf rs ≡ 0 → All (λ r. T (not (r .applies))) rs
@@ -46,7 +46,24 @@ first-le (r ∷ rs) a = go (r .applies) (first-le rs (a .1))
     go true h = a .0 .1
     go false h = h
 
-refusalsOf-no : (t : Context) (k : Kind) → All Numbered (refusalsOf t k)
+-- one list behind another
+pub first-before : (rs qs : List Refusal) → (firstOf rs ≡ 0 → ⊥) → firstOf (rs ++ qs) ≡ firstOf rs
+first-before [] qs n = absurd (n refl)
+first-before (r ∷ rs) qs n = go (r .applies) n (first-before rs qs)
+  where
+    go : (b : Bool) → (cond b (r .no) (firstOf rs) ≡ 0 → ⊥) → ((firstOf rs ≡ 0 → ⊥) → firstOf (rs ++ qs) ≡ firstOf rs) → cond b (r .no) (firstOf (rs ++ qs)) ≡ cond b (r .no) (firstOf rs)
+    go true n h = refl
+    go false n h = h n
+
+pub first-behind : (rs qs : List Refusal) → All Numbered rs → firstOf rs ≡ 0 → firstOf (rs ++ qs) ≡ firstOf qs
+first-behind [] qs a e = refl
+first-behind (r ∷ rs) qs a e = go (r .applies) e (first-behind rs qs (a .1))
+  where
+    go : (b : Bool) → cond b (r .no) (firstOf rs) ≡ 0 → (firstOf rs ≡ 0 → firstOf (rs ++ qs) ≡ firstOf qs) → cond b (r .no) (firstOf (rs ++ qs)) ≡ firstOf qs
+    go true e h = absurd (omega (arith, a .0 .0))
+    go false e h = h e
+
+pub refusalsOf-no : (t : Context) (k : Kind) → All Numbered (refusalsOf t k)
 unfolding refusalsOf
 refusalsOf-no t Kind.I = (omega arith, tt)
 refusalsOf-no t Kind.R = (omega arith, (omega arith, tt))

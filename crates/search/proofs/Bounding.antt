@@ -11,11 +11,12 @@ use lib.Pow.{pow-mono}
 use lib.Count.{trailingZeros, under}
 use lib.Bits.{bitAnd, bitOr}
 use Rattle.bits.specs.Bits.{digit, Single, Part, Minus, Member}
+use Rattle.search.specs.Covers.{Cover}
 use Rattle.search.specs.Pruning.{Between}
-use Rattle.search.specs.Costs.{costOf, Price, Floor, CoverBetween, Fresh, Bound}
-use Rattle.bits.proofs.Digits.{eq?, digit-lt, digit-and, digit-or, digit-ext, a-member, pow-only}
+use Rattle.search.specs.Costs.{costOf, Numbered, Price, Floor, CoverBetween, Fresh, Bound}
+use Rattle.bits.proofs.Digits.{eq?, digit-lt, digit-or, a-member, pow-only}
 use Rattle.bits.proofs.Members.{not-zero, and-left, and-right, and-both}
-use Rattle.bits.proofs.Parts.{by-members, part-self, the-member}
+use Rattle.bits.proofs.Parts.{by-members, part-self, the-member, apart-by, no-common, and-or}
 use Rattle.search.proofs.Costing.{cost-join, cost-part, cost-one, cost-small, cost-floor}
 use Rattle.search.proofs.Tightening.{meets}
 
@@ -38,22 +39,23 @@ past [] k le = refl
 past (x ∷ l) zero le = absurd (omega arith)
 past (x ∷ l) (suc k) le = past l k (omega arith)
 
-module _ (costs : List ℕ) (m : ℕ) (one : Single m) (fits : m < 2 ^ 64) where
-  price-is : getD costs (trailingZeros 64 m) 0 ≡ costOf costs m
-  unfolding Single
-  price-is =
-      let b : ℕ = one .0 in
-      let small : b < 64 = elim (decLt b 64) [ yes lt ↦ lt | no ge ↦ absurd (let le : 64 ≤ b = omega arith in let p : 2 ^ 64 ≤ 2 ^ b = pow-mono le in omega (arith, one .1)) ] in
-      ap (λ (n : ℕ). getD costs (trailingZeros 64 n) 0) (one .1)
-      ∙ ap (λ (n : ℕ). getD costs n 0) (trailing-power 64 b small)
-      ∙ sym (cost-one costs b)
-      ∙ ap (costOf costs) (sym (one .1))
+pub numbered : (m : ℕ) → Single m → m < 2 ^ 64 → Numbered m (trailingZeros 64 m)
+unfolding Single
+numbered m one fits =
+    let b : ℕ = one .0 in
+    let small : b < 64 = elim (decLt b 64) [ yes lt ↦ lt | no ge ↦ absurd (let le : 64 ≤ b = omega arith in let p : 2 ^ 64 ≤ 2 ^ b = pow-mono le in omega (arith, one .1)) ] in
+    let e : trailingZeros 64 m ≡ b = ap (trailingZeros 64) (one .1) ∙ trailing-power 64 b small in
+    record { small = omega arith; is = one .1 ∙ ap (λ (k : ℕ). 2 ^ k) (sym e) }
 
-  pub priced : getD costs (trailingZeros 64 m) 0 < 65536 → Price costs m (getD costs (trailingZeros 64 m) 0)
+module _ (costs : List ℕ) (m i : ℕ) (h : Numbered m i) where
+  price-is : getD costs i 0 ≡ costOf costs m
+  price-is = sym (cost-one costs i) ∙ ap (costOf costs) (sym (h .is))
+
+  pub priced : getD costs i 0 < 65536 → Price costs m (getD costs i 0)
   priced lt = record { is = price-is; small = lt }
 
-  pub priced-past : length costs ≤ trailingZeros 64 m → Price costs m 0
-  priced-past le = record { is = sym (past costs (trailingZeros 64 m) le) ∙ price-is; small = omega arith }
+  pub priced-past : length costs ≤ i → Price costs m 0
+  priced-past le = record { is = sym (past costs i le) ∙ price-is; small = omega arith }
 
 -- ---- the floor
 
@@ -94,22 +96,6 @@ pub record Packed (rows costs : List ℕ) (s free used sum : ℕ) : Type 0 where
   pub apart : bitAnd s used ≡ 0
   pub little : sum ≤ costOf costs used
   pub under : (t : ℕ) → CoverBetween rows s free t → sum ≤ costOf costs (bitAnd t used)
-
-pub apart-by : (a b : ℕ) → ((c : ℕ) → digit c a ≡ 1 → digit c b ≡ 1 → ⊥) → bitAnd a b ≡ 0
-apart-by a b f =
-    ⊎-elim (λ (e : bitAnd a b ≡ 0). e)
-    (λ (n : bitAnd a b ≡ 0 → ⊥).
-    let m : (c : ℕ) × (digit c (bitAnd a b) ≡ 1) = a-member (bitAnd a b) n in
-    absurd (f (m .0) (and-left (m .0) a b (m .1)) (and-right (m .0) a b (m .1))))
-    (eq? (bitAnd a b) 0)
-
-pub no-common : (a b c : ℕ) → bitAnd a b ≡ 0 → digit c a ≡ 1 → digit c b ≡ 1 → ⊥
-no-common a b c z p q = not-zero c (bitAnd a b) (and-both c a b p q) z
-
-and-or : (t a b : ℕ) → bitAnd t (bitOr a b) ≡ bitOr (bitAnd t a) (bitAnd t b)
-and-or t a b =
-    digit-ext (bitAnd t (bitOr a b)) (bitOr (bitAnd t a) (bitAnd t b)) λ c.
-    omega (arith, digit-and c t (bitOr a b), digit-or c a b, digit-or c (bitAnd t a) (bitAnd t b), digit-and c t a, digit-and c t b)
 
 pub packed-none : (rows costs : List ℕ) (s free : ℕ) → Packed rows costs s free 0 0
 packed-none rows costs s free = record {
@@ -154,12 +140,12 @@ packed-as rows costs s free {used} {used'} {sum} {sum'} e f h =
     subst (λ (u : ℕ). Packed rows costs s free u sum') (sym e) (subst (λ (v : ℕ). Packed rows costs s free used v) (sym f) h)
 
 -- the sum, and one cost more, stay small
-pub packed-small : (rows costs : List ℕ) (s free used sum : ℕ) → ((k : ℕ) → getD costs k 0 < 65536) → Packed rows costs s free used sum → sum ≤ 65536 * length costs
-packed-small rows costs s free used sum lt h = omega (arith, h .little, cost-small costs used lt)
+pub packed-small : (rows costs : List ℕ) (s free used sum : ℕ) → length costs ≤ 64 → ((k : ℕ) → getD costs k 0 < 65536) → Packed rows costs s free used sum → sum ≤ 4194305
+packed-small rows costs s free used sum l lt h = omega (arith, h .little, cost-small costs used lt)
 
-pub packed-all : (rows costs : List ℕ) (s free used sum : ℕ) → ((k : ℕ) → getD costs k 0 < 65536) → Packed rows costs s free used sum → Bound rows costs s free sum
+pub packed-all : (rows costs : List ℕ) (s free used sum : ℕ) → length costs ≤ 64 → ((k : ℕ) → getD costs k 0 < 65536) → Packed rows costs s free used sum → Bound rows costs s free sum
 unfolding CoverBetween Between
-packed-all rows costs s free used sum lt h = record {
+packed-all rows costs s free used sum l lt h = record {
   under = λ t r.
       let apart : bitAnd s (bitAnd t used) ≡ 0 = apart-by s (bitAnd t used) (λ c p q. no-common s used c (h .apart) p (and-right c t used q)) in
       let part : Part (bitOr s (bitAnd t used)) t = by-members (bitOr s (bitAnd t used)) t (λ c q. ⊎-elim
@@ -167,5 +153,16 @@ packed-all rows costs s free used sum lt h = record {
       (λ (e : digit c s ≡ 1 → ⊥). and-left c t used (omega (arith, digit-or c s (bitAnd t used), digit-lt c s, digit-lt c (bitAnd t used))))
       (eq? (digit c s) 1)) in
       omega (arith, h .under t r, cost-join costs s (bitAnd t used) apart, cost-part costs (bitOr s (bitAnd t used)) t part);
-  small = packed-small rows costs s free used sum lt h;
+  small = packed-small rows costs s free used sum l lt h;
+}
+
+-- a row with no member in s or free: no cover lies there
+pub bound-lost : (rows costs : List ℕ) (s free k : ℕ) → k < length rows → bitAnd (getD rows k 0) (bitOr s free) ≡ 0 → Bound rows costs s free 4194305
+unfolding CoverBetween Between Cover
+bound-lost rows costs s free k lt z = record {
+  under = λ t r.
+      let x : ℕ = getD rows k 0 in
+      let m : (c : ℕ) × (digit c (bitAnd x t) ≡ 1) = a-member (bitAnd x t) (r .0 k lt) in
+      absurd (no-common x (bitOr s free) (m .0) z (and-left (m .0) x t (m .1)) (r .1 .1 (m .0) (and-right (m .0) x t (m .1))));
+  small = omega arith;
 }

@@ -1,12 +1,14 @@
 -- Reduced rows have the same irredundant covers and the same cheapest.
-use Prim.Native.Nat.{ℕ, _^_, _<_}
-use mathlib.Core.Path.{_≡_, refl}
+use Prim.Native.Nat.{ℕ, _-_, _^_, _<_}
+use native.Mathlib.Omega.{arith}
+use mathlib.Core.Path.{_≡_, refl, sym, _∙_}
 use mathlib.Core.List.{List}
 use lib.Dec.{T}
 use lib.ListN.{length, take}
-use Rattle.model.specs.Sets.{cover, ofRows, irredundants, cost, cheapest}
+use lib.Pow.{pow-pos}
+use Rattle.model.specs.Sets.{cover, coverable, ofRows, irredundants, cost, cheapest}
 use Rattle.model.proofs.Lists.{bool-ext}
-use Rattle.model.proofs.Matrix.{irredundants-same, cheapest-same, from-length}
+use Rattle.model.proofs.Matrix.{irredundants-same, cheapest-same, coverable-all, from-length}
 use Rattle.search.specs.Reduction.{Reduced}
 use Rattle.search.proofs.Bridge.{cover-to, cover-from}
 use Rattle.search.proofs.Reducing.{reduced-cover, cover-reduced}
@@ -26,3 +28,9 @@ module _ (costs rows out : List ℕ) (r : ℕ) (d : Reduced rows out r) where
   pub reduced-cheapest : cheapest (ofRows costs rows) ≡ cheapest (ofRows costs (take r out))
   unfolding cost
   reduced-cheapest = cheapest-same (ofRows costs rows) (ofRows costs (take r out)) refl same-cover (λ s. refl)
+
+  pub reduced-coverable : coverable (ofRows costs rows) ≡ coverable (ofRows costs (take r out))
+  reduced-coverable =
+      coverable-all (ofRows costs rows)
+      ∙ same-cover (2 ^ length (ofRows costs rows .cands) - 1) (omega (arith, pow-pos (length (ofRows costs rows .cands))))
+      ∙ sym (coverable-all (ofRows costs (take r out)))

@@ -1,87 +1,31 @@
--- A free candidate for which another one stands in at no greater cost is not needed.
+-- A free candidate that meets no unmet row, or for which another one stands in at no greater cost, is not needed.
 use mathlib.Core.Path.{_≡_, refl, sym, ap, _∙_, subst}
 use mathlib.Core.Logic.{inl, inr, ⊎-elim}
 use mathlib.Core.List.{List}
-use Prim.Native.Nat.{ℕ, _+_, _-_, _≤_, _<_}
+use Prim.Native.Nat.{ℕ, _-_, _≤_, _<_}
 use native.Mathlib.Omega.{arith}
 use lib.ListN.{length, getD}
 use lib.Bits.{bitAnd, bitOr, bitXor}
+use Rattle.search.specs.declared.costs.Best.{Best}
 use Rattle.bits.specs.Bits.{digit, Single, Part, Minus, Member}
 use Rattle.search.specs.Covers.{Cover}
 use Rattle.search.specs.Pruning.{Between}
-use Rattle.search.specs.Costs.{costOf, Price, CoverBetween, Dominators, Cheaper, Thinned, Valued}
-use Rattle.bits.proofs.Digits.{eq?, digit-lt, digit-or, digit-ext, a-member, pow-only}
+use Rattle.search.specs.Costs.{costOf, Price, CoverBetween, Wanted, Dominators, Cheaper, Thinned, Attained, Valued}
+use Rattle.bits.proofs.Digits.{eq?, digit-lt, digit-or, a-member, pow-only}
 use Rattle.bits.proofs.Members.{not-zero, and-left, and-right, and-both}
-use Rattle.bits.proofs.Parts.{members, by-members, part-self, part-trans, minus-bits, minus-part, member-of-more}
-use Rattle.search.proofs.Costing.{cost-join, cost-part}
-use Rattle.bits.proofs.Parts.{apart-by, no-common}
-use Rattle.bits.proofs.Parts.{part-and-left, part-and-less}
+use Rattle.bits.proofs.Parts.{members, by-members, part-trans, minus-bits, minus-part, member-of-more}
+use Rattle.search.proofs.Costing.{cost-part, cost-either, cost-apart}
+use Rattle.bits.proofs.Parts.{no-common}
 
--- ---- the rows passed
-
-pub dominators-none : (rows : List ℕ) (s m a : ℕ) → Dominators rows 0 s m a
-unfolding Dominators
-dominators-none rows s m a k lt = absurd (omega arith)
-
-module _ (rows : List ℕ) (n s m a : ℕ) (h : Dominators rows n s m a) where
-  pub dominators-met : (bitAnd (getD rows n 0) s ≡ 0 → ⊥) → Dominators rows (n + 1) s m a
-  unfolding Dominators
-  dominators-met d k lt z q =
-      ⊎-elim (λ (e : k ≡ n). absurd (d (subst (λ (j : ℕ). bitAnd (getD rows j 0) s ≡ 0) e z))) (λ (e : k ≡ n → ⊥). h k (omega arith) z q) (eq? k n)
-
-  pub dominators-other : bitAnd (getD rows n 0) m ≡ 0 → Dominators rows (n + 1) s m a
-  unfolding Dominators
-  dominators-other d k lt z q =
-      ⊎-elim
-      (λ (e : k ≡ n). absurd (q (ap (λ (j : ℕ). bitAnd (getD rows j 0) m) e ∙ d)))
-      (λ (e : k ≡ n → ⊥). h k (omega arith) z q) (eq? k n)
-
-  pub dominators-take : Dominators rows (n + 1) s m (bitAnd a (getD rows n 0))
-  unfolding Dominators
-  dominators-take k lt z q =
-      ⊎-elim
-      (λ (e : k ≡ n). subst (λ (j : ℕ). Part (bitAnd a (getD rows n 0)) (getD rows j 0)) (sym e) (part-and-left a (getD rows n 0)))
-      (λ (e : k ≡ n → ⊥). part-and-less a (getD rows n 0) (getD rows k 0) (h k (omega arith) z q))
-      (eq? k n)
-
-pub dominators-all : (rows : List ℕ) (n s m a : ℕ) → n ≡ length rows → Dominators rows n s m a → Dominators rows (length rows) s m a
-dominators-all rows n s m a e h = subst (λ (j : ℕ). Dominators rows j s m a) e h
-
-pub cheaper-one : (costs : List ℕ) (x rest m p q : ℕ) → Part rest x → Member rest m → Price costs m q → q ≤ p → Cheaper costs x p m
+pub cheaper-one : (costs : List ℕ) (x rest d m p q : ℕ) → Part rest x → Member rest d → Price costs d q → Price costs m p → q ≤ p → Cheaper costs x m d
 unfolding Cheaper
-cheaper-one costs x rest m p q h one pr le n = (member-of-more rest x m h one, omega (arith, pr .is))
+cheaper-one costs x rest d m p q h one dr mr le n = (member-of-more rest x d h one, omega (arith, dr .is, mr .is))
 
-pub cheaper-none : (costs : List ℕ) (x p : ℕ) → Cheaper costs x p 0
+pub cheaper-none : (costs : List ℕ) (x m : ℕ) → Cheaper costs x m 0
 unfolding Cheaper
-cheaper-none costs x p n = absurd (n refl)
-
--- ---- costs
-
--- sets cost together no more than apart
-cost-either : (ws : List ℕ) (x y : ℕ) → costOf ws (bitOr x y) ≤ costOf ws x + costOf ws y
-unfolding Minus
-cost-either ws x y =
-    let d : ℕ = bitXor y (bitAnd y x) in
-    let m : (c : ℕ) → digit c d ≡ digit c y - digit c x = minus-bits y x in
-    let whole : bitOr x d ≡ bitOr x y = digit-ext (bitOr x d) (bitOr x y) (λ c. omega (arith, m c, digit-or c x d, digit-or c x y, digit-lt c x, digit-lt c y)) in
-    let apart : bitAnd x d ≡ 0 = apart-by x d (λ c p q. omega (arith, m c, digit-lt c y)) in
-    omega (arith, cost-join ws x d apart, ap (costOf ws) whole, cost-part ws d y (minus-part y x d (minus-bits y x)))
-
--- a set is one of its members and the rest
-pub cost-apart : (ws : List ℕ) (t m r : ℕ) → Part m t → Minus t m r → costOf ws t ≡ costOf ws m + costOf ws r
-unfolding Minus
-cost-apart ws t m r p d =
-    let whole : bitOr m r ≡ t = digit-ext (bitOr m r) t (λ c. ⊎-elim
-    (λ (e : digit c m ≡ 1). omega (arith, members m t p c e, d c, digit-or c m r))
-    (λ (e : digit c m ≡ 1 → ⊥). omega (arith, d c, digit-or c m r, digit-lt c m, digit-lt c t))
-    (eq? (digit c m) 1)) in
-    let apart : bitAnd m r ≡ 0 = apart-by m r (λ c p' q. omega (arith, d c, digit-lt c t)) in
-    ap (costOf ws) (sym whole) ∙ cost-join ws m r apart
+cheaper-none costs x m n = absurd (n refl)
 
 -- ---- the swap
-
-pub thinned-self : (rows costs : List ℕ) (s free : ℕ) → Thinned rows costs s free free
-thinned-self rows costs s free = record { part = part-self free; swap = λ t r. (t, r, omega arith) }
 
 pub thinned-trans : (rows costs : List ℕ) (s free f g : ℕ) → Thinned rows costs s free f → Thinned rows costs s f g → Thinned rows costs s free g
 thinned-trans rows costs s free f g p q = record {
@@ -93,9 +37,9 @@ thinned-trans rows costs s free f g p q = record {
 }
 
 -- b stands in for m
-module _ (rows costs : List ℕ) (s free m f doms p b : ℕ) (one : Single m) (d : Minus free m f) (h : Dominators rows (length rows) s m doms)
-    (pr : Price costs m p) (c : Cheaper costs (bitAnd f doms) p b) (nz : b ≡ 0 → ⊥) where
-  by : Member (bitAnd f doms) b × (costOf costs b ≤ p)
+module _ (rows costs : List ℕ) (s free m f doms b : ℕ) (one : Single m) (d : Minus free m f) (h : Dominators rows (length rows) s m doms)
+    (c : Cheaper costs (bitAnd f doms) m b) (nz : b ≡ 0 → ⊥) where
+  by : Member (bitAnd f doms) b × (costOf costs b ≤ costOf costs m)
   unfolding Cheaper
   by = c nz
 
@@ -179,7 +123,7 @@ module _ (rows costs : List ℕ) (s free m f doms p b : ℕ) (one : Single m) (d
     dear : costOf costs other ≤ costOf costs t
     unfolding other rest
     dear =
-        omega (arith, cost-either costs rest b, cost-apart costs t m rest (by-members m t has) (minus-bits t m), pr .is, by .1)
+        omega (arith, cost-either costs rest b, cost-apart costs t m rest (by-members m t has) (minus-bits t m), by .1)
 
     swapped : (u : ℕ) × CoverBetween rows s f u × (costOf costs u ≤ costOf costs t)
     unfolding CoverBetween Between
@@ -205,6 +149,62 @@ module _ (rows costs : List ℕ) (s free m f doms p b : ℕ) (one : Single m) (d
       only : (e : ℕ) → digit e m ≡ 1 → e ≡ a
       only e q = pow-only e a (sym (ap (digit e) (one .1)) ∙ q)
 
+-- what meets no unmet row is not needed
+module _ (rows costs : List ℕ) (s free u : ℕ) (h : Wanted rows (length rows) s u) (t : ℕ) (r : CoverBetween rows s free t) where
+  trimmed : ℕ
+  trimmed = bitOr s (bitAnd t u)
+
+  trimmed-cover : Cover rows trimmed
+  unfolding trimmed Cover CoverBetween Wanted
+  trimmed-cover k lt w =
+      let x : ℕ = getD rows k 0 in
+      ⊎-elim
+      (λ (z : bitAnd x s ≡ 0).
+      let e : (e : ℕ) × (digit e (bitAnd x t) ≡ 1) = a-member (bitAnd x t) (r .0 k lt) in
+      let c : ℕ = e .0 in
+      let in-x : digit c x ≡ 1 = and-left c x t (e .1) in
+      let in-tu : digit c (bitAnd t u) ≡ 1 = and-both c t u (and-right c x t (e .1)) (members x u (h k lt z) c in-x) in
+      no-common x (bitOr s (bitAnd t u)) c w in-x (omega (arith, digit-or c s (bitAnd t u), digit-lt c s)))
+      (λ (z : bitAnd x s ≡ 0 → ⊥).
+      let e : (e : ℕ) × (digit e (bitAnd x s) ≡ 1) = a-member (bitAnd x s) z in
+      let c : ℕ = e .0 in
+      let in-s : digit c s ≡ 1 = and-right c x s (e .1) in
+      no-common x (bitOr s (bitAnd t u)) c w (and-left c x s (e .1)) (omega (arith, digit-or c s (bitAnd t u), digit-lt c (bitAnd t u))))
+      (eq? (bitAnd x s) 0)
+
+  trimmed-between : Between s (bitAnd free u) trimmed
+  unfolding trimmed CoverBetween Between
+  trimmed-between = (
+    λ c q. omega (arith, digit-or c s (bitAnd t u), digit-lt c (bitAnd t u)),
+    λ c q. ⊎-elim
+        (λ (e : digit c s ≡ 1). omega (arith, digit-or c s (bitAnd free u), digit-lt c (bitAnd free u)))
+        (λ (e : digit c s ≡ 1 → ⊥).
+        let in-tu : digit c (bitAnd t u) ≡ 1 = omega (arith, digit-or c s (bitAnd t u), digit-lt c s, digit-lt c (bitAnd t u)) in
+        let either : digit c (bitOr s free) ≡ 1 = r .1 .1 c (and-left c t u in-tu) in
+        let in-free : digit c free ≡ 1 = omega (arith, digit-or c s free, digit-lt c s, digit-lt c free) in
+        let in-fu : digit c (bitAnd free u) ≡ 1 = and-both c free u in-free (and-right c t u in-tu) in
+        omega (arith, digit-or c s (bitAnd free u), digit-lt c s))
+        (eq? (digit c s) 1),
+  )
+
+  trimmed-part : Part trimmed t
+  unfolding trimmed CoverBetween Between
+  trimmed-part = by-members (bitOr s (bitAnd t u)) t (λ c q. ⊎-elim
+      (λ (e : digit c s ≡ 1). r .1 .0 c e)
+      (λ (e : digit c s ≡ 1 → ⊥). and-left c t u (omega (arith, digit-or c s (bitAnd t u), digit-lt c s, digit-lt c (bitAnd t u))))
+      (eq? (digit c s) 1))
+
+-- what is both free and wanted is free
+pub free-part : (free u : ℕ) → Part (bitAnd free u) free
+free-part free u = by-members (bitAnd free u) free (λ c m. and-left c free u m)
+
+pub thinned-wanted : (rows costs : List ℕ) (s free u : ℕ) → Wanted rows (length rows) s u → Thinned rows costs s free (bitAnd free u)
+unfolding CoverBetween
+thinned-wanted rows costs s free u h = record {
+  part = free-part free u;
+  swap = λ t r. (trimmed rows costs s free u h t r, (trimmed-cover rows costs s free u h t r, trimmed-between rows costs s free u h t r), cost-part costs (trimmed rows costs s free u h t r) t (trimmed-part rows costs s free u h t r));
+}
+
 -- ---- the value
 
 reached-wider : (rows : List ℕ) (s f free t : ℕ) → Part f free → CoverBetween rows s f t → CoverBetween rows s free t
@@ -220,13 +220,14 @@ reached-wider rows s f free t p r = (
   ),
 )
 
-pub valued-thinned : (rows costs : List ℕ) (s free f best r : ℕ) → Thinned rows costs s free f → Valued rows costs s f best r → Valued rows costs s free best r
+pub valued-thinned : (rows costs : List ℕ) (s free f : ℕ) (best r : Best) → Thinned rows costs s free f → Valued rows costs s f best r → Valued rows costs s free best r
 valued-thinned rows costs s free f best r h v = record {
   within = v .within;
-  attained = ⊎-elim
+  found = ⊎-elim
       (λ (e : r ≡ best). inl e)
-      (λ (w : (t : ℕ) × CoverBetween rows s f t × (costOf costs t ≡ r)). inr (w .0, reached-wider rows s f free (w .0) (h .part) (w .1), w .2))
-      (v .attained);
+      (λ (w : Attained rows costs s f r × (r .cost < best .cost)).
+      inr (record { cover = reached-wider rows s f free (r .set) (h .part) (w .0 .cover); cost-is = w .0 .cost-is }, w .1))
+      (v .found);
   least = λ t q.
       let u : (u : ℕ) × CoverBetween rows s f u × (costOf costs u ≤ costOf costs t) = h .swap t q in
       omega (arith, u .2, v .least (u .0) (u .1));

@@ -1,93 +1,24 @@
 -- The narrowing of a set and what it can grow by: each step loses no irredundant cover.
 use mathlib.Core.Path.{_≡_, refl, sym, ap, _∙_, subst}
-use mathlib.Core.Bool.{true, false}
-use mathlib.Core.Logic.{⊎-elim}
+use mathlib.Core.Bool.{Bool, true, false, not}
+use mathlib.Core.Logic.{inl, inr, ⊎-elim}
 use mathlib.Core.List.{List}
-use Prim.Native.Nat.{ℕ, _+_, _^_, _<_}
+use Prim.Native.Nat.{ℕ, _^_, _<_}
 use native.Mathlib.Omega.{arith}
 use lib.ListN.{length, getD}
 use lib.Bits.{bitAnd, bitOr, and-le-l}
 use Rattle.search.specs.declared.pruning.Tight.{Tight}
-use Rattle.bits.specs.Bits.{digit, Single, Part, Minus, Member}
-use Rattle.search.specs.Covers.{Cover, Irredundant, Own, Privates}
-use Rattle.search.specs.Pruning.{Unmet, Common, Between, IrredundantBetween, NoneBetween, Drops, Tightened}
+use Rattle.search.specs.declared.pruning.Scan.{Scan}
+use Rattle.bits.specs.Bits.{digit, Single, Minus}
+use Rattle.search.specs.Covers.{Cover, Irredundant, Own}
+use Rattle.search.specs.Pruning.{Unmet, Between, IrredundantBetween, NoneBetween, Forced, Taken, Scanned, Stuck, Tightened}
 use Rattle.bits.proofs.Digits.{eq?, digit-lt, digit-of-zero, digit-and, digit-or, a-member, pow-here, pow-only}
 use Rattle.bits.proofs.Decide.{true-is-not-false}
 use Rattle.bits.proofs.Members.{and-left, and-right, and-both, not-zero}
 use Rattle.search.proofs.Sets.{own-rows, own-row-fewer, own-fewer, all-privates}
-use Rattle.bits.proofs.Parts.{part-le, members, by-members, minus-part, the-member}
+use Rattle.bits.proofs.Parts.{part-le, members, minus-part, apart-by}
 
--- ---- the rows passed
-
-pub unmet-none : (rows : List ℕ) (s : ℕ) → Unmet rows 0 s 0
-unfolding Unmet
-unmet-none rows s k lt = absurd (omega arith)
-
-part-or-left : (x a b : ℕ) → Part x a → Part x (bitOr a b)
-part-or-left x a b p =
-    by-members x (bitOr a b) (λ c m. omega (arith, members x a p c m, digit-or c a b, digit-lt c b))
-
-part-or-right : (a b : ℕ) → Part b (bitOr a b)
-part-or-right a b = by-members b (bitOr a b) (λ c m. omega (arith, digit-or c a b, digit-lt c a))
-
-module _ (rows : List ℕ) (n s u : ℕ) (h : Unmet rows n s u) where
-  pub unmet-skip : (bitAnd (getD rows n 0) s ≡ 0 → ⊥) → Unmet rows (n + 1) s u
-  unfolding Unmet
-  unmet-skip m k lt z =
-      ⊎-elim (λ e. absurd (m (subst (λ (j : ℕ). bitAnd (getD rows j 0) s ≡ 0) e z))) (λ d. h k (omega arith) z) (eq? k n)
-
-  pub unmet-take : Unmet rows (n + 1) s (bitOr u (getD rows n 0))
-  unfolding Unmet
-  unmet-take k lt z =
-      ⊎-elim
-      (λ e. subst (λ (j : ℕ). Part (getD rows j 0) (bitOr u (getD rows n 0))) (sym e) (part-or-right u (getD rows n 0)))
-      (λ d. part-or-left (getD rows k 0) u (getD rows n 0) (h k (omega arith) z))
-      (eq? k n)
-
-pub unmet-all : (rows : List ℕ) (n s u : ℕ) → n ≡ length rows → Unmet rows n s u → Unmet rows (length rows) s u
-unmet-all rows n s u e h = subst (λ (m : ℕ). Unmet rows m s u) e h
-
-pub common-none : (rows : List ℕ) (s m a : ℕ) → Common rows 0 s m a
-unfolding Common
-common-none rows s m a k lt = absurd (omega arith)
-
-pub part-and-left : (a b : ℕ) → Part (bitAnd a b) b
-part-and-left a b = by-members (bitAnd a b) b (λ c h. and-right c a b h)
-
-pub part-and-less : (a b x : ℕ) → Part a x → Part (bitAnd a b) x
-part-and-less a b x p = by-members (bitAnd a b) x (λ c h. members a x p c (and-left c a b h))
-
-module _ (rows : List ℕ) (n s m a : ℕ) (h : Common rows n s m a) where
-  pub common-skip : (bitAnd (getD rows n 0) s ≡ m → ⊥) → Common rows (n + 1) s m a
-  unfolding Common
-  common-skip d k lt z =
-      ⊎-elim (λ e. absurd (d (subst (λ (j : ℕ). bitAnd (getD rows j 0) s ≡ m) e z))) (λ q. h k (omega arith) z) (eq? k n)
-
-  pub common-take : Common rows (n + 1) s m (bitAnd a (getD rows n 0))
-  unfolding Common
-  common-take k lt z =
-      ⊎-elim
-      (λ e. subst (λ (j : ℕ). Part (bitAnd a (getD rows n 0)) (getD rows j 0)) (sym e) (part-and-left a (getD rows n 0)))
-      (λ q. part-and-less a (getD rows n 0) (getD rows k 0) (h k (omega arith) z))
-      (eq? k n)
-
-pub common-all : (rows : List ℕ) (n s m a : ℕ) → n ≡ length rows → Common rows n s m a → Common rows (length rows) s m a
-common-all rows n s m a e h = subst (λ (j : ℕ). Common rows j s m a) e h
-
--- ---- fewer free candidates
-
--- where s and free narrow to s and f, only the members outside s are asked
-between-fewer : (s free f t : ℕ) → Between s free t → ((b : ℕ) → digit b t ≡ 1 → (digit b s ≡ 1 → ⊥) → digit b free ≡ 1 → digit b f ≡ 1) → Between s f t
-unfolding Between
-between-fewer s free f t w g = (
-  w .0,
-  λ b m. ⊎-elim
-      (λ e. omega (arith, digit-or b s f, digit-lt b f))
-      (λ n.
-      let q : digit b (bitOr s free) ≡ 1 = w .1 b m in
-      omega (arith, digit-or b s f, digit-lt b s, g b m n (omega (arith, digit-or b s free, digit-lt b s, digit-lt b free))))
-      (eq? (digit b s) 1),
-)
+-- ---- what an irredundant cover t above s has
 
 -- a row whose only member of t is b
 module _ (h s t b : ℕ) (up : (c : ℕ) → digit c s ≡ 1 → digit c t ≡ 1) (own : bitAnd h t ≡ 2 ^ b) where
@@ -107,60 +38,7 @@ module _ (h s t b : ℕ) (up : (c : ℕ) → digit c s ≡ 1 → digit c t ≡ 1
       absurd (n (subst (λ (c : ℕ). digit c s ≡ 1) (own-is (m .0) (and-left (m .0) h s (m .1)) (up (m .0) in-s)) in-s)))
       (eq? (bitAnd h s) 0)
 
-pub drops-self : (rows : List ℕ) (s free : ℕ) → Drops rows s free free
-drops-self rows s free = record { less = omega arith; keeps = λ t w. w }
-
-pub drops-trans : (rows : List ℕ) (s free f g : ℕ) → Drops rows s free f → Drops rows s f g → Drops rows s free g
-drops-trans rows s free f g p q =
-    record { less = omega (arith, p .less, q .less); keeps = λ t w. q .keeps t (p .keeps t w) }
-
--- a candidate that meets no unmet row is in no irredundant cover above s
-pub drops-useless : (rows : List ℕ) (s free u : ℕ) → Unmet rows (length rows) s u → Drops rows s free (bitAnd free u)
-unfolding IrredundantBetween Between Own Unmet
-drops-useless rows s free u h = record {
-  less = and-le-l free u;
-  keeps = λ t w. (
-    w .0,
-    between-fewer s free (bitAnd free u) t (w .1)
-        (λ b m n q.
-        let r : Own rows (length rows) t b = own-rows rows t (w .0) b m in
-        let x : ℕ = getD rows (r .0) 0 in
-        and-both b free u q
-        (members x u (h (r .0) (r .1) (own-unmet x s t b (w .1 .0) (r .2) n)) b (own-has x s t b (w .1 .0) (r .2)))),
-  );
-}
-
--- what stands in every row of a member's own is in no irredundant cover above s
-pub drops-common : (rows : List ℕ) (s free m a f : ℕ) → Member s m → Common rows (length rows) s m a → Minus free a f → Drops rows s free f
-unfolding IrredundantBetween Between Own Common Minus
-drops-common rows s free m a f one h d = record {
-  less = part-le f free (minus-part free a f d);
-  keeps = λ t w. (
-    w .0,
-    between-fewer s free f t (w .1)
-        (λ b in-t n q.
-        let k : (c : ℕ) × (m ≡ 2 ^ c) × (digit c s ≡ 1) = the-member s m one in
-        let c : ℕ = k .0 in
-        let r : Own rows (length rows) t c = own-rows rows t (w .0) c (w .1 .0 c (k .2)) in
-        let x : ℕ = getD rows (r .0) 0 in
-        let o : bitAnd x s ≡ 2 ^ c = own-row-fewer x s t c (w .1 .0) (k .2) (r .2) in
-        let p : Part a x = h (r .0) (r .1) (o ∙ sym (k .1)) in
-        ⊎-elim
-        (λ (e : digit b a ≡ 1). absurd (n (subst (λ (j : ℕ). digit j s ≡ 1) (sym (own-is x s t c (w .1 .0) (r .2) b (members a x p b e) in-t)) (k .2))))
-        (λ (e : digit b a ≡ 1 → ⊥). omega (arith, d b, digit-lt b a))
-        (eq? (digit b a) 1)),
-  );
-}
-
--- ---- forced candidates
-
--- each irredundant cover between s and s | free has all of a
-unfoldable pub Forced : List ℕ → ℕ → ℕ → ℕ → Type 0
-Forced rows s free a = (t : ℕ) → IrredundantBetween rows s free t → (b : ℕ) → digit b a ≡ 1 → digit b t ≡ 1
-
-pub forced-none : (rows : List ℕ) (s free : ℕ) → Forced rows s free 0
-unfolding Forced
-forced-none rows s free t w b m = absurd (not-zero b 0 m refl)
+-- ---- rows that s does not meet
 
 module _ (rows : List ℕ) (s free k : ℕ) (lt : k < length rows) (z : bitAnd (getD rows k 0) s ≡ 0) where
   abbrev x : ℕ
@@ -187,70 +65,123 @@ module _ (rows : List ℕ) (s free k : ℕ) (lt : k < length rows) (z : bitAnd (
       let m : (b : ℕ) × (digit b (bitAnd x free) ≡ 1) × (digit b t ≡ 1) = meets t (w .0 .0) (w .1) in
       not-zero (m .0) (bitAnd x free) (m .1) e
 
-  pub forced-more : (a : ℕ) → Single (bitAnd (getD rows k 0) free) → Forced rows s free a → Forced rows s free (bitOr a (bitAnd (getD rows k 0) free))
+  -- the only free candidate of the row is in each cover
+  pub row-forces : Single (bitAnd (getD rows k 0) free) → Forced rows s free (bitAnd (getD rows k 0) free)
   unfolding Forced Single IrredundantBetween Irredundant
-  forced-more a one f t w b m =
-      let q : (c : ℕ) × (digit c (bitAnd x free) ≡ 1) × (digit c t ≡ 1) = meets t (w .0 .0) (w .1) in
-      ⊎-elim
-      (λ (e : digit b a ≡ 1). f t w b e)
-      (λ (e : digit b a ≡ 1 → ⊥).
-      let in-x : digit b (bitAnd x free) ≡ 1 = omega (arith, digit-or b a (bitAnd x free), digit-lt b a) in
-      let same : (c : ℕ) → digit c (bitAnd x free) ≡ 1 → c ≡ one .0 = λ c h. pow-only c (one .0) (sym (ap (digit c) (one .1)) ∙ h) in
-      subst (λ (c : ℕ). digit c t ≡ 1) (same (q .0) (q .1) ∙ sym (same b in-x)) (q .2))
-      (eq? (digit b a) 1)
+  row-forces one b m = (
+    λ p. not-zero b (bitAnd x s) (and-both b x s (and-left b x free m) p) z,
+    λ t w.
+        let q : (c : ℕ) × (digit c (bitAnd x free) ≡ 1) × (digit c t ≡ 1) = meets t (w .0 .0) (w .1) in
+        let same : (c : ℕ) → digit c (bitAnd x free) ≡ 1 → c ≡ one .0 = λ c h. pow-only c (one .0) (sym (ap (digit c) (one .1)) ∙ h) in
+        subst (λ (c : ℕ). digit c t ≡ 1) (same (q .0) (q .1) ∙ sym (same b m)) (q .2),
+  )
 
 -- ---- one pass
 
-pub barren-dead : (rows : List ℕ) (s free s' : ℕ) (r : Tight) → r ≡ record { dead = true; s = s'; free = free } → NoneBetween rows s free → Tightened rows s free r
-unfolding NoneBetween
-barren-dead rows s free s' r e h =
-    record { less = omega (arith, ap (λ (v : Tight). v .free) e); keeps = λ t w. absurd (h t w) }
+module _ (rows : List ℕ) (s free t : ℕ) (w : IrredundantBetween rows s free t) where
+  up : (c : ℕ) → digit c s ≡ 1 → digit c t ≡ 1
+  unfolding IrredundantBetween Between
+  up = w .1 .0
 
-pub forced-all : (rows : List ℕ) (s free a f : ℕ) → Forced rows s free a → Minus free a f
-    → Tightened rows s free (record { dead = false; s = bitOr s a; free = f })
-unfolding Forced IrredundantBetween Between Minus
-forced-all rows s free a f h d = record {
-  less = part-le f free (minus-part free a f d);
-  keeps = λ t w. (
-    refl,
-    (
+  own : (b : ℕ) → digit b t ≡ 1 → Own rows (length rows) t b
+  unfolding IrredundantBetween
+  own b m = own-rows rows t (w .0) b m
+
+  -- a member outside s meets a row that s does not
+  useful : (u b : ℕ) → Unmet rows (length rows) s u → digit b t ≡ 1 → (digit b s ≡ 1 → ⊥) → digit b u ≡ 1
+  unfolding Unmet Own
+  useful u b h m n =
+      let r : Own rows (length rows) t b = own b m in
+      let x : ℕ = getD rows (r .0) 0 in
+      members x u (h (r .0) (r .1) (own-unmet x s t b up (r .2) n)) b (own-has x s t b up (r .2))
+
+  -- and leaves each member of s a row of its own
+  harmless : (x b : ℕ) → Taken rows s x → digit b t ≡ 1 → (digit b s ≡ 1 → ⊥) → digit b x ≡ 1 → ⊥
+  unfolding Taken Own
+  harmless x b h m n q =
+      let k : (c : ℕ) × (digit c s ≡ 1) × ((j : ℕ) → j < length rows → bitAnd (getD rows j 0) s ≡ 2 ^ c → digit b (getD rows j 0) ≡ 1) = h b q in
+      let c : ℕ = k .0 in
+      let r : Own rows (length rows) t c = own c (up c (k .1)) in
+      let y : ℕ = getD rows (r .0) 0 in
+      let e : b ≡ c = own-is y s t c up (r .2) b (k .2 (r .0) (r .1) (own-row-fewer y s t c up (k .1) (r .2))) m in
+      n (subst (λ (j : ℕ). digit j s ≡ 1) (sym e) (k .1))
+
+  free-of : (x b : ℕ) → Taken rows s x → digit b t ≡ 1 → (digit b s ≡ 1 → ⊥) → digit b x ≡ 0
+  free-of x b h m n =
+      ⊎-elim (λ (q : digit b x ≡ 1). absurd (harmless x b h m n q)) (λ (q : digit b x ≡ 1 → ⊥). omega (arith, digit-lt b x)) (eq? (digit b x) 1)
+
+  module _ (g : Scan) (h : Scanned rows s free g) where
+    goes-on : g .dead ≡ false
+    unfolding NoneBetween
+    goes-on = go (g .dead) refl
+      where
+        go : (d : Bool) → g .dead ≡ d → g .dead ≡ false
+        go true e = absurd (h .lost e t w)
+        go false e = e
+
+    not-stuck : Stuck g s → ⊥
+    unfolding Stuck Forced
+    not-stuck (inl e) = true-is-not-false (sym e ∙ goes-on)
+    not-stuck (inr (inl d)) = d (all-privates rows s (g .owners) (h .owners goes-on) (λ b m. own-fewer rows (length rows) s t b up m (own b (up b m))))
+    not-stuck (inr (inr d)) = d (apart-by (g .forced) (g .taken) (λ b p q.
+        let f = h .forced goes-on b p in harmless (g .taken) b (h .taken goes-on) (f .1 t w) (f .0) q))
+
+    -- the cover is between s with what is forced and the free ones that are left
+    narrower : (left rest : ℕ) → Minus (bitAnd free (g .unmet)) (g .taken) left → Minus left (g .forced) rest → IrredundantBetween rows (bitOr s (g .forced)) rest t
+    unfolding IrredundantBetween Between Minus Forced
+    narrower left rest dl dr = (
       w .0,
       (
-        λ b m. ⊎-elim (λ (e : digit b s ≡ 1). w .1 .0 b e)
-            (λ (e : digit b s ≡ 1 → ⊥). h t w b (omega (arith, digit-or b s a, digit-lt b s, digit-lt b a))) (eq? (digit b s) 1),
-        λ b m. omega (arith, w .1 .1 b m, d b, digit-or b s free, digit-or b s a, digit-or b (bitOr s a) f, digit-lt b s, digit-lt b a, digit-lt b free, digit-lt b f),
+        λ b m. ⊎-elim (λ (e : digit b s ≡ 1). up b e)
+            (λ (e : digit b s ≡ 1 → ⊥). h .forced goes-on b (omega (arith, digit-or b s (g .forced), digit-lt b s, digit-lt b (g .forced))) .1 t w)
+            (eq? (digit b s) 1),
+        λ b m. ⊎-elim
+            (λ (e : digit b s ≡ 1). omega (arith, digit-or b s (g .forced), digit-or b (bitOr s (g .forced)) rest, digit-lt b (g .forced), digit-lt b rest))
+            (λ (e : digit b s ≡ 1 → ⊥).
+            let fr : digit b free ≡ 1 = omega (arith, w .1 .1 b m, digit-or b s free, digit-lt b s, digit-lt b free) in
+            let us : digit b (g .unmet) ≡ 1 = useful (g .unmet) b (h .unmet goes-on) m e in
+            let ok : digit b (g .taken) ≡ 0 = free-of (g .taken) b (h .taken goes-on) m e in
+            let l : digit b left ≡ 1 = omega (arith, dl b, and-both b free (g .unmet) fr us) in
+            omega (arith, dr b, digit-or b s (g .forced), digit-or b (bitOr s (g .forced)) rest, digit-lt b (g .forced), digit-lt b s))
+            (eq? (digit b s) 1),
       ),
-    ),
+    )
+
+pub settled : (rows : List ℕ) (s free : ℕ) (g : Scan) → Scanned rows s free g → (left rest : ℕ) (d : Bool) → Minus (bitAnd free (g .unmet)) (g .taken) left
+    → Minus left (g .forced) rest → (d ≡ true → Stuck g s) → Tightened rows s free (record { dead = d; s = bitOr s (g .forced); free = rest })
+settled rows s free g h left rest d dl dr f = record {
+  less = omega (
+    arith,
+    part-le rest left (minus-part left (g .forced) rest dr),
+    part-le left (bitAnd free (g .unmet)) (minus-part (bitAnd free (g .unmet)) (g .taken) left dl),
+    and-le-l free (g .unmet),
   );
+  keeps = λ t w. (alive d refl t w, narrower rows s free t w g h left rest dl dr);
 }
-
--- a member without a row of its own is in no irredundant cover
-pub no-private : (rows : List ℕ) (s free a : ℕ) → Privates rows s a → (a ≡ s → ⊥) → NoneBetween rows s free
-unfolding NoneBetween IrredundantBetween Between
-no-private rows s free a p n t w =
-    n (all-privates rows s a p (λ b m. own-fewer rows (length rows) s t b (w .1 .0) m (own-rows rows t (w .0) b (w .1 .0 b m))))
-
-pub tightened-after : (rows : List ℕ) (s free f g : ℕ) (r : Tight) → Drops rows s free f → Drops rows s f g → Tightened rows s g r → Tightened rows s free r
-tightened-after rows s free f g r p q h = record {
-  less = omega (arith, p .less, q .less, h .less);
-  keeps = λ t w. h .keeps t (q .keeps t (p .keeps t w));
-}
+  where
+    alive : (b : Bool) → d ≡ b → (t : ℕ) → IrredundantBetween rows s free t → b ≡ false
+    alive true e t w = absurd (not-stuck rows s free t w g h (f e))
+    alive false e t w = refl
 
 -- ---- pass after pass
 
--- each irredundant cover between s and s | free is between base and base | rest
-unfoldable pub Narrowed : List ℕ → ℕ → ℕ → ℕ → ℕ → Type 0
-Narrowed rows s free base rest = (t : ℕ) → IrredundantBetween rows s free t → IrredundantBetween rows base rest t
+-- s and free as they are
+abbrev pub untouched : ℕ → ℕ → Tight
+untouched s free = record { dead = false; s = s; free = free }
 
-pub narrowed-self : (rows : List ℕ) (s free : ℕ) → Narrowed rows s free s free
-unfolding Narrowed
-narrowed-self rows s free t w = w
+pub narrowed-self : (rows : List ℕ) (s free : ℕ) → Tightened rows s free (untouched s free)
+narrowed-self rows s free = record { less = omega arith; keeps = λ t w. (refl, w) }
 
-module _ (rows : List ℕ) (s free base rest : ℕ) (r : Tight) (n : Narrowed rows s free base rest) (h : Tightened rows base rest r) where
-  pub narrowed-more : Narrowed rows s free (r .s) (r .free)
-  unfolding Narrowed
-  narrowed-more t w = h .keeps t (n t w) .1
+pub narrowed-more : (rows : List ℕ) (s free base rest : ℕ) (r : Tight) → Tightened rows s free (untouched base rest) → Tightened rows base rest r
+    → Tightened rows s free r
+narrowed-more rows s free base rest r n h = record { less = omega (arith, n .less, h .less); keeps = λ t w. h .keeps t (n .keeps t w .1) }
 
-  pub narrowed-dead : r .dead ≡ true → NoneBetween rows s free
-  unfolding Narrowed NoneBetween
-  narrowed-dead e t w = true-is-not-false (sym e ∙ h .keeps t (n t w) .0)
+pub narrowed-on : (rows : List ℕ) (s free base rest : ℕ) (r : Tight) → Tightened rows s free (untouched base rest) → Tightened rows base rest r
+    → Tightened rows s free (untouched (r .s) (r .free))
+narrowed-on rows s free base rest r n h =
+    record { less = omega (arith, n .less, h .less); keeps = λ t w. (refl, h .keeps t (n .keeps t w .1) .1) }
+
+-- where it is not alive there is none
+pub narrowed-dead : (rows : List ℕ) (s free : ℕ) (r : Tight) → Tightened rows s free r → not (r .dead) ≡ false → NoneBetween rows s free
+unfolding NoneBetween
+narrowed-dead rows s free r h e t w = true-is-not-false (sym (ap not (h .keeps t w .0)) ∙ e)

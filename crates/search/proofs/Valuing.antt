@@ -8,16 +8,16 @@ use lib.ListN.{length, getD}
 use lib.Bits.{bitAnd, bitOr}
 use Rattle.search.specs.declared.branching.Choice.{Choice}
 use Rattle.search.specs.declared.branching.Choice.the-variants.{Done, Lost, Try}
+use Rattle.search.specs.declared.costs.Best.{Best}
 use Rattle.bits.specs.Bits.{digit, Single, Part, Minus, Member}
 use Rattle.search.specs.Covers.{Cover}
 use Rattle.search.specs.Pruning.{Between}
-use Rattle.search.specs.Costs.{costOf, Price, CoverBetween, Bound, Chosen, Valued}
+use Rattle.search.specs.Costs.{costOf, Price, CoverBetween, Bound, Chosen, Priced, Attained, Valued}
 use Rattle.bits.proofs.Digits.{eq?, digit-lt, digit-or, pow-only}
 use Rattle.bits.proofs.Members.{not-zero, and-left, and-right}
-use Rattle.bits.proofs.Parts.{members, by-members, member-of-more}
+use Rattle.bits.proofs.Parts.{members, by-members, member-of-more, apart-by, no-common}
 use Rattle.search.proofs.Costing.{cost-join, cost-part, cost-small}
 use Rattle.search.proofs.Tightening.{meets}
-use Rattle.bits.proofs.Parts.{apart-by, no-common}
 
 -- ---- the choice
 
@@ -79,21 +79,22 @@ chosen-lost rows s free k lt z e t r =
 
 -- ---- the value
 
-module _ (rows costs : List ℕ) (s free cost best : ℕ) (is : cost ≡ costOf costs s) where
-  pub valued-bound : (more : ℕ) → Bound rows costs s free more → best ≤ cost + more → Valued rows costs s free best best
+module _ (rows costs : List ℕ) (s free cost : ℕ) (best : Best) (is : cost ≡ costOf costs s) where
+  pub valued-bound : (more : ℕ) → Bound rows costs s free more → best .cost ≤ cost + more → Valued rows costs s free best best
   valued-bound more h le = record {
     within = omega arith;
-    attained = inl refl;
+    found = inl refl;
     least = λ t r. omega (arith, h .under t r);
   }
 
-  pub valued-done : (choice : Choice) (more : ℕ) → choice ≡ Done → Chosen rows s free choice → cost + more < best → Valued rows costs s free best cost
+  pub valued-done : (choice : Choice) (more : ℕ) → choice ≡ Done → Chosen rows s free choice → cost + more < best .cost
+      → Valued rows costs s free best (record { cost = cost; set = s })
   unfolding Chosen CoverBetween Between
   valued-done choice more e c₀ lt =
       let c : Chosen rows s free Done = subst (Chosen rows s free) e c₀ in
       record {
         within = omega arith;
-        attained = inr (s, (c, (λ b m. m, λ b m. omega (arith, digit-or b s free, digit-lt b free))), sym is);
+        found = inr (record { cover = (c, (λ b m. m, λ b m. omega (arith, digit-or b s free, digit-lt b free))); cost-is = sym is }, omega arith);
         least = λ t r. omega (arith, cost-part costs s t (by-members s t (r .1 .0)));
       }
 
@@ -101,7 +102,7 @@ module _ (rows costs : List ℕ) (s free cost best : ℕ) (is : cost ≡ costOf 
   unfolding Chosen
   valued-lost choice e c₀ =
       let c : Chosen rows s free Lost = subst (Chosen rows s free) e c₀ in
-      record { within = omega arith; attained = inl refl; least = λ t r. absurd (c t r) }
+      record { within = omega arith; found = inl refl; least = λ t r. absurd (c t r) }
 
 -- a candidate to try: in free, and not in s
 pub tried : (rows : List ℕ) (s free : ℕ) (choice : Choice) (m : ℕ) → choice ≡ Try m → Chosen rows s free choice → Member free m × (bitAnd s m ≡ 0)
@@ -161,27 +162,40 @@ module _ (rows : List ℕ) (s free m rest : ℕ) (one : Member free m) (d : Minu
     (r .1 .0, λ b q. omega (arith, r .1 .1 b q, d b, digit-or b s free, digit-or b s rest, digit-lt b s, digit-lt b m, digit-lt b free)),
   )
 
-pub valued-both : (rows costs : List ℕ) (s free m rest best with r : ℕ) → Member free m → Minus free m rest
+pub valued-both : (rows costs : List ℕ) (s free m rest : ℕ) (best with r : Best) → Member free m → Minus free m rest
     → Valued rows costs (bitOr s m) rest best with → Valued rows costs s rest with r → Valued rows costs s free best r
 valued-both rows costs s free m rest best with r one d u v = record {
   within = omega (arith, u .within, v .within);
-  attained = ⊎-elim
+  found = ⊎-elim
       (λ (e : r ≡ with). ⊎-elim
       (λ (f : with ≡ best). inl (e ∙ f))
-      (λ (f : (t : ℕ) × CoverBetween rows (bitOr s m) rest t × (costOf costs t ≡ with)). inr (f .0, from-with rows s free m rest one d (f .0) (f .1), f .2 ∙ sym e))
-      (u .attained))
-      (λ (f : (t : ℕ) × CoverBetween rows s rest t × (costOf costs t ≡ r)). inr (f .0, from-without rows s free m rest one d (f .0) (f .1), f .2))
-      (v .attained);
+      (λ (f : Attained rows costs (bitOr s m) rest with × (with .cost < best .cost)).
+      inr (subst (λ (x : Best). Attained rows costs s free x × (x .cost < best .cost)) (sym e)
+      (record { cover = from-with rows s free m rest one d (with .set) (f .0 .cover); cost-is = f .0 .cost-is }, f .1)))
+      (u .found))
+      (λ (f : Attained rows costs s rest r × (r .cost < with .cost)).
+      inr (record { cover = from-without rows s free m rest one d (r .set) (f .0 .cover); cost-is = f .0 .cost-is }, omega (arith, f .1, u .within)))
+      (v .found);
   least = λ t h. ⊎-elim
       (λ (p : bitAnd m t ≡ m). omega (arith, v .within, u .least t (reached-with rows s free m rest one d t p h)))
       (λ (n : bitAnd m t ≡ m → ⊥). v .least t (reached-without rows s free m rest one d t n h))
       (eq? (bitAnd m t) m);
 }
 
--- the cost with m
-pub cost-with : (costs : List ℕ) (s m cost p : ℕ) → cost ≡ costOf costs s → Price costs m p → bitAnd s m ≡ 0 → cost + p ≡ costOf costs (bitOr s m)
-cost-with costs s m cost p e q z = omega (arith, q .is, cost-join costs s m z)
+-- m is taken
+pub priced-with : (costs : List ℕ) (s m cost bound p : ℕ) → Priced costs s cost bound → Price costs m p → bitAnd s m ≡ 0 → Priced costs (bitOr s m) (cost + p) bound
+priced-with costs s m cost bound p h q z =
+    record { few = h .few; is = omega (arith, h .is, q .is, cost-join costs s m z); near = omega (arith, h .near) }
 
--- a set's cost, and one bound or price more, fit
-pub cost-fits : (costs : List ℕ) (s cost : ℕ) → length costs ≤ 64 → ((k : ℕ) → getD costs k 0 < 65536) → cost ≡ costOf costs s → cost ≤ 4194304
+-- a lower bound
+pub priced-less : (costs : List ℕ) (s cost bound bound' : ℕ) → Priced costs s cost bound → bound' ≤ bound → Priced costs s cost bound'
+priced-less costs s cost bound bound' h le = record { few = h .few; is = h .is; near = omega (arith, h .near) }
+
+-- a set's cost fits, and sums of a few
+pub cost-fits : (costs : List ℕ) (s cost : ℕ) → length costs ≤ 64 → ((k : ℕ) → getD costs k 0 < 65536) → cost ≡ costOf costs s → cost < 4194304
 cost-fits costs s cost l lt e = omega (arith, cost-small costs s lt)
+
+pub priced-fits : (costs : List ℕ) (s cost bound : ℕ) → ((k : ℕ) → getD costs k 0 < 65536) → Priced costs s cost bound → (cost < 4194304) × (bound < 8388609)
+priced-fits costs s cost bound lt h =
+    let f : cost < 4194304 = cost-fits costs s cost (h .few) lt (h .is) in
+    (f, omega (arith, h .near))

@@ -1,4 +1,5 @@
 pub mod Covers
 pub mod Reduction
 pub mod Pruning
+pub mod Lister
 pub mod Costs

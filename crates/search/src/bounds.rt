@@ -17,7 +17,8 @@ pub fn fresh(row: u64, s: u64, free: u64, used: u64) -> u64
     0
 }
 
-// What a cover between s and s | free costs more than s, at least: a floor for each of some disjoint unmet rows.
+// What a cover between s and s | free costs more than s, at least: a floor for each of some disjoint unmet rows. Where a row has
+// no member there, more than any set costs.
 pub fn bound(rows: &[u64], costs: &[u16], s: u64, free: u64) -> u64
     requires { ⌜ length (now costs) ≤ 64 ⌝ }
     ensures { λ r. ⌜ Bound (now (rows .entry)) (now (costs .entry)) s free r ⌝ }
@@ -26,6 +27,9 @@ pub fn bound(rows: &[u64], costs: &[u16], s: u64, free: u64) -> u64
     let mut sum: u64 = 0;
     let mut i = 0;
     while i < rows.len() {
+        if rows[i] & (s | free) == 0 {
+            return 4194305;
+        }
         let x = fresh(rows[i], s, free, used);
         if x != 0 {
             used = used | x;

@@ -2,11 +2,11 @@
 ghost use mathlib.Core.Path.{_≡_};
 ghost use mathlib.Core.Bool.{true, false};
 ghost use mathlib.Core.Logic.{_⊎_};
-ghost use Prim.Native.Nat.{_+_, _≤_, _<_};
+ghost use Prim.Native.Nat.{_<_};
 ghost use lib.ListN.{length};
 ghost use lib.Bits.{bitAnd};
 ghost use Rattle.bits.specs.Bits.{Part};
-ghost use Rattle.search.specs.Costs.{Closed, Component, JoinedValues};
+ghost use Rattle.search.specs.Costs.{Closed, Component};
 
 // Whether x is partly in a: it has members in a and others.
 pub fn straddles(x: u64, a: u64) -> bool
@@ -86,22 +86,4 @@ pub fn divides(s: u64, free: u64, a: u64, b: u64) -> bool
         }
     }
     false
-}
-
-// The value of two parts, from each one's with all of the other taken; best if it is not less.
-pub fn joined(best: u64, here: u64, there: u64, spent: u64) -> u64
-    requires { ⌜ spent ≤ here + there ⌝ }
-    ensures { λ r. ⌜ JoinedValues best here there spent r ⌝ }
-{
-    if 4194304 < here {
-        return best;
-    }
-    if 4194304 < there {
-        return best;
-    }
-    let sum = here + there - spent;
-    if sum < best {
-        return sum;
-    }
-    best
 }

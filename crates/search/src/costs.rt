@@ -3,15 +3,29 @@ ghost use mathlib.Core.Path.{_≡_};
 ghost use Prim.Native.Nat.{_≤_};
 ghost use lib.ListN.{length};
 ghost use Rattle.bits.specs.Bits.{Single};
-ghost use Rattle.search.specs.Costs.{costOf, Price, Floor};
+ghost use Rattle.search.specs.Costs.{costOf, Numbered, Price, Floor};
 use bits::set;
+
+// A set and its cost: the best cover known, or a cost to stay below.
+pub struct Best {
+    pub cost: u64,
+    pub set: u64,
+}
+
+// The number of the one candidate in m.
+pub fn number(m: u64) -> usize
+    requires { ⌜ Single m ⌝ }
+    ensures { λ r. ⌜ Numbered m r ⌝ }
+{
+    u64::trailing_zeros(m) as usize
+}
 
 // The cost of the one candidate in m.
 pub fn price(costs: &[u16], m: u64) -> u64
     requires { ⌜ Single m ⌝ }
     ensures { λ r. ⌜ Price (now (costs .entry)) m r ⌝ }
 {
-    let i = u64::trailing_zeros(m) as usize;
+    let i = number(m);
     if i < costs.len() {
         return costs[i] as u64;
     }

@@ -1,7 +1,11 @@
 // The irredundant covers, rising.
-ghost use Prim.Native.Nat.{_<_};
-ghost use Rattle.search.specs.Covers.{LeastIn, Node, Listed};
+ghost use mathlib.Core.Path.{_≡_};
+ghost use mathlib.Core.Bool.{false};
+ghost use Prim.Native.Nat.{_+_, _^_, _≤_};
+ghost use Rattle.search.specs.Covers.{Node};
+ghost use Rattle.search.specs.Lister.{LeastIn, Narrowed, rowCovers, sought, advanced, Paged};
 use crate::pruning;
+use crate::pruning::Tight;
 use crate::rows;
 use bits::set;
 
@@ -11,13 +15,14 @@ pub enum Found {
     Nothing,
 }
 
-// The least irredundant cover x that is at least start and in [s, s + 2^i).
-pub fn least(rows: &[u64], i: u64, s: u64, start: u64) -> Found
+// The least irredundant cover in [s, s + 2^i). All of them lie between t.s and t.s | t.free, so that a candidate which t has decided
+// costs no test; of one that is open, the half without it comes first.
+pub fn least(rows: &[u64], i: u64, s: u64, t: Tight) -> Found
     requires { ⌜ Node i s ⌝ }
-    ensures { λ r. ⌜ LeastIn (now (rows .entry)) i s start r ⌝ }
+    requires { ⌜ Narrowed (now rows) i s t ⌝ }
+    ensures { λ r. ⌜ LeastIn (now (rows .entry)) s (s + 2 ^ i) r ⌝ }
 {
-    let free = set::low_mask(i);
-    if s + free < start {
+    if t.dead {
         return Found::Nothing;
     }
     if i == 0 {
@@ -26,34 +31,128 @@ pub fn least(rows: &[u64], i: u64, s: u64, start: u64) -> Found
         }
         return Found::Nothing;
     }
-    if pruning::alive(rows, s, free) {
-        let j = i - 1;
-        let low = least(rows, j, s, start);
-        match low {
-            Found::At(x) => Found::At(x),
-            Found::Nothing => least(rows, j, s + set::power(j), start),
-        }
-    } else {
-        Found::Nothing
+    let j = i - 1;
+    let m = set::power(j);
+    if t.s & m != 0 {
+        return least(rows, j, s + m, t);
+    }
+    if t.free & m == 0 {
+        return least(rows, j, s, t);
+    }
+    let rest = set::minus(t.free, m);
+    let low = least(rows, j, s, pruning::narrow(rows, t.s, rest));
+    match low {
+        Found::At(x) => Found::At(x),
+        Found::Nothing => least(rows, j, s + m, pruning::narrow(rows, t.s | m, rest)),
     }
 }
 
-// Writes to out the irredundant covers below 2^n, in rising order, until there are no more or out is full. Returns how many.
-pub fn list(rows: &[u64], n: u64, out: &mut [u64]) -> usize
-    requires { ⌜ n < 64 ⌝ }
-    ensures { λ r. ⌜ Listed (now (rows .entry)) n (now (out .exit)) r ⌝ }
+// The least irredundant cover at or above at and below 2^n. From at, each 0 bit of at starts the next higher range of numbers: those
+// with this bit at 1, the bits above as in at, and the bits below free.
+pub fn climb(rows: &[u64], n: u64, at: u64) -> Found
+    requires { ⌜ n ≤ 64 ⌝ }
+    ensures { λ r. ⌜ LeastIn (now (rows .entry)) at (2 ^ n) r ⌝ }
 {
-    let mut start: u64 = 0;
-    let mut i = 0;
-    while i < out.len() {
-        match least(rows, n, 0, start) {
-            Found::At(x) => {
-                out[i] = x;
-                i += 1;
-                start = x + 1;
+    if set::low_mask(n) < at {
+        return Found::Nothing;
+    }
+    if rows::irredundant(rows, at) {
+        return Found::At(at);
+    }
+    let mut i: u64 = 0;
+    while i < n {
+        let m = set::power(i);
+        if at & m == 0 {
+            let s = at - (at & (m - 1)) + m;
+            let found = least(rows, i, s, pruning::narrow(rows, s, m - 1));
+            if let Found::At(x) = found {
+                return Found::At(x);
             }
-            Found::Nothing => return i,
+        }
+        i += 1;
+    }
+    Found::Nothing
+}
+
+// The lister's place: the next set is the least at or above at; none is left where it is over.
+pub struct Cursor {
+    pub at: u64,
+    pub over: bool,
+}
+
+impl Cursor {
+    pub fn new(start: u64) -> Cursor
+        ensures { λ r. ⌜ r ≡ record { at = start; over = false } ⌝ }
+    {
+        Cursor {
+            at: start,
+            over: false,
         }
     }
-    i
+
+    // Moves to the least irredundant cover at or above its place.
+    pub fn seek(self, rows: &[u64], n: u64) -> Cursor
+        requires { ⌜ n ≤ 64 ⌝ }
+        ensures { λ r. ⌜ r ≡ sought (rowCovers n (now (rows .entry))) self ⌝ }
+    {
+        if self.over {
+            return self;
+        }
+        match climb(rows, n, self.at) {
+            Found::At(x) => Cursor { at: x, over: false },
+            Found::Nothing => Cursor {
+                at: self.at,
+                over: true,
+            },
+        }
+    }
+
+    // Moves one above.
+    pub fn past(self) -> Cursor
+        ensures { λ r. ⌜ r ≡ advanced self ⌝ }
+    {
+        if self.over {
+            return self;
+        }
+        if self.at < 0xffff_ffff_ffff_ffff {
+            return Cursor {
+                at: self.at + 1,
+                over: false,
+            };
+        }
+        Cursor {
+            at: self.at,
+            over: true,
+        }
+    }
+}
+
+// How many sets were put into a row, and whether one stands above those.
+pub struct Filled {
+    pub count: usize,
+    pub more: bool,
+}
+
+// Puts into out the irredundant covers below 2^n and at or above start, rising, as many as fit. The rest of out stays.
+pub fn fill(rows: &[u64], n: u64, start: u64, out: &mut [u64]) -> Filled
+    requires { ⌜ n ≤ 64 ⌝ }
+    ensures { λ r. ⌜ Paged (rowCovers n (now (rows .entry))) start (now (out .entry)) (now (out .exit)) r ⌝ }
+{
+    let mut c = Cursor::new(start).seek(rows, n);
+    let mut i = 0;
+    while i < out.len() {
+        if c.over {
+            return Filled {
+                count: i,
+                more: false,
+            };
+        }
+        out[i] = c.at;
+        i += 1;
+        c = c.past().seek(rows, n);
+    }
+    Filled {
+        count: i,
+        more: !c.over,
+    }
 }

@@ -38,7 +38,7 @@ pub on-bytes : (p : Table) (n m : ℕ) (on : List ℕ) → p .n ≡ n → p .m �
 on-bytes p n m on i j e = record { inputs = i; outputs = j; bytes = same-byte (2 ^ n) (p .on) on e }
 
 -- a row that refusal 8 lets pass has no bit above the outputs
-small-bytes : (p : Table) (v : ℕ) → T (not (badVertex p v)) → (getD (p .on) v 0 < 2 ^ p .m) × (getD (p .dc) v 0 < 2 ^ p .m)
+pub small-bytes : (p : Table) (v : ℕ) → T (not (badVertex p v)) → (getD (p .on) v 0 < 2 ^ p .m) × (getD (p .dc) v 0 < 2 ^ p .m)
 small-bytes p v g = (
   small on (λ t. or-r shared (leb (2 ^ p .m) on || leb (2 ^ p .m) dc) (or-l (leb (2 ^ p .m) on) (leb (2 ^ p .m) dc) t)),
   small dc (λ t. or-r shared (leb (2 ^ p .m) on || leb (2 ^ p .m) dc) (or-r (leb (2 ^ p .m) on) (leb (2 ^ p .m) dc) t)),

@@ -4,7 +4,7 @@ use Prim.Native.Nat.{_-_, _≤_}
 use native.Mathlib.Omega.{arith}
 use lib.ListN.{length}
 use mathlib.Core.Logic.{⊎-elim}
-use Rattle.search.proofs.Bounding.{Packed, packed-none, packed-more, packed-as, packed-small, packed-all}
+use Rattle.search.proofs.Bounding.{Packed, packed-none, packed-more, packed-as, packed-small, packed-all, bound-lost}
 use Rattle.search.proofs.bounds.bound.Statement.{statement}
 use Rattle.search.proofs.bounds.bound.Tie as tie
 
@@ -16,6 +16,15 @@ abbrev μ-loop : tie.MeasureT-loop
 
 loop-holds : tie.Need-loop-holds Inv-loop μ-loop
 loop-holds c = (search needs, packed-none _ _ _ _)
+
+mul-if1 : tie.Need-mul-if1 Inv-loop μ-loop
+mul-if1 c = search needs
+
+shared-slice-read-if1 : tie.Need-shared-slice-read-if1 Inv-loop μ-loop
+shared-slice-read-if1 c = search needs
+
+returns : tie.Need-returns Inv-loop μ-loop
+returns c = bound-lost _ _ _ _ _ (omega arith) (c .if1 .taken)
 
 mul-fresh : tie.Need-mul-fresh Inv-loop μ-loop
 mul-fresh c = search needs
@@ -30,7 +39,7 @@ floor-requires : tie.Need-floor-requires Inv-loop μ-loop
 floor-requires c κs = search needs
 
 add-sum : tie.Need-add-sum Inv-loop μ-loop
-add-sum c = omega (arith, c .floor .ensures .small, packed-small _ _ _ _ _ _ (λ k. omega (arith, c .before .before .before .before .before .before .shared-slice-known2 .given k)) (c .before .before .before .before .before .loop .inv .1))
+add-sum c = omega (arith, c .floor .ensures .small, packed-small _ _ _ _ _ _ (c .before .before .before .before .before .before .before .before .before .before .pre) (λ k. omega (arith, c .before .before .before .before .before .before .before .before .shared-slice-known2 .given k)) (c .before .before .before .before .before .before .before .loop .inv .1))
 
 add-i : tie.Need-add-i Inv-loop μ-loop
 add-i c = search needs
@@ -39,16 +48,10 @@ loop-less : tie.Need-loop-less Inv-loop μ-loop
 loop-less c = search needs
 
 loop-again : tie.Need-loop-again Inv-loop μ-loop
-loop-again c = (
-  search needs,
-  ⊎-elim
-      (λ w. packed-as _ _ _ _ (w .2) (w .3) (packed-more _ _ _ _ _ _ _ _ _ (c .before .before .before .before .loop .inv .1) (omega arith) (c .before .fresh .ensures) (w .0 .taken) (w .1 .ensures)))
-      (λ w. packed-as _ _ _ _ (w .1) (w .2) (c .before .before .before .before .loop .inv .1))
-      (c .if1 .came),
-)
+loop-again c = (search needs, ⊎-elim (λ w. packed-as _ _ _ _ (w .2) (w .3) (packed-more _ _ _ _ _ _ _ _ _ (c .before .before .before .before .before .before .loop .inv .1) (omega arith) (c .before .fresh .ensures) (w .0 .taken) (w .1 .ensures))) (λ w. packed-as _ _ _ _ (w .1) (w .2) (c .before .before .before .before .before .before .loop .inv .1)) (c .if2 .came))
 
-returns : tie.Need-returns Inv-loop μ-loop
-returns c = packed-all _ _ _ _ _ _ (λ k. omega (arith, c .before .before .shared-slice-known2 .given k)) (c .before .loop .inv .1)
+returns-2 : tie.Need-returns-2 Inv-loop μ-loop
+returns-2 c = packed-all _ _ _ _ _ _ (c .before .before .before .before .pre) (λ k. omega (arith, c .before .before .shared-slice-known2 .given k)) (c .before .loop .inv .1)
 
 pub bound-spec : {M : Type 1} → statement M
 bound-spec =
@@ -57,6 +60,9 @@ bound-spec =
     Inv-loop
     μ-loop
     loop-holds
+    mul-if1
+    shared-slice-read-if1
+    returns
     mul-fresh
     shared-slice-read-fresh
     fresh-requires
@@ -65,4 +71,4 @@ bound-spec =
     add-i
     loop-less
     loop-again
-    returns)
+    returns-2)

@@ -1,13 +1,12 @@
 -- `search::costs::price` meets its contract.
-use borrow.Author.Needs.{needs}
 use native.Mathlib.Omega.{arith}
-use lib.Count.{trailingZeros, trailing-le}
 use Rattle.search.proofs.Bounding.{priced, priced-past}
+use borrow.Author.Needs.{needs}
 use Rattle.search.proofs.costs.price.Statement.{statement}
 use Rattle.search.proofs.costs.price.Tie as tie
 
-cast-i : tie.Need-cast-i
-cast-i c = omega (arith, trailing-le 64 (c .args .m))
+number-requires : tie.Need-number-requires
+number-requires c κs = search needs
 
 mul-result : tie.Need-mul-result
 mul-result c = search needs
@@ -16,14 +15,15 @@ shared-slice-read-result : tie.Need-shared-slice-read-result
 shared-slice-read-result c = search needs
 
 cast-result : tie.Need-cast-result
-cast-result c = omega (arith, c .shared-slice-known .given (trailingZeros 64 (c .before .before .args .m)))
+cast-result c = omega (arith, c .shared-slice-known2 .given (c .before .before .number .result))
 
 returns : tie.Need-returns
-returns c = priced _ _ (c .before .before .pre) (omega arith) (omega (arith, c .shared-slice-known .given (trailingZeros 64 (c .before .before .args .m))))
+returns c = priced _ _ _ (c .before .before .number .ensures) (omega (arith, c .shared-slice-known2 .given (c .before .before .number .result)))
 
 returns-2 : tie.Need-returns-2
-returns-2 c = priced-past _ _ (c .before .pre) (omega arith) (omega arith)
+returns-2 c = priced-past _ _ _ (c .before .number .ensures) (omega arith)
 
 pub price-spec : {M : Type 1} → statement M
 price-spec =
-    tie.close (tie.spec cast-i mul-result shared-slice-read-result cast-result returns returns-2)
+    tie.close
+    (tie.spec number-requires mul-result shared-slice-read-result cast-result returns returns-2)

@@ -5,7 +5,7 @@ use Prim.Native.Nat.{_+_}
 use native.Mathlib.Omega.{arith}
 use Rattle.search.specs.Costs.{costOf}
 use Rattle.bits.proofs.Parts.{minus-member-less}
-use Rattle.search.proofs.Parting.{totalled, total-fits, total-all}
+use Rattle.search.proofs.Costing.{totalled, total-fits, total-all}
 use Rattle.search.proofs.costs.total.Statement.{statement}
 use Rattle.search.proofs.costs.total.Tie as tie
 

@@ -1,29 +1,24 @@
 -- `search::pruning::tighten` meets its contract.
+use Rattle.search.proofs.Tightening.{settled}
 use borrow.Author.Needs.{needs}
-use mathlib.Core.Path.{refl}
-use Rattle.search.proofs.Tightening.{tightened-after, barren-dead, no-private}
 use Rattle.search.proofs.pruning.tighten.Statement.{statement}
 use Rattle.search.proofs.pruning.tighten.Tie as tie
 
-privates-requires : tie.Need-privates-requires
-privates-requires c κs = search needs
+gather-requires : tie.Need-gather-requires
+gather-requires c κs = search needs
 
-useful-requires : tie.Need-useful-requires
-useful-requires c κs = search needs
+minus-requires : tie.Need-minus-requires
+minus-requires c κs = search needs
 
-harmless-requires : tie.Need-harmless-requires
-harmless-requires c κs = search needs
+stuck-requires : tie.Need-stuck-requires
+stuck-requires c κs = search needs
 
-force-requires : tie.Need-force-requires
-force-requires c κs = search needs
+minus-requires-2 : tie.Need-minus-requires-2
+minus-requires-2 c κs = search needs
 
 returns : tie.Need-returns
-returns c = tightened-after _ _ _ _ _ _ (c .before .before .useful .ensures) (c .before .harmless .ensures) (c .force .ensures)
-
-returns-2 : tie.Need-returns-2
-returns-2 c = barren-dead _ _ _ _ _ refl (no-private _ _ _ _ (c .before .privates .ensures) (c .if1 .left))
+returns c = settled _ _ _ _ (c .before .before .before .before .before .gather .ensures) _ _ _ (c .before .before .before .minus .ensures) (c .minus2 .ensures) (c .before .before .stuck .ensures)
 
 pub tighten-spec : {M : Type 1} → statement M
 tighten-spec =
-    tie.close
-    (tie.spec privates-requires useful-requires harmless-requires force-requires returns returns-2)
+    tie.close (tie.spec gather-requires minus-requires stuck-requires minus-requires-2 returns)
