@@ -15,3 +15,4 @@ pub mod Narrowing
 pub mod Parting
 pub mod Pinning
 pub mod Optimality
+pub mod Ordering

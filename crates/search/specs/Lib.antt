@@ -3,3 +3,4 @@ pub mod Reduction
 pub mod Pruning
 pub mod Lister
 pub mod Costs
+pub mod Order

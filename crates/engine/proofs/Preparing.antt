@@ -1,0 +1,119 @@
+-- The laws behind the covering matrix: the rows of a problem, reduced, have its covers and its cheapest.
+use Prim.Native.Nat.{ℕ, zero, suc, _+_, _^_, _≤_, _<_}
+use native.Mathlib.Omega.{arith}
+use native.Mathlib.Numerals.{add-one}
+use mathlib.Core.Path.{_≡_, refl, sym, ap, ap₂, _∙_, subst, subst⁻¹}
+use mathlib.Core.Bool.{Bool, true, false}
+use mathlib.Core.List.{List, [], _∷_, _++_, map}
+use lib.Dec.{T}
+use lib.ListN.{getD, length, take, set, replicate, length-map, length-replicate, length-set}
+use lib.Pow.{pow-mono}
+use lib.Seq.{take-suc, take-suc-set, length-take-le}
+use Rattle.model.specs.Base.{bit, below}
+use Rattle.model.specs.declared.Term.{Term}
+use Rattle.model.specs.Table.{term, holds, onCells}
+use Rattle.model.specs.Sets.{covers, cover, coverable, irredundants, cheapest, ofRows, rowOf, members}
+use Rattle.model.specs.Candidates.{termCost, Basis, basis, covering}
+use Rattle.model.specs.Commands as model
+use Rattle.model.specs.Commands.{basisOf}
+use Rattle.model.proofs.Matrix.{irredundants-same, rows-irredundants, rows-cheapest, rows-coverable, from-length}
+use Rattle.search.specs.Reduction.{Reduced}
+use Rattle.search.proofs.Same.{reduced-irredundants, reduced-cheapest, reduced-coverable}
+use Rattle.search.specs.Order.{SameRows}
+use Rattle.search.proofs.Ordering.{ordered-irredundants, ordered-cheapest, ordered-coverable}
+use Rattle.table.specs.Rows.{OnBytes, Put, AllRows, TellsCoverable}
+use Rattle.table.proofs.Uses.{put-front, some-on-table}
+use Rattle.engine.specs.declared.problem.Problem.{Problem}
+use Rattle.engine.specs.Kinds.{isQueryKind}
+use Rattle.engine.specs.Problems.{Sized, Holds}
+use Rattle.engine.specs.Matrix.{TellsCovered, RowsOf, Prepares, Refreshed, Costs}
+
+-- the on bytes of the table that p holds
+pub held-on : (p : Problem) (q : model.Problem) → Sized p → Holds p q → OnBytes (q .table) (p .n) (p .m) (p .on)
+held-on p q z h = record { inputs = sym (h .inputs); outputs = sym (h .outputs); bytes = λ v l. h .on-bytes v (omega (arith, pow-mono (z .inputs))) }
+
+-- the candidates are those that p holds
+held-cands : (p : Problem) (q : model.Problem) → Holds p q → take (p .count) (p .terms) ≡ q .cands
+held-cands p q h = h .cands .same
+
+pub covered : (p : Problem) (r : Bool) → Sized p → TellsCoverable (p .on) (p .n) (p .m) (take (p .count) (p .terms)) r → TellsCovered p r
+covered p r z c q h = c (q .table) (held-on p q z h) ∙ ap (λ (ts : List Term). coverable (covering (basis (q .table) ts))) (held-cands p q h)
+
+-- ---- costs play no part in the listing
+
+costs-apart : (cs ds rows : List ℕ) → length cs ≡ length ds → irredundants (ofRows cs rows) ≡ irredundants (ofRows ds rows)
+unfolding cover covers
+costs-apart cs ds rows e =
+    irredundants-same (ofRows cs rows) (ofRows ds rows) (from-length 0 (length cs) ∙ e ∙ sym (from-length 0 (length ds)))
+    (λ s l. ap (λ (n : ℕ). covers bit rows (members (below n) s)) e)
+
+-- ---- the rows
+
+module _ (b : Basis) where
+  all-rows : List ℕ
+  all-rows = map (rowOf holds (b .cands)) (onCells (b .table))
+
+  all-costs : List ℕ
+  all-costs = map termCost (b .cands)
+
+  pub rows-of : (rows out : List ℕ) (r : ℕ) → rows ≡ map (rowOf holds (b .cands)) (onCells (b .table)) → Reduced rows out r → RowsOf b (take r out)
+  unfolding all-rows all-costs
+  rows-of rows out r e d = record {
+    listed = sym (rows-irredundants (covering b)) ∙ reduced-irredundants all-costs all-rows out r d' ∙ costs-apart all-costs (replicate (length (b .cands)) 0) (take r out) (length-map (b .cands) termCost ∙ sym (length-replicate (length (b .cands)) 0));
+    cheapest = sym (rows-cheapest (covering b)) ∙ reduced-cheapest all-costs all-rows out r d';
+    covered = sym (rows-coverable (covering b)) ∙ reduced-coverable all-costs all-rows out r d';
+  }
+    where
+      d' : Reduced (map (rowOf holds (b .cands)) (onCells (b .table))) out r
+      d' = subst (λ (xs : List ℕ). Reduced xs out r) e d
+
+-- the same rows in another order
+rows-ordered : (b : Basis) (rows sorted : List ℕ) → RowsOf b rows → SameRows rows sorted → RowsOf b sorted
+rows-ordered b rows sorted r d = record {
+  listed = r .listed ∙ ordered-irredundants (replicate (length (b .cands)) 0) rows sorted d;
+  cheapest = r .cheapest ∙ ordered-cheapest (map termCost (b .cands)) rows sorted d;
+  covered = r .covered ∙ ordered-coverable (map termCost (b .cands)) rows sorted d;
+}
+
+module _ (p : Problem) (z : Sized p) (old all : List ℕ) (k : ℕ) (a : AllRows (p .on) (p .n) (p .m) (take (p .count) (p .terms)) old all k) where
+  some-put : Put (map (rowOf holds (take (p .count) (p .terms))) (onCells (record { n = p .n; m = p .m; on = p .on; dc = [] }))) old all k
+  some-put = a (record { n = p .n; m = p .m; on = p .on; dc = [] }) (some-on-table (p .on) (p .n) (p .m))
+
+  pub few-rows : k ≤ 2048
+  few-rows = some-put .most
+
+  pub prepared : (out last new : List ℕ) (r : ℕ) → length out ≡ 2048 → length new ≡ 2048 → Reduced (take k all) out r → SameRows (take r out) last → take r new ≡ last → Prepares p new r
+  prepared out last new r l m d s e = record {
+    size = m;
+    within = omega (arith, d .within);
+    rows = λ q h. rows-ordered (basisOf q) (take r out) (take r new) (rows-of (basisOf q) (take k all) out r (rows-are q h) d) (subst⁻¹ (SameRows (take r out)) e s);
+  }
+    where
+      rows-are : (q : model.Problem) → Holds p q → take k all ≡ map (rowOf holds (q .cands)) (onCells (q .table))
+      rows-are q h = put-front _ old all k (a (q .table) (held-on p q z h)) ∙ ap (λ (ts : List Term). map (rowOf holds ts) (onCells (q .table))) (held-cands p q h)
+
+-- ---- rows that stand, rows made anew, and a command that looks at none
+
+pub refreshed-none : (p : Problem) (k : model.Kind) (ready : Bool) (count : ℕ) (rows : List ℕ) (b : Bool) → length rows ≡ 2048 → count ≤ 2048 → b ≡ isQueryKind k → b ≡ false → Refreshed p k ready count rows rows count
+refreshed-none p k ready count rows b s l e z = record { size = s; within = l; rows = λ q h f t. absurd (subst (λ (x : Bool). T x) (sym e ∙ z) t) }
+
+pub refreshed-same : (p : Problem) (k : model.Kind) (ready : Bool) (count : ℕ) (rows : List ℕ) → length rows ≡ 2048 → count ≤ 2048 → ready ≡ true → Refreshed p k ready count rows rows count
+refreshed-same p k ready count rows s l z = record { size = s; within = l; rows = λ q h f t. f z }
+
+pub refreshed-anew : (p : Problem) (k : model.Kind) (ready : Bool) (count : ℕ) (old new : List ℕ) (r : ℕ) → Prepares p new r → Refreshed p k ready count old new r
+refreshed-anew p k ready count old new r d = record { size = d .size; within = d .within; rows = λ q h f t. d .rows q h }
+
+-- ---- costs
+
+abbrev pub CostsBelow : List Term → ℕ → List ℕ → Type 0
+CostsBelow terms i all = (length all ≡ 64) × (take i all ≡ map termCost (take i terms))
+
+map-more : (xs : List Term) (t : Term) → map termCost (xs ++ (t ∷ [])) ≡ map termCost xs ++ (termCost t ∷ [])
+map-more [] t = refl
+map-more (x ∷ xs) t = ap (λ (l : List ℕ). termCost x ∷ l) (map-more xs t)
+
+pub costs-next : (terms : List Term) (i : ℕ) (all : List ℕ) (w : ℕ) → i < 64 → i < length terms → w ≡ termCost (getD terms i (term 0 0 0)) → CostsBelow terms i all → CostsBelow terms (i + 1) (set all i w)
+costs-next terms i all w l k e c = (
+  length-set all i w ∙ c .0,
+  rw (add-one i) (take-suc-set all i w (omega (arith, c .0)) ∙ ap₂ (λ (xs : List ℕ) (y : ℕ). xs ++ (y ∷ [])) (c .1) e ∙ sym (map-more (take i terms) (getD terms i (term 0 0 0))) ∙ ap (map termCost) (sym (take-suc terms i (term 0 0 0) k))),
+)

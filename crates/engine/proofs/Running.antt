@@ -1,0 +1,299 @@
+-- The laws behind the loop over a job's commands: what is left of the run, and the buffer.
+use Prim.Native.Nat.{ℕ, zero, suc, _+_, _-_, _*_, _^_, _≤_, _<_}
+use native.Mathlib.Omega.{arith}
+use native.Mathlib.Numerals.{add-one}
+use mathlib.Core.Path.{_≡_, refl, sym, ap, ap₂, _∙_, subst, subst⁻¹}
+use mathlib.Core.Bool.{Bool, true, false, not, cond, _||_}
+use mathlib.Core.List.{List, [], _∷_, _++_, append-assoc, append-nil, map}
+use borrow.Author.Tests.{lt-ltb, le-ltb, ne-eqb}
+use borrow.Rule.Slice.PartAt.{part-to-end}
+use borrow.Rule.Slice.PartMut.{putMid, postOf, post-is, same-len-mid}
+use lib.Dec.{T, eqb, ltb}
+use lib.ListN.{getD, length, take, drop, length-take, length-append, length-drop, take-append-drop}
+use lib.Seq.{take-append-seam, drop-append-seam, drop-length, drop-drop, drop-cons, take-all}
+use Rattle.model.specs.Base.{join}
+use Rattle.model.specs.Commands as model
+use Rattle.model.specs.Commands.{Kind, Context, basisOf, kindOf, is, width, problemAfter}
+use Rattle.model.specs.Answers.{bytesOf, answer, answerFor}
+use Rattle.model.specs.Refusals.{refusal}
+use Rattle.model.specs.Job.{Run, stop, answerThen, commands, run, written, packed, bufferAfter}
+use Rattle.model.specs.Calls.{Call, Met}
+use Rattle.model.specs.Invariants.{Valid}
+use Rattle.model.proofs.Lists.{T-true, T-false, or-cases}
+use Rattle.model.proofs.Runs.{Passed, passed}
+use Rattle.model.proofs.Valid.{after-valid, valid-empty}
+use Rattle.engine.specs.declared.problem.Problem.{Problem}
+use Rattle.engine.specs.declared.commands.Effect.{Effect}
+use Rattle.engine.specs.Kinds.{isQueryKind}
+use Rattle.engine.specs.Problems.{noProblem, Holds, Reached, Sized}
+use Rattle.engine.specs.Matrix.{RowsOf, Refreshed}
+use Rattle.engine.specs.Effects.{Answered, Stepped, Steps, contextAt}
+use Rattle.engine.specs.Jobs.{called}
+use Rattle.engine.proofs.Keeping.{holds-empty}
+
+-- ---- one command of the definitions' run
+
+module _ (f : ℕ) (q : model.Problem) (job : List ℕ) (at free : ℕ) (here : at < length job) where
+  x : Context
+  x = contextAt q job at free
+
+  head : drop at job ≡ getD job at 0 ∷ drop (at + 1) job
+  head = rw (add-one at) (drop-cons job at 0 here)
+
+  rest : Run
+  rest = commands f (problemAfter (contextAt q job at free) (kindOf (getD job at 0))) (drop (width (kindOf (getD job at 0))) (drop (at + 1) job)) (free - length (bytesOf (answer (contextAt q job at free)))) (at + 1 + width (kindOf (getD job at 0)))
+
+  run-refused : (refusal x ≡ 0 → ⊥) → commands (suc f) q (drop at job) free at ≡ stop (refusal x) at (x ∷ [])
+  unfolding x rest
+  run-refused n = rw (head, ne-eqb (refusal (contextAt q job at free)) 0 n)
+
+  run-ended : refusal x ≡ 0 → is (kindOf (getD job at 0)) Kind.E ≡ true → commands (suc f) q (drop at job) free at ≡ answerThen x (stop 0 (at + 1) [])
+  unfolding x rest
+  run-ended z e = rw (head, z, e)
+
+  run-next : refusal x ≡ 0 → is (kindOf (getD job at 0)) Kind.E ≡ false → commands (suc f) q (drop at job) free at ≡ answerThen x rest
+  unfolding x rest
+  run-next z e = rw (head, z, e)
+
+nothing-left : (out : List ℕ) (n offset : ℕ) (xs : List Context) → out ++ written (stop n offset xs) ≡ out
+unfolding written
+nothing-left out n offset xs = append-nil out
+
+-- a query leaves the table and the candidates
+basis-kept : (y : Context) (rows : List ℕ) (c : Kind) → T (isQueryKind c) → RowsOf (basisOf (y .problem)) rows → RowsOf (basisOf (problemAfter y c)) rows
+unfolding problemAfter
+basis-kept y rows Kind.L t d = d
+basis-kept y rows Kind.C t d = d
+basis-kept y rows Kind.I t d = absurd t
+basis-kept y rows Kind.R t d = absurd t
+basis-kept y rows Kind.T t d = absurd t
+basis-kept y rows Kind.P t d = absurd t
+basis-kept y rows Kind.E t d = absurd t
+basis-kept y rows Kind.none t d = absurd t
+
+-- ---- the buffer
+
+-- the free part from n on, and the buffer with another list in its place
+abbrev pub tail : ℕ → List ℕ → List ℕ
+tail n bs = take (length bs - n) (drop n bs)
+
+abbrev pub withTail : ℕ → List ℕ → List ℕ → List ℕ
+withTail n bs new = putMid n (length bs - n) bs new
+
+with-tail : (n : ℕ) (bs new : List ℕ) → n ≤ length bs → withTail n bs new ≡ take n bs ++ new
+with-tail n bs new l =
+    let post : postOf n (length bs - n) bs ≡ [] = post-is n (length bs) bs l ∙ drop-length bs in
+    ap (λ (r : List ℕ). take n bs ++ (new ++ r)) post ∙ ap (λ (r : List ℕ). take n bs ++ r) (append-nil new)
+
+tail-is : (n : ℕ) (bs : List ℕ) → tail n bs ≡ drop n bs
+tail-is n bs = part-to-end bs n
+
+-- ---- the loop's invariant: the run is what is written, and then the rest of the job
+
+pub record Going (job old answers : List ℕ) (p : Problem) (rows : List ℕ) (count : ℕ) (ready : Bool) (at done : ℕ) : Type 0 where
+  pub fuel : ℕ
+  pub problem : model.Problem
+  pub out : List ℕ
+  pub enough : length job < at + fuel
+  pub within : at ≤ length job
+  pub holds : Holds p problem
+  pub valid : Valid problem
+  pub counted : done ≡ length out
+  pub bytes : answers ≡ out ++ drop (length out) old
+  pub fits : length out ≤ length old
+  pub size : length rows ≡ 2048
+  pub few : count ≤ 2048
+  pub matrix : ready ≡ true → RowsOf (basisOf problem) (take count rows)
+  pub number : run job (length old) .number ≡ commands fuel problem (drop at job) (length old - length out) at .number
+  pub offset : run job (length old) .offset ≡ commands fuel problem (drop at job) (length old - length out) at .offset
+  pub written : written (run job (length old)) ≡ out ++ written (commands fuel problem (drop at job) (length old - length out) at)
+
+pub going-first : (job old rows : List ℕ) (p : Problem) → length job ≤ 32768 → length old ≤ 32768 → p ≡ noProblem → length rows ≡ 2048 → Going job old old p rows 0 false 0 0
+unfolding run
+going-first job old rows p h g e s = record {
+  fuel = suc (length job);
+  problem = model.empty;
+  out = [];
+  enough = omega arith;
+  within = omega arith;
+  holds = subst⁻¹ (λ (y : Problem). Holds y model.empty) e holds-empty;
+  valid = valid-empty;
+  counted = refl;
+  bytes = refl;
+  fits = omega arith;
+  size = s;
+  few = omega arith;
+  matrix = λ z. absurd (no z);
+  number = rw (le-ltb 32768 (length job) h, le-ltb 32768 (length old) g, all-free);
+  offset = rw (le-ltb 32768 (length job) h, le-ltb 32768 (length old) g, all-free);
+  written = rw (le-ltb 32768 (length job) h, le-ltb 32768 (length old) g, all-free);
+}
+  where
+    all-free : length old - 0 ≡ length old
+    all-free = omega arith
+
+    no : false ≡ true → ⊥
+    no z = let y : _≡_ {A = ℕ} 0 1 = cc in omega arith
+
+module _ (job old answers : List ℕ) (p : Problem) (rows : List ℕ) (count : ℕ) (ready : Bool) (at done : ℕ) (w : Going job old answers p rows count ready at done) where
+  pub long : length answers ≡ length old
+  long = ap length (w .bytes) ∙ omega (arith, length-append (w .out) (drop (length (w .out)) old), length-drop (length (w .out)) old, w .fits)
+
+  pub done-le : done ≤ length answers
+  done-le = omega (arith, long, w .counted, w .fits)
+
+  pub reached : Reached p
+  reached = record { problem = w .problem; holds = w .holds; valid = w .valid }
+
+  free-is : length (tail done answers) ≡ length old - length (w .out)
+  free-is = ap length (tail-is done answers) ∙ length-drop done answers ∙ omega (arith, long, w .counted)
+
+  tail-of : tail done answers ≡ drop (length (w .out)) old
+  tail-of = tail-is done answers ∙ ap₂ drop (w .counted) (w .bytes) ∙ drop-append-seam (w .out) (drop (length (w .out)) old)
+
+  front-of : take done answers ≡ w .out
+  front-of = ap₂ take (w .counted) (w .bytes) ∙ take-append-seam (w .out) (drop (length (w .out)) old)
+
+  put : (ans last : List ℕ) → last ≡ ans ++ drop (length ans) (tail done answers) → withTail done answers last ≡ (w .out ++ ans) ++ drop (length (w .out ++ ans)) old
+  put ans last e =
+      with-tail done answers last done-le
+      ∙ ap₂ (λ (a b : List ℕ). a ++ b) front-of (e ∙ ap (λ (l : List ℕ). ans ++ drop (length ans) l) tail-of ∙ ap (λ (l : List ℕ). ans ++ l) (drop-drop (length ans) (length (w .out)) old ∙ ap (λ (k : ℕ). drop k old) (sym (length-append (w .out) ans))))
+      ∙ sym (append-assoc (w .out) ans (drop (length (w .out ++ ans)) old))
+
+  put-same : (last : List ℕ) → last ≡ tail done answers → withTail done answers last ≡ answers
+  put-same last e = with-tail done answers last done-le ∙ ap (λ (l : List ℕ). take done answers ++ l) (e ∙ tail-is done answers) ∙ take-append-drop done answers
+
+  fuel-suc : at < length job → (f : ℕ) × (w .fuel ≡ suc f)
+  fuel-suc l = go (w .fuel) refl
+    where
+      go : (n : ℕ) → w .fuel ≡ n → (f : ℕ) × (w .fuel ≡ suc f)
+      go zero e = absurd (omega (arith, w .enough))
+      go (suc n) e = (n, e)
+
+  -- the call ends with this number and offset, and nothing more is written
+  met : (n offset r : ℕ) (xs : List Context) (after : List ℕ) → commands (w .fuel) (w .problem) (drop at job) (length old - length (w .out)) at ≡ stop n offset xs → r ≡ n * 2 ^ 32 + offset * 2 ^ 16 + done → after ≡ answers → Met (called job old r after)
+  unfolding packed bufferAfter written
+  met n offset r xs after e q a =
+      let l : written (run job (length old)) ≡ w .out = w .written ∙ ap (λ (y : Run). w .out ++ written y) e ∙ nothing-left (w .out) n offset xs in
+      record {
+        returned = q ∙ rw (w .number, w .offset, e, l, w .counted);
+        after = a ∙ w .bytes ∙ rw l;
+      }
+
+  -- ---- the job's bytes end
+
+  pub going-cut : (r : ℕ) → length job ≤ at → r ≡ 2 * 2 ^ 32 + at * 2 ^ 16 + done → Met (called job old r answers)
+  going-cut r l q = met 2 at r [] answers (go (w .fuel)) q refl
+    where
+      none : drop at job ≡ []
+      none = ap (λ (k : ℕ). drop k job) (let e : at ≡ length job = omega (arith, w .within) in e) ∙ drop-length job
+
+      go : (n : ℕ) → commands n (w .problem) (drop at job) (length old - length (w .out)) at ≡ stop 2 at []
+      go zero = refl
+      go (suc n) = rw none
+
+  -- ---- a command
+
+  module _ (here : at < length job) (last : List ℕ) (e : Effect) (s : Stepped (contextAt (w .problem) job at (length (tail done answers))) (tail done answers) last e) where
+    abbrev ctx : Context
+    ctx = contextAt (w .problem) job at (length old - length (w .out))
+
+    s' : Stepped ctx (tail done answers) last e
+    s' = subst (λ (n : ℕ). Stepped (contextAt (w .problem) job at n) (tail done answers) last e) free-is s
+
+    pub going-refused : (r : ℕ) → (e .number ≡ 0 → ⊥) → r ≡ e .number * 2 ^ 32 + at * 2 ^ 16 + done → Met (called job old r (withTail done answers last))
+    unfolding x
+    going-refused r d q =
+        met (refusal ctx) at r (ctx ∷ []) (withTail done answers last)
+        (ap (λ (n : ℕ). commands n (w .problem) (drop at job) (length old - length (w .out)) at) (fuel-suc here .1) ∙ run-refused (fuel-suc here .0) (w .problem) job at (length old - length (w .out)) here (λ z. d (s' .number ∙ z)))
+        (q ∙ ap (λ (n : ℕ). n * 2 ^ 32 + at * 2 ^ 16 + done) (s' .number))
+        (put-same last (s' .refused d))
+
+    module _ (z : e .number ≡ 0) where
+      ans : List ℕ
+      ans = bytesOf (answer (contextAt (w .problem) job at (length old - length (w .out))))
+
+      a : Answered ctx (kindOf (getD job at 0)) (tail done answers) last e
+      a = s' .answered z
+
+      passes : Passed ctx
+      passes = passed ctx (sym (s' .number) ∙ z)
+
+      put-back : withTail done answers last ≡ (w .out ++ ans) ++ drop (length (w .out ++ ans)) old
+      unfolding ans answer
+      put-back = put (bytesOf (answer ctx)) last (a .bytes)
+
+      count-is : done + e .written ≡ length (w .out ++ ans)
+      unfolding ans answer
+      count-is = omega (arith, w .counted, a .written, length-append (w .out) (bytesOf (answer ctx)))
+
+      pub room-left : done + e .written ≤ length old
+      unfolding ans
+      room-left = omega (arith, count-is, passes .room, w .fits, length-append (w .out) (bytesOf (answer ctx)))
+
+      one-more : (y : Run) → written (run job (length old)) ≡ w .out ++ written (answerThen ctx y) → written (run job (length old)) ≡ (w .out ++ ans) ++ written y
+      unfolding written ans
+      one-more y h = h ∙ sym (append-assoc (w .out) (bytesOf (answer ctx)) (join (map bytesOf (y .answers))))
+
+      pub going-ended : (r : ℕ) → is (kindOf (getD job at 0)) Kind.E ≡ true → r ≡ 0 * 2 ^ 32 + (at + 1) * 2 ^ 16 + (done + e .written) → Met (called job old r (withTail done answers last))
+      unfolding packed bufferAfter written x
+      going-ended r k q =
+          let step = ap (λ (n : ℕ). commands n (w .problem) (drop at job) (length old - length (w .out)) at) (fuel-suc here .1) ∙ run-ended (fuel-suc here .0) (w .problem) job at (length old - length (w .out)) here (sym (s' .number) ∙ z) k in
+          let l : written (run job (length old)) ≡ w .out ++ ans = one-more (stop 0 (at + 1) []) (w .written ∙ ap (λ (y : Run). w .out ++ written y) step) ∙ nothing-left (w .out ++ ans) 0 (at + 1) [] in
+          record {
+            returned = q ∙ rw (w .number, w .offset, step, l, count-is);
+            after = put-back ∙ rw l;
+          }
+
+      pub width-fits : at + 1 + width (kindOf (getD job at 0)) ≤ length job
+      width-fits = omega (arith, passes .operands, length-drop (at + 1) job)
+
+      free-left : length old - length (w .out) - length (bytesOf (answer ctx)) ≡ length old - length (w .out ++ ans)
+      unfolding ans
+      free-left = omega (arith, length-append (w .out) (bytesOf (answer ctx)))
+
+      pub going-next : (q : Problem) (rows' : List ℕ) (count' : ℕ) (ready' : Bool) (at' : ℕ) → q ≡ e .problem → length rows' ≡ 2048 → count' ≤ 2048 → (ready' ≡ true → T (isQueryKind (kindOf (getD job at 0))) × RowsOf (basisOf (w .problem)) (take count' rows'))
+          → is (kindOf (getD job at 0)) Kind.E ≡ false → at' ≡ at + 1 + width (kindOf (getD job at 0)) → Going job old (withTail done answers last) q rows' count' ready' at' (done + e .written)
+      unfolding x rest
+      going-next q rows' count' ready' at' qe sz fw mx k ae =
+          let step = ap (λ (n : ℕ). commands n (w .problem) (drop at job) (length old - length (w .out)) at) (fuel-suc here .1) ∙ run-next (fuel-suc here .0) (w .problem) job at (length old - length (w .out)) here (sym (s' .number) ∙ z) k in
+          record {
+            fuel = fuel-suc here .0;
+            problem = problemAfter ctx (kindOf (getD job at 0));
+            out = w .out ++ ans;
+            enough = omega (arith, w .enough, fuel-suc here .1, ae);
+            within = omega (arith, ae, width-fits);
+            holds = subst⁻¹ (λ (y : Problem). Holds y (problemAfter ctx (kindOf (getD job at 0)))) qe (a .problem);
+            valid = after-valid ctx (kindOf (getD job at 0)) (passes .place) (passes .own) (w .valid);
+            counted = count-is;
+            bytes = put-back;
+            fits = omega (arith, count-is, room-left);
+            size = sz;
+            few = fw;
+            matrix = λ t. basis-kept ctx (take count' rows') (kindOf (getD job at 0)) (mx t .0) (mx t .1);
+            number = w .number ∙ ap (λ (y : Run). y .number) step ∙ ap (λ (y : Run). y .number) moved;
+            offset = w .offset ∙ ap (λ (y : Run). y .offset) step ∙ ap (λ (y : Run). y .offset) moved;
+            written = one-more _ (w .written ∙ ap (λ (y : Run). w .out ++ written y) step) ∙ ap (λ (y : Run). (w .out ++ ans) ++ written y) moved;
+          }
+        where
+          rest-is : drop (width (kindOf (getD job at 0))) (drop (at + 1) job) ≡ drop at' job
+          rest-is = drop-drop (width (kindOf (getD job at 0))) (at + 1) job ∙ ap (λ (i : ℕ). drop i job) (sym ae)
+
+          moved : commands (fuel-suc here .0) (problemAfter ctx (kindOf (getD job at 0))) (drop (width (kindOf (getD job at 0))) (drop (at + 1) job)) (length old - length (w .out) - length (bytesOf (answer ctx))) (at + 1 + width (kindOf (getD job at 0)))
+              ≡ commands (fuel-suc here .0) (problemAfter ctx (kindOf (getD job at 0))) (drop at' job) (length old - length (w .out ++ ans)) at'
+          moved = rw (rest-is, free-left, ← ae)
+
+-- ---- a job or a buffer that is too long
+
+module _ (job old : List ℕ) where
+  refused-long : (run job (length old) ≡ stop 1 0 []) → (r : ℕ) → r ≡ 1 * 2 ^ 32 + 0 * 2 ^ 16 + 0 → Met (called job old r old)
+  unfolding packed bufferAfter written
+  refused-long e r q = record { returned = q ∙ rw e; after = rw e }
+
+  pub job-long : (r : ℕ) → 32768 < length job → r ≡ 1 * 2 ^ 32 + 0 * 2 ^ 16 + 0 → Met (called job old r old)
+  unfolding run
+  job-long r l q = refused-long (rw (lt-ltb 32768 (length job) l)) r q
+
+  pub buffer-long : (r : ℕ) → length job ≤ 32768 → 32768 < length old → r ≡ 1 * 2 ^ 32 + 0 * 2 ^ 16 + 0 → Met (called job old r old)
+  unfolding run
+  buffer-long r h l q = refused-long (rw (le-ltb 32768 (length job) h, lt-ltb 32768 (length old) l)) r q

@@ -1,0 +1,37 @@
+-- `engine::queries::replied` meets its contract.
+use borrow.Author.Needs.{needs}
+use Rattle.engine.proofs.queries.replied.Statement.{statement}
+use Rattle.engine.proofs.queries.replied.Tie as tie
+use Rattle.engine.proofs.queries.replied.Reads as reads
+use Rattle.engine.proofs.queries.replied.Lts as lts
+use Rattle.engine.proofs.commands.refused.Reads as refused-reads
+use Rattle.engine.proofs.problem.after_query.Reads as after-query-reads
+
+-- src/queries.rt:26:27
+enum-told : tie.Need-enum-told
+enum-told c = search needs
+
+-- src/queries.rt:26:27
+refused-requires : tie.Need-refused-requires
+refused-requires c κs = search needs
+
+-- src/queries.rt:27:24
+enum-known-reply : tie.Need-enum-known-reply
+enum-known-reply c = search needs
+
+-- src/queries.rt:30:22
+after-query-requires : tie.Need-after-query-requires
+after-query-requires c κs = search needs
+
+-- src/queries.rt:22:1
+returns : tie.Need-returns
+returns c = rw (c .before .enum-told .given .1) (c .refused .ensures)
+
+-- src/queries.rt:22:1
+returns-2 : tie.Need-returns-2
+returns-2 c = rw (c .before .before .reply .given .1, c .after-query .ensures)
+
+pub replied-spec : {M : Type 1} → statement M
+replied-spec =
+    tie.close
+    (tie.spec enum-told refused-requires enum-known-reply after-query-requires returns returns-2)

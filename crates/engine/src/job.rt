@@ -1,0 +1,56 @@
+// A whole job.
+ghost use mathlib.Core.Path.{_≡_};
+ghost use Prim.Native.Nat.{_+_, _*_, _^_, _≤_};
+ghost use lib.ListN.{length};
+ghost use Rattle.model.specs.Calls.{Met};
+ghost use Rattle.engine.specs.Jobs.{called};
+use crate::kinds;
+use crate::matrix;
+use crate::problem;
+use crate::step;
+use bits::byte;
+
+// A number that counts as a 64-bit number.
+fn long(x: usize) -> u64
+    ensures { λ r. ⌜ r ≡ x ⌝ }
+{
+    x as u64
+}
+
+// number × 2^32 + offset × 2^16 + written.
+pub fn pack(number: u8, offset: usize, written: usize) -> u64
+    requires { ⌜ (offset ≤ 32768) × (written ≤ 32768) ⌝ }
+    ensures { λ r. ⌜ r ≡ number * 2 ^ 32 + offset * 2 ^ 16 + written ⌝ }
+{
+    long(byte::wide(number)) * 4294967296 + long(offset) * 65536 + long(written)
+}
+
+// The commands one by one, until one is refused, E is answered or the job's bytes end. The covering matrix is kept from query to query.
+pub fn run(job: &[u8], answers: &mut [u8]) -> u64
+    requires { ⌜ (length (now job) ≤ 32768) × (length (now answers) ≤ 32768) ⌝ }
+    ensures { λ r. ⌜ Met (called (now (job .entry)) (now (answers .entry)) r (now (answers .exit))) ⌝ }
+{
+    let mut p = problem::empty();
+    let mut rows = [0u64; 2048];
+    let mut count: usize = 0;
+    let mut ready = false;
+    let mut at: usize = 0;
+    let mut written: usize = 0;
+    while at < job.len() {
+        let k = kinds::kind_of(job[at]);
+        count = matrix::refresh(p, k, ready, count, &mut rows);
+        ready = kinds::is_query(k);
+        let e = step::step(p, &rows[..count], job, at, &mut answers[written..]);
+        if e.number != 0 {
+            return pack(e.number, at, written);
+        }
+        written = written + e.written;
+        if kinds::is_end(k) {
+            return pack(0, at + 1, written);
+        }
+        let next = e.problem;
+        p = next;
+        at = at + 1 + kinds::width_of(k);
+    }
+    pack(2, at, written)
+}

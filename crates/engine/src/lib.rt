@@ -1,0 +1,32 @@
+// The engine: jobs of commands over a problem, their answers, and the library call.
+//
+// `cover_job` is what a C program links to; `library::list_covers` is the call for Rattle. The contracts of both cite only definitions of
+// crate `model`.
+ghost use Rattle.model.specs.Calls.{Met};
+ghost use Rattle.engine.specs.Jobs.{called};
+
+pub mod commands;
+pub mod job;
+pub mod kinds;
+pub mod matrix;
+pub mod operands;
+pub mod problem;
+pub mod queries;
+pub mod step;
+pub mod tests;
+pub mod writers;
+
+// Runs a job on two byte buffers: returns number × 2^32 + offset × 2^16 + written, and leaves the bytes of the finished answers in front
+// of `answers`. Every other byte of `answers` stays as it was.
+#[no_mangle]
+pub extern "C" fn cover_job(job: &[u8], answers: &mut [u8]) -> u64
+    ensures { λ r. ⌜ Met (called (now (job .entry)) (now (answers .entry)) r (now (answers .exit))) ⌝ }
+{
+    if 32768 < job.len() {
+        return job::pack(1, 0, 0);
+    }
+    if 32768 < answers.len() {
+        return job::pack(1, 0, 0);
+    }
+    job::run(job, answers)
+}

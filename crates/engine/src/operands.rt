@@ -1,0 +1,40 @@
+// Operands of more than one byte.
+ghost use mathlib.Core.Path.{_≡_};
+ghost use Prim.Native.Nat.{_+_, _≤_};
+ghost use lib.ListN.{getD, length, take, drop};
+ghost use Rattle.model.specs.Table.{term};
+ghost use Rattle.model.specs.Commands.{number};
+use model::Term;
+
+// A byte as a 64-bit number.
+fn long(x: u8) -> u64
+    ensures { λ r. ⌜ (r ≡ x) × (r ≤ 255) ⌝ }
+{
+    x as u64
+}
+
+// The 8 bytes at `at` as a number, low byte first: read from the last one down.
+pub fn number_at(job: &[u8], at: usize) -> u64
+    requires { ⌜ at + 8 ≤ length (now job) ⌝ }
+    ensures { λ r. ⌜ r ≡ number (take 8 (drop at (now (job .entry)))) ⌝ }
+{
+    let mut x: u64 = 0;
+    let mut i: usize = 8;
+    while 0 < i {
+        i -= 1;
+        x = x * 256 + long(job[at + i]);
+    }
+    x
+}
+
+// The 3 bytes at `at` as a term.
+pub fn term_at(job: &[u8], at: usize) -> Term
+    requires { ⌜ at + 3 ≤ length (now job) ⌝ }
+    ensures { λ r. ⌜ r ≡ term (getD (now (job .entry)) at 0) (getD (now (job .entry)) (at + 1) 0) (getD (now (job .entry)) (at + 2) 0) ⌝ }
+{
+    Term {
+        care: job[at],
+        value: job[at + 1],
+        outputs: job[at + 2],
+    }
+}

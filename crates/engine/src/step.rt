@@ -1,0 +1,37 @@
+// Any command of a job.
+ghost use Prim.Native.Nat.{_<_};
+ghost use lib.ListN.{length};
+ghost use Rattle.engine.specs.Problems.{Reached};
+ghost use Rattle.engine.specs.Effects.{Steps};
+use crate::commands;
+use crate::commands::Effect;
+use crate::kinds;
+use crate::kinds::Kind;
+use crate::operands;
+use crate::problem::Problem;
+use crate::queries;
+
+// The command at `at`: tested in the paper's order, then answered into the free part and applied. `rows` are the problem's where it is
+// an L or a C.
+pub fn step(p: Problem, rows: &[u64], job: &[u8], at: usize, free: &mut [u8]) -> Effect
+    requires { ⌜ Reached p ⌝ }
+    requires { ⌜ at < length (now job) ⌝ }
+    ensures { λ r. ⌜ Steps p (now (rows .entry)) (now (job .entry)) at (now (free .entry)) (now (free .exit)) r ⌝ }
+{
+    let k = kinds::kind_of(job[at]);
+    let rest = job.len() - at - 1;
+    let number = kinds::early_refusal(k, p.place, rest);
+    if number != 0 {
+        return commands::refused(p, number);
+    }
+    match k {
+        Kind::I => commands::init(p, job[at + 1], job[at + 2]),
+        Kind::R => commands::row(p, job[at + 1], job[at + 2], job[at + 3]),
+        Kind::T => commands::term(p, operands::term_at(job, at + 1)),
+        Kind::P => commands::primes(p, free),
+        Kind::L => queries::list(p, rows, operands::number_at(job, at + 1), job[at + 9], free),
+        Kind::C => queries::least_cost(p, rows, free),
+        Kind::E => commands::end(p, rest, free),
+        Kind::None => commands::refused(p, 3),
+    }
+}
