@@ -1,0 +1,248 @@
+//! The paper's example and marked cases, held against the reference before any engine is asked.
+
+use crate::generate::{draft, page, row, term, Draft};
+use crate::reference::{self, Covers, Table, Term, LONGEST};
+use crate::rng::Rng;
+
+pub const EXAMPLE: &str = "49 02 02 52 00 00 01 52 01 01 02 52 02 03 00 52 03 02 00 54 01 00 01 \
+    54 03 01 03 54 01 01 02 54 02 02 02 54 03 02 03 54 02 00 01 \
+    4c 00 00 00 00 00 00 00 00 06 43 45";
+
+const EXAMPLE_ANSWERS: &str = "6c06000b0000000000000016000000000000001a000000000000002900000000\
+    00000034000000000000003800000000000000630600290000000000000065";
+
+/// Terms 1 to 6 of document 003.
+const TERMS: [[u8; 3]; 6] = [
+    [1, 0, 1],
+    [3, 1, 3],
+    [1, 1, 2],
+    [2, 2, 2],
+    [3, 2, 3],
+    [2, 0, 1],
+];
+
+pub fn bytes(hex: &str) -> Vec<u8> {
+    let digits: Vec<u8> = hex.bytes().filter(|c| !c.is_ascii_whitespace()).collect();
+    let pair =
+        |two: &[u8]| u8::from_str_radix(std::str::from_utf8(two).expect("ascii"), 16).expect("hex");
+    digits.chunks(2).map(pair).collect()
+}
+
+fn example_rows() -> Vec<Vec<u8>> {
+    vec![row(0, 0, 1), row(1, 1, 2), row(2, 3, 0), row(3, 2, 0)]
+}
+
+/// The table as crawled: both free cells are wanted.
+fn crawled_rows() -> Vec<Vec<u8>> {
+    vec![row(0, 1, 0), row(1, 3, 0), row(2, 3, 0), row(3, 2, 0)]
+}
+
+fn terms(list: &[[u8; 3]]) -> Vec<Vec<u8>> {
+    list.iter().map(|t| term(t[0], t[1], t[2])).collect()
+}
+
+fn both_wanted() -> Vec<Vec<u8>> {
+    vec![row(0, 1, 0), row(1, 1, 0)]
+}
+
+fn ask_all() -> Vec<Vec<u8>> {
+    vec![page(0, 255), vec![b'C']]
+}
+
+/// The marked cases as jobs, in the paper's order; b is taken from a.
+pub fn marked(case: char) -> Draft {
+    let primes = || vec![vec![b'P']];
+    let one = || terms(&[[0, 0, 1]]);
+    match case {
+        'a' => draft(2, 2, [example_rows(), terms(&TERMS), ask_all()]),
+        'c' => draft(2, 2, [example_rows(), primes(), ask_all()]),
+        'd' => draft(2, 2, [crawled_rows(), terms(&TERMS), ask_all()]),
+        'e' => draft(1, 1, [vec![], vec![], ask_all()]),
+        'f' => draft(1, 1, [both_wanted(), one(), ask_all()]),
+        'g' => draft(
+            1,
+            1,
+            [both_wanted(), terms(&[[0, 0, 1], [0, 0, 1]]), ask_all()],
+        ),
+        _ => draft(1, 1, [both_wanted(), vec![], ask_all()]),
+    }
+}
+
+/// Odd parity: one row and, with P, one prime for each vertex with an odd number of ones.
+pub fn odd_parity(n: u8) -> Draft {
+    let odd = (0..1u16 << n).filter(|v| v.count_ones() % 2 == 1);
+    draft(
+        n,
+        1,
+        [
+            odd.map(|v| row(v as u8, 1, 0)).collect(),
+            vec![vec![b'P']],
+            ask_all(),
+        ],
+    )
+}
+
+/// The answers that a full page and the cheapest must give.
+fn answers(sets: &[u64], cost: u16, cheapest: u64) -> Vec<u8> {
+    let mut all = vec![0x6c, sets.len() as u8, 0];
+    sets.iter().for_each(|set| all.extend(set.to_le_bytes()));
+    all.push(0x63);
+    all.extend(cost.to_le_bytes());
+    all.extend(cheapest.to_le_bytes());
+    all.push(0x65);
+    all
+}
+
+/// Names what went wrong; empty when all is right.
+pub struct Checks {
+    pub passed: usize,
+    pub wrong: Vec<String>,
+}
+
+impl Checks {
+    fn check(&mut self, name: &str, right: bool) {
+        if right {
+            self.passed += 1;
+        } else {
+            self.wrong.push(name.to_string());
+        }
+    }
+
+    /// The reference accepts the job and writes just these bytes.
+    fn accepts(&mut self, name: &str, job: &[u8], expected: &[u8]) {
+        let before = vec![0xa5; LONGEST];
+        let out = reference::run(job, &before).expect("small enough");
+        let right = out.number == 0 && out.offset == job.len() && out.written == expected.len();
+        let kept = out.buffer[out.written..] == before[out.written..];
+        self.check(
+            name,
+            right && kept && out.buffer[..out.written] == *expected,
+        );
+    }
+
+    fn refuses(&mut self, name: &str, job: &[u8], room: usize, expected: (u64, usize, usize)) {
+        let out = reference::run(job, &vec![0xa5; room]).expect("small enough");
+        let kept = out.buffer[out.written..].iter().all(|&byte| byte == 0xa5);
+        self.check(
+            name,
+            kept && (out.number, out.offset, out.written) == expected,
+        );
+    }
+}
+
+pub fn run(rng: &mut Rng) -> Checks {
+    let mut checks = Checks {
+        passed: 0,
+        wrong: Vec::new(),
+    };
+    example(&mut checks);
+    marked_cases(&mut checks);
+    parity(&mut checks);
+    lengths(&mut checks);
+    orders(&mut checks);
+    for _ in 0..200 {
+        two_ways(&mut checks, rng);
+    }
+    checks
+}
+
+fn example(checks: &mut Checks) {
+    let job = bytes(EXAMPLE);
+    let expected = bytes(EXAMPLE_ANSWERS);
+    checks.check("example lengths", job.len() == 55 && expected.len() == 63);
+    checks.accepts("example", &job, &expected);
+    let out = reference::run(&job, &vec![0; LONGEST]).expect("small enough");
+    checks.check("example packed", out.packed() == 55 * 65_536 + 63);
+}
+
+fn marked_cases(checks: &mut Checks) {
+    let a = [11, 22, 26, 41, 52, 56];
+    checks.accepts("case a", &marked('a').job(), &answers(&a, 6, 41));
+    let list: Vec<Term> = TERMS
+        .iter()
+        .map(|t| Term {
+            care: t[0],
+            value: t[1],
+            outputs: t[2],
+        })
+        .collect();
+    let costs: Vec<u64> = a.iter().map(|&set| reference::cost(&list, set)).collect();
+    checks.check("case b", costs == [7, 8, 8, 6, 7, 7]);
+    let mut c = vec![0x70, 6];
+    [1, 3, 6, 4, 2, 5]
+        .iter()
+        .for_each(|&number: &usize| c.extend(TERMS[number - 1]));
+    c.extend(answers(&[13, 25, 38, 44, 50, 56], 6, 13));
+    checks.accepts("case c", &marked('c').job(), &c);
+    checks.accepts(
+        "case d",
+        &marked('d').job(),
+        &answers(&[11, 23, 45, 52, 58], 7, 11),
+    );
+    checks.accepts("case e", &marked('e').job(), &answers(&[0], 0, 0));
+    checks.accepts("case f", &marked('f').job(), &answers(&[1], 1, 1));
+    checks.accepts("case g", &marked('g').job(), &answers(&[1, 2], 1, 1));
+    checks.refuses("case h", &marked('h').job(), LONGEST, (12, 11, 0));
+}
+
+fn parity(checks: &mut Checks) {
+    let seven = odd_parity(7).job();
+    let mut expected = vec![0x70, 64];
+    let odd = (0..128u8).filter(|v| v.count_ones() % 2 == 1);
+    odd.for_each(|v| expected.extend([127, v, 1]));
+    expected.extend(answers(&[u64::MAX], 512, u64::MAX));
+    checks.accepts("odd parity of 7", &seven, &expected);
+    checks.refuses(
+        "odd parity of 8",
+        &odd_parity(8).job(),
+        LONGEST,
+        (11, 3 + 4 * 128, 0),
+    );
+}
+
+fn lengths(checks: &mut Checks) {
+    checks.refuses("no bytes", &[], 10, (2, 0, 0));
+    checks.refuses("job too long", &vec![b'C'; LONGEST + 1], 10, (1, 0, 0));
+    checks.refuses(
+        "job of the longest length",
+        &vec![b'C'; LONGEST],
+        10,
+        (4, 0, 0),
+    );
+    checks.refuses("buffer too long", &bytes(EXAMPLE), LONGEST + 1, (1, 0, 0));
+    checks.refuses("no room for E", &bytes(EXAMPLE), 62, (14, 54, 62));
+    checks.refuses("no room for L", &bytes(EXAMPLE), 50, (14, 43, 0));
+}
+
+/// Where two refusals apply at once the smaller number is given.
+fn orders(checks: &mut Checks) {
+    let mut refuses = |name, hex, room, expected| checks.refuses(name, &bytes(hex), room, expected);
+    refuses("4 before 5", "54", 0, (4, 0, 0));
+    refuses("5 before 6", "49 00", 0, (5, 0, 0));
+    refuses("7 before 8", "49 01 01 52 02 ff ff", 0, (7, 3, 0));
+    refuses("9 before 10", "49 01 01 54 00 01 01", 0, (9, 3, 0));
+    refuses("10 alone", "49 01 01 54 00 00 01", 0, (10, 3, 0));
+    refuses("12 before 14", "49 01 01 52 00 01 00 43", 0, (12, 7, 0));
+    refuses("13 before 14", "49 01 01 45 45", 0, (13, 3, 0));
+}
+
+/// Each quicker way of the reference against the definition itself.
+fn two_ways(checks: &mut Checks, rng: &mut Rng) {
+    let (n, m) = (rng.between(1, 4), rng.between(1, 4));
+    let table: Table = crate::generate::random_table(rng, n, m);
+    checks.check(
+        "primes two ways",
+        table.primes_by_terms() == table.primes_by_cubes(),
+    );
+    let candidates = crate::generate::terms_for(rng, &table, 10);
+    let sums = reference::sums(&table, &candidates);
+    if !sums.contains(&0) {
+        let by_subsets = reference::covers_by_subsets(candidates.len(), &sums);
+        checks.check(
+            "covers two ways",
+            reference::covers_by_products(&sums) == Some(by_subsets.clone()),
+        );
+        let all = reference::irredundant_covers(&table, &candidates);
+        checks.check("covers", all == Covers::All(by_subsets));
+    }
+}

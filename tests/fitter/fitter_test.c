@@ -1,0 +1,660 @@
+/*
+ * Links the engine as the fitter does and asks it for lists that are known: pages over several
+ * jobs and buffers, joined, against the whole list; the marked cases; every refusal once.
+ * Every call lies between guard bytes, and the bytes behind `written` are held to be unchanged.
+ */
+#include "covers.h"
+
+#include <stdio.h>
+#include <stdlib.h>
+#include <string.h>
+
+/* One fault can show in thousands of checks: the first ones tell enough. */
+enum { MOST_PRINTED = 20 };
+
+static unsigned passed, failed;
+
+static void check(int right, const char *name, int line)
+{
+    if (right) {
+        passed++;
+        return;
+    }
+    failed++;
+    if (failed <= MOST_PRINTED)
+        printf("line %d: wrong: %s\n", line, name);
+}
+
+#define CHECK(right) check((right) != 0, #right, __LINE__)
+
+/* Jobs. */
+
+struct job {
+    uint8_t bytes[COVER_MOST_JOB_BYTES + 1];
+    size_t length;
+};
+
+static void add_byte(struct job *job, unsigned byte)
+{
+    if (job->length == sizeof job->bytes)
+        abort();
+    job->bytes[job->length++] = (uint8_t)byte;
+}
+
+static void add_sizes(struct job *job, unsigned n, unsigned m)
+{
+    job->length = 0;
+    add_byte(job, COVER_SIZES);
+    add_byte(job, n);
+    add_byte(job, m);
+}
+
+static void add_three(struct job *job, unsigned command, unsigned a, unsigned b, unsigned c)
+{
+    add_byte(job, command);
+    add_byte(job, a);
+    add_byte(job, b);
+    add_byte(job, c);
+}
+
+static void add_page(struct job *job, uint64_t start, unsigned count)
+{
+    add_byte(job, COVER_LIST);
+    for (unsigned shift = 0; shift < 64; shift += 8)
+        add_byte(job, (unsigned)(start >> shift & 0xFF));
+    add_byte(job, count);
+}
+
+static uint64_t number_at(const uint8_t *bytes, size_t width)
+{
+    uint64_t number = 0;
+    for (size_t i = width; i-- > 0;)
+        number = number << 8 | bytes[i];
+    return number;
+}
+
+/* Calls. */
+
+enum { GUARD = 64, GUARD_BYTE = 0xC3 };
+
+/* One more than allowed, so that too long a buffer can be lent as well. */
+static uint8_t memory[GUARD + COVER_MOST_ANSWER_BYTES + 1 + GUARD];
+static uint8_t *const answers = memory + GUARD;
+
+static uint8_t pattern(size_t i)
+{
+    return (uint8_t)(i * 37 + (i >> 8) + 11);
+}
+
+static int all_guards(const uint8_t *bytes)
+{
+    for (size_t i = 0; i < GUARD; i++)
+        if (bytes[i] != GUARD_BYTE)
+            return 0;
+    return 1;
+}
+
+/* Runs a job with this much room and checks what holds after every call. */
+static uint64_t call(const struct job *job, size_t room)
+{
+    static struct job copy;
+    memcpy(&copy, job, sizeof copy);
+    memset(memory, GUARD_BYTE, sizeof memory);
+    for (size_t i = 0; i < room; i++)
+        answers[i] = pattern(i);
+
+    uint64_t outcome = cover_job(job->bytes, job->length, answers, room);
+
+    int kept = 1;
+    for (size_t i = cover_written(outcome); i < room; i++)
+        kept = kept && answers[i] == pattern(i);
+    CHECK(kept);
+    CHECK(cover_written(outcome) <= room);
+    CHECK(all_guards(memory) && all_guards(answers + room));
+    CHECK(memcmp(&copy, job, sizeof copy) == 0);
+    CHECK(outcome >> 32 <= COVER_NO_ROOM);
+    return outcome;
+}
+
+static int is(uint64_t outcome, enum cover_refusal number, size_t offset, size_t written)
+{
+    return cover_number(outcome) == number && cover_offset(outcome) == offset &&
+           cover_written(outcome) == written;
+}
+
+/* Problems: each sets a table and candidates. */
+
+static const uint8_t terms[6][3] = {
+    {1, 0, 1}, {3, 1, 3}, {1, 1, 2}, {2, 2, 2}, {3, 2, 3}, {2, 0, 1},
+};
+
+static void add_term(struct job *job, const uint8_t term[3])
+{
+    add_three(job, COVER_TERM, term[0], term[1], term[2]);
+}
+
+static void example_rows(struct job *job)
+{
+    add_sizes(job, 2, 2);
+    add_three(job, COVER_ROW, 0, 0, 1);
+    add_three(job, COVER_ROW, 1, 1, 2);
+    add_three(job, COVER_ROW, 2, 3, 0);
+    add_three(job, COVER_ROW, 3, 2, 0);
+}
+
+/* The table as crawled: the two free cells are wanted. */
+static void crawled_rows(struct job *job)
+{
+    add_sizes(job, 2, 2);
+    add_three(job, COVER_ROW, 0, 1, 0);
+    add_three(job, COVER_ROW, 1, 3, 0);
+    add_three(job, COVER_ROW, 2, 3, 0);
+    add_three(job, COVER_ROW, 3, 2, 0);
+}
+
+static void example_terms(struct job *job)
+{
+    for (size_t i = 0; i < 6; i++)
+        add_term(job, terms[i]);
+}
+
+static void example(struct job *job)
+{
+    example_rows(job);
+    example_terms(job);
+}
+
+static void crawled(struct job *job)
+{
+    crawled_rows(job);
+    example_terms(job);
+}
+
+static void example_primes(struct job *job)
+{
+    example_rows(job);
+    add_byte(job, COVER_PRIMES);
+}
+
+/* One input, one output, both cells wanted, the term without literals so many times. */
+static void constant(struct job *job, unsigned times)
+{
+    add_sizes(job, 1, 1);
+    add_three(job, COVER_ROW, 0, 1, 0);
+    add_three(job, COVER_ROW, 1, 1, 0);
+    for (unsigned i = 0; i < times; i++)
+        add_three(job, COVER_TERM, 0, 0, 1);
+}
+
+static void nothing(struct job *job)
+{
+    add_sizes(job, 1, 1);
+}
+
+static void once(struct job *job)
+{
+    constant(job, 1);
+}
+
+static void twice(struct job *job)
+{
+    constant(job, 2);
+}
+
+/* Eight vertices, each with two equal terms: 2^8 covers, more than one page may hold. */
+static void pairs(struct job *job)
+{
+    add_sizes(job, 3, 1);
+    for (unsigned v = 0; v < 8; v++)
+        add_three(job, COVER_ROW, v, 1, 0);
+    for (unsigned i = 0; i < 16; i++)
+        add_three(job, COVER_TERM, 7, i / 2, 1);
+}
+
+static int odd(unsigned v)
+{
+    unsigned ones = 0;
+    for (; v != 0; v >>= 1)
+        ones += v & 1;
+    return ones % 2 == 1;
+}
+
+static void parity(struct job *job, unsigned n)
+{
+    add_sizes(job, n, 1);
+    for (unsigned v = 0; v < 1u << n; v++)
+        if (odd(v))
+            add_three(job, COVER_ROW, v, 1, 0);
+    add_byte(job, COVER_PRIMES);
+}
+
+static void parity_of_7(struct job *job)
+{
+    parity(job, 7);
+}
+
+/* Paging. */
+
+enum { MOST_LISTED = 1000 };
+
+struct list {
+    uint64_t sets[MOST_LISTED];
+    size_t count;
+};
+
+/* Where the paging stands, over all jobs. */
+struct paging {
+    struct list joined;
+    uint64_t start;
+    int more;
+    unsigned jobs;
+};
+
+/* Joins the page at `answer`; gives the bytes of it. */
+static size_t join(struct paging *paging, const uint8_t *answer, unsigned count)
+{
+    size_t sets = answer[1];
+    CHECK(answer[0] == COVER_LIST_ANSWER && answer[2] <= 1 && sets <= count);
+    for (size_t i = 0; i < sets && paging->joined.count < MOST_LISTED; i++) {
+        uint64_t set = number_at(answer + COVER_LIST_ANSWER_BYTES(i), 8);
+        CHECK(set >= paging->start);
+        paging->joined.sets[paging->joined.count++] = set;
+        paging->start = set + 1;
+    }
+    paging->more = answer[2];
+    return COVER_LIST_ANSWER_BYTES(sets);
+}
+
+/*
+ * One job: pages are added one by one, and the job is run anew with each, until there are no
+ * more or the next one finds no room. The job has no end yet, so a page that was answered is
+ * seen by refusal 2 behind it. Gives how many pages were answered.
+ */
+static unsigned page_job(struct paging *paging, void (*problem)(struct job *), unsigned count, size_t room)
+{
+    static struct job job;
+    paging->jobs++;
+    problem(&job);
+    uint64_t head = call(&job, room);
+    if (cover_number(head) == COVER_NO_ROOM) {
+        /* Only the primes have an answer there, and they come last. */
+        CHECK(is(head, COVER_NO_ROOM, job.length - 1, 0));
+        return 0;
+    }
+    CHECK(cover_number(head) == COVER_NO_END && cover_offset(head) == job.length);
+
+    size_t taken = cover_written(head);
+    unsigned pages = 0;
+    while (paging->more && job.length + COVER_LIST_BYTES <= COVER_MOST_JOB_BYTES) {
+        size_t at = job.length;
+        add_page(&job, paging->start, count);
+        uint64_t outcome = call(&job, room);
+        if (cover_number(outcome) == COVER_NO_ROOM) {
+            CHECK(is(outcome, COVER_NO_ROOM, at, taken));
+            break;
+        }
+        CHECK(cover_number(outcome) == COVER_NO_END && cover_offset(outcome) == job.length);
+        if (cover_number(outcome) != COVER_NO_END)
+            break;
+        size_t before = paging->joined.count;
+        taken += join(paging, answers + taken, count);
+        CHECK(cover_written(outcome) == taken);
+        pages++;
+        /* A page with count 1 or more brings the list on as long as there is more. */
+        CHECK(paging->joined.count > before || !paging->more);
+        if (paging->joined.count == before)
+            break;
+    }
+    return pages;
+}
+
+/* Pages through all covers. Where not one page fits, a further job asks for less, or gets room. */
+static struct paging page_through(void (*problem)(struct job *), unsigned count, size_t room)
+{
+    struct paging paging = {.start = 0, .more = 1};
+    while (paging.more && paging.jobs < 2 * MOST_LISTED) {
+        if (page_job(&paging, problem, count, room) > 0)
+            continue;
+        if (count > 1)
+            count /= 2;
+        else
+            room += 8;
+    }
+    return paging;
+}
+
+static int same(const struct list *a, const struct list *b)
+{
+    return a->count == b->count && memcmp(a->sets, b->sets, a->count * sizeof a->sets[0]) == 0;
+}
+
+/* Every count up to a little above the list's length, and every room up to a little above need. */
+static void page_in_every_way(void (*problem)(struct job *), const struct list *known)
+{
+    for (unsigned count = 1; count <= known->count + 2; count++) {
+        size_t need = COVER_LIST_ANSWER_BYTES(known->count) * 2 + 30;
+        for (size_t room = 0; room <= need; room++) {
+            struct paging paging = page_through(problem, count, room);
+            CHECK(same(&paging.joined, known) && !paging.more);
+        }
+    }
+}
+
+static struct list listed(size_t count, const uint64_t *sets)
+{
+    struct list list = {.count = count};
+    memcpy(list.sets, sets, count * sizeof sets[0]);
+    return list;
+}
+
+#define LISTED(...) \
+    listed(sizeof((uint64_t[]){__VA_ARGS__}) / sizeof(uint64_t), (const uint64_t[]){__VA_ARGS__})
+
+static void test_paging(void)
+{
+    struct list a = LISTED(11, 22, 26, 41, 52, 56);
+    struct list c = LISTED(13, 25, 38, 44, 50, 56);
+    struct list d = LISTED(11, 23, 45, 52, 58);
+    struct list e = LISTED(0);
+    struct list g = LISTED(1, 2);
+    page_in_every_way(example, &a);
+    page_in_every_way(example_primes, &c);
+    page_in_every_way(crawled, &d);
+    page_in_every_way(nothing, &e);
+    page_in_every_way(twice, &g);
+}
+
+static struct list all_pairs(void)
+{
+    struct list list = {.count = 0};
+    for (uint64_t set = 0; set < 65536; set++) {
+        /* One of the two terms of each vertex: the bits of each pair differ. */
+        if (((set ^ set >> 1) & 0x5555) == 0x5555)
+            list.sets[list.count++] = set;
+    }
+    return list;
+}
+
+static void test_long_paging(void)
+{
+    struct list known = all_pairs();
+    CHECK(known.count == 256);
+    static const unsigned counts[] = {1, 7, 100, 128, 254, 255};
+    static const size_t rooms[] = {0, 11, 100, 1000, 2043, 2046, 4096, COVER_MOST_ANSWER_BYTES};
+    for (size_t i = 0; i < sizeof counts / sizeof counts[0]; i++) {
+        for (size_t k = 0; k < sizeof rooms / sizeof rooms[0]; k++) {
+            struct paging paging = page_through(pairs, counts[i], rooms[k]);
+            CHECK(same(&paging.joined, &known) && !paging.more);
+        }
+    }
+}
+
+/* Whole answers: all sets on one page, then the cheapest, then the end. */
+
+static void check_answers(void (*problem)(struct job *), const struct list *sets, uint64_t cost, uint64_t cheapest)
+{
+    static struct job job;
+    problem(&job);
+    size_t page = cover_written(call(&job, COVER_MOST_ANSWER_BYTES));
+    add_page(&job, 0, 255);
+    add_byte(&job, COVER_CHEAPEST);
+    add_byte(&job, COVER_END);
+    size_t last = page + COVER_LIST_ANSWER_BYTES(sets->count);
+    size_t need = last + COVER_CHEAPEST_ANSWER_BYTES + COVER_END_ANSWER_BYTES;
+
+    CHECK(is(call(&job, need), COVER_ACCEPTED, job.length, need));
+    CHECK(answers[page] == COVER_LIST_ANSWER && answers[page + 1] == sets->count && answers[page + 2] == 0);
+    for (size_t i = 0; i < sets->count; i++)
+        CHECK(number_at(answers + page + COVER_LIST_ANSWER_BYTES(i), 8) == sets->sets[i]);
+    CHECK(answers[last] == COVER_CHEAPEST_ANSWER);
+    CHECK(number_at(answers + last + 1, 2) == cost && number_at(answers + last + 3, 8) == cheapest);
+    CHECK(answers[need - 1] == COVER_END_ANSWER);
+
+    /* With one byte less the end finds no room; what was finished before it stands. */
+    CHECK(is(call(&job, need - 1), COVER_NO_ROOM, job.length - 1, need - 1));
+}
+
+static void test_marked_cases(void)
+{
+    struct list a = LISTED(11, 22, 26, 41, 52, 56);
+    struct list c = LISTED(13, 25, 38, 44, 50, 56);
+    struct list d = LISTED(11, 23, 45, 52, 58);
+    struct list e = LISTED(0);
+    struct list f = LISTED(1);
+    struct list g = LISTED(1, 2);
+    check_answers(example, &a, 6, 41);
+    check_answers(example_primes, &c, 6, 13);
+    check_answers(crawled, &d, 7, 11);
+    check_answers(nothing, &e, 0, 0);
+    check_answers(once, &f, 1, 1);
+    check_answers(twice, &g, 1, 1);
+}
+
+/* Case b: with the members of one cover as the only candidates, the cheapest is that cover. */
+static void test_costs(void)
+{
+    static const unsigned sets[] = {11, 22, 26, 41, 52, 56};
+    static const unsigned costs[] = {7, 8, 8, 6, 7, 7};
+    static struct job job;
+    for (size_t k = 0; k < 6; k++) {
+        uint64_t members = 0;
+        example_rows(&job);
+        for (size_t i = 0; i < 6; i++) {
+            if (sets[k] >> i & 1) {
+                add_term(&job, terms[i]);
+                members = members << 1 | 1;
+            }
+        }
+        add_byte(&job, COVER_CHEAPEST);
+        add_byte(&job, COVER_END);
+        CHECK(is(call(&job, 12), COVER_ACCEPTED, job.length, 12));
+        CHECK(number_at(answers + 1, 2) == costs[k] && number_at(answers + 3, 8) == members);
+    }
+}
+
+/* Case c's primes: terms 1, 3, 6, 4, 2, 5. */
+static void test_primes(void)
+{
+    static const unsigned order[] = {1, 3, 6, 4, 2, 5};
+    static struct job job;
+    example_primes(&job);
+    CHECK(is(call(&job, 20), COVER_NO_END, job.length, 20));
+    CHECK(answers[0] == COVER_PRIMES_ANSWER && answers[1] == 6);
+    for (size_t i = 0; i < 6; i++)
+        CHECK(memcmp(answers + COVER_PRIMES_ANSWER_BYTES(i), terms[order[i] - 1], 3) == 0);
+    CHECK(is(call(&job, 19), COVER_NO_ROOM, job.length - 1, 0));
+}
+
+/* Case h at a page of any count and at the cheapest. */
+static void test_unheld(void)
+{
+    static struct job job;
+    for (unsigned count = 0; count < 3; count++) {
+        constant(&job, 0);
+        size_t at = job.length;
+        add_page(&job, 0, count);
+        CHECK(is(call(&job, 100), COVER_UNHELD_CELL, at, 0));
+        CHECK(is(call(&job, 0), COVER_UNHELD_CELL, at, 0));
+    }
+    constant(&job, 0);
+    add_byte(&job, COVER_CHEAPEST);
+    CHECK(is(call(&job, 100), COVER_UNHELD_CELL, job.length - 1, 0));
+}
+
+static void test_parity(void)
+{
+    static struct job job;
+    struct list all = LISTED(UINT64_MAX);
+    check_answers(parity_of_7, &all, 512, UINT64_MAX);
+    struct paging paging = page_through(parity_of_7, 3, 1000);
+    CHECK(same(&paging.joined, &all) && !paging.more);
+
+    parity(&job, 7);
+    CHECK(is(call(&job, 194), COVER_NO_END, job.length, 194));
+    CHECK(answers[0] == COVER_PRIMES_ANSWER && answers[1] == 64);
+    size_t i = 0;
+    for (unsigned v = 0; v < 128; v++) {
+        if (odd(v)) {
+            const uint8_t *prime = answers + COVER_PRIMES_ANSWER_BYTES(i++);
+            CHECK(prime[0] == 127 && prime[1] == v && prime[2] == 1);
+        }
+    }
+
+    parity(&job, 8);
+    CHECK(is(call(&job, COVER_MOST_ANSWER_BYTES), COVER_TOO_MANY, 3 + 4 * 128, 0));
+}
+
+/* One page, given by its three numbers: sets, more and the first set. */
+static void check_page(void (*problem)(struct job *), uint64_t start, unsigned count, const uint64_t expected[3])
+{
+    static struct job job;
+    problem(&job);
+    size_t page = cover_written(call(&job, COVER_MOST_ANSWER_BYTES));
+    add_page(&job, start, count);
+    size_t need = page + COVER_LIST_ANSWER_BYTES(expected[0]);
+    CHECK(is(call(&job, COVER_MOST_ANSWER_BYTES), COVER_NO_END, job.length, need));
+    CHECK(answers[page + 1] == expected[0] && answers[page + 2] == expected[1]);
+    CHECK(expected[0] == 0 || number_at(answers + page + 3, 8) == expected[2]);
+}
+
+#define PAGE(...) ((const uint64_t[3]){__VA_ARGS__})
+
+static void test_starts(void)
+{
+    check_page(example, 0, 0, PAGE(0, 1, 0));
+    check_page(example, 0, 5, PAGE(5, 1, 11));
+    check_page(example, 0, 6, PAGE(6, 0, 11));
+    check_page(example, 11, 1, PAGE(1, 1, 11));
+    check_page(example, 12, 1, PAGE(1, 1, 22));
+    check_page(example, 56, 0, PAGE(0, 1, 0));
+    check_page(example, 56, 1, PAGE(1, 0, 56));
+    check_page(example, 57, 0, PAGE(0, 0, 0));
+    check_page(example, 57, 255, PAGE(0, 0, 0));
+    check_page(example, 64, 255, PAGE(0, 0, 0));
+    check_page(example, UINT64_MAX, 255, PAGE(0, 0, 0));
+    check_page(parity_of_7, UINT64_MAX, 0, PAGE(0, 1, 0));
+    check_page(parity_of_7, UINT64_MAX, 1, PAGE(1, 0, UINT64_MAX));
+}
+
+/* Each refusal once, with the smallest job that has it. */
+
+struct refused {
+    enum cover_refusal number;
+    size_t offset, written, room;
+    const char *job;
+};
+
+static const struct refused refused[] = {
+    {COVER_NO_END, 0, 0, 9, ""},
+    {COVER_NO_END, 3, 0, 9, "I\1\1"},
+    {COVER_NO_COMMAND, 3, 0, 9, "I\1\1x"},
+    {COVER_NO_COMMAND, 0, 0, 9, "i\1\1"},
+    {COVER_WRONG_PLACE, 0, 0, 9, "E"},
+    {COVER_WRONG_PLACE, 3, 0, 9, "I\1\1I"},
+    {COVER_NO_OPERANDS, 0, 0, 9, "I\1"},
+    {COVER_NO_OPERANDS, 3, 0, 9, "I\1\1L12345678"},
+    {COVER_WRONG_SIZES, 0, 0, 9, "I\1\11"},
+    {COVER_WRONG_SIZES, 0, 0, 9, "I\11\1"},
+    {COVER_WRONG_VERTEX, 3, 0, 9, "I\1\1R\2\1\1"},
+    {COVER_WRONG_ROW, 3, 0, 9, "I\1\1R\1\1\1"},
+    {COVER_WRONG_ROW, 3, 0, 9, "I\1\1R\1\2\1"},
+    {COVER_MALFORMED_TERM, 3, 0, 9, "I\1\1T\2\2\1"},
+    {COVER_MALFORMED_TERM, 3, 0, 9, "I\1\1T\1\1\2"},
+    {COVER_OFF_CELL, 3, 0, 9, "I\1\1T\1\1\1"},
+    {COVER_BYTES_AFTER_END, 3, 0, 9, "I\1\1EE"},
+    {COVER_NO_ROOM, 3, 0, 0, "I\1\1E"},
+    {COVER_NO_ROOM, 3, 0, 10, "I\1\1CE"},
+    {COVER_NO_ROOM, 4, 11, 11, "I\1\1CE"},
+    {COVER_WRONG_PLACE, 4, 11, 11, "I\1\1CP"},
+    {COVER_WRONG_PLACE, 4, 2, 11, "I\1\1PT"},
+    {COVER_WRONG_PLACE, 4, 2, 11, "I\1\1PR"},
+    {COVER_WRONG_PLACE, 4, 2, 11, "I\1\1PP"},
+};
+
+static void test_refusals(void)
+{
+    static struct job job;
+    for (size_t i = 0; i < sizeof refused / sizeof refused[0]; i++) {
+        const struct refused *r = &refused[i];
+        job.length = strlen(r->job);
+        memcpy(job.bytes, r->job, job.length);
+        uint64_t outcome = call(&job, r->room);
+        if (!is(outcome, r->number, r->offset, r->written))
+            printf("refusal job %zu gave %d %zu %zu\n", i, (int)cover_number(outcome), cover_offset(outcome),
+                   cover_written(outcome));
+        CHECK(is(outcome, r->number, r->offset, r->written));
+    }
+    constant(&job, 65);
+    CHECK(is(call(&job, 0), COVER_TOO_MANY, 11 + 4 * 64, 0));
+}
+
+/* A job of so many bytes: pages of no sets, then the cheapest again and again, then the end. */
+static size_t long_job(struct job *job, size_t length)
+{
+    size_t need = COVER_END_ANSWER_BYTES;
+    nothing(job);
+    for (; job->length + COVER_LIST_BYTES < length; need += COVER_LIST_ANSWER_BYTES(0))
+        add_page(job, 0, 0);
+    for (; job->length + 1 < length; need += COVER_CHEAPEST_ANSWER_BYTES)
+        add_byte(job, COVER_CHEAPEST);
+    add_byte(job, COVER_END);
+    return need;
+}
+
+static void test_lengths(void)
+{
+    static struct job job;
+    size_t need = long_job(&job, COVER_MOST_JOB_BYTES);
+    CHECK(job.length == 32768);
+    CHECK(is(call(&job, COVER_MOST_ANSWER_BYTES), COVER_ACCEPTED, 32768, need));
+    CHECK(is(call(&job, COVER_MOST_ANSWER_BYTES + 1), COVER_TOO_LONG, 0, 0));
+    job.bytes[32767] = COVER_CHEAPEST;
+    CHECK(is(call(&job, COVER_MOST_ANSWER_BYTES), COVER_NO_END, 32768, need + 10));
+    long_job(&job, COVER_MOST_JOB_BYTES + 1);
+    CHECK(job.length == 32769);
+    CHECK(is(call(&job, COVER_MOST_ANSWER_BYTES), COVER_TOO_LONG, 0, 0));
+    CHECK(is(call(&job, 0), COVER_TOO_LONG, 0, 0));
+}
+
+/* A null pointer goes with a length of 0. */
+static void test_null(void)
+{
+    static struct job job;
+    uint8_t byte = 7;
+    CHECK(is(cover_job(NULL, 0, NULL, 0), COVER_NO_END, 0, 0));
+    CHECK(is(cover_job(NULL, 0, &byte, 1), COVER_NO_END, 0, 0));
+    CHECK(byte == 7);
+    nothing(&job);
+    add_byte(&job, COVER_END);
+    CHECK(is(cover_job(job.bytes, job.length, NULL, 0), COVER_NO_ROOM, 3, 0));
+}
+
+/* Nothing is kept: a job gives the same after another one, finished or refused. */
+static void test_nothing_kept(void)
+{
+    struct list a = LISTED(11, 22, 26, 41, 52, 56);
+    struct list g = LISTED(1, 2);
+    for (unsigned i = 0; i < 3; i++) {
+        check_answers(example, &a, 6, 41);
+        check_answers(twice, &g, 1, 1);
+        test_unheld();
+    }
+}
+
+int main(void)
+{
+    test_marked_cases();
+    test_costs();
+    test_primes();
+    test_unheld();
+    test_parity();
+    test_starts();
+    test_refusals();
+    test_lengths();
+    test_null();
+    test_nothing_kept();
+    test_paging();
+    test_long_paging();
+    printf("%u passed, %u failed\n", passed, failed);
+    return failed == 0 ? EXIT_SUCCESS : EXIT_FAILURE;
+}
