@@ -29,14 +29,14 @@ reached-sized p r = sized p (r .problem) (r .holds) (r .valid)
 
 -- ---- the start, and I
 
-zero-at : (k v : ℕ) → _≡_ {A = ℕ} (getD (replicate k 0) v 0) 0
+pub zero-at : (k v : ℕ) → _≡_ {A = ℕ} (getD (replicate k 0) v 0) 0
 zero-at k v = go (decLt v k)
   where
     go : Dec (v < k) → _≡_ {A = ℕ} (getD (replicate k 0) v 0) 0
     go (yes h) = getD-replicate k v 0 0 h
     go (no h) = List·getD-eq-default (replicate k 0) 0 (omega (arith, length-replicate {A = ℕ} k 0))
 
-none-given : (v : ℕ) → ltb 0 (getD (replicate 256 0) v 0) ≡ false
+pub none-given : (v : ℕ) → ltb 0 (getD (replicate 256 0) v 0) ≡ false
 none-given v = rw (zero-at 256 v)
 
 pub holds-empty : Holds noProblem model.empty

@@ -7,3 +7,4 @@ pub mod Stepping
 pub mod Querying
 pub mod Dispatching
 pub mod Running
+pub mod Calling

@@ -8,10 +8,10 @@ use mathlib.Core.List.{List, [], _∷_, _++_, map}
 use lib.Dec.{T}
 use lib.ListN.{getD, length, take, set, replicate, length-map, length-replicate, length-set}
 use lib.Pow.{pow-mono}
-use lib.Seq.{take-suc, take-suc-set, length-take-le}
+use lib.Seq.{take-suc, take-suc-set, take-length}
 use Rattle.model.specs.Base.{bit, below}
 use Rattle.model.specs.declared.Term.{Term}
-use Rattle.model.specs.Table.{term, holds, onCells}
+use Rattle.model.specs.Table.{holds, onCells}
 use Rattle.model.specs.Sets.{covers, cover, coverable, irredundants, cheapest, ofRows, rowOf, members}
 use Rattle.model.specs.Candidates.{termCost, Basis, basis, covering}
 use Rattle.model.specs.Commands as model
@@ -21,6 +21,7 @@ use Rattle.search.specs.Reduction.{Reduced}
 use Rattle.search.proofs.Same.{reduced-irredundants, reduced-cheapest, reduced-coverable}
 use Rattle.search.specs.Order.{SameRows}
 use Rattle.search.proofs.Ordering.{ordered-irredundants, ordered-cheapest, ordered-coverable}
+use Rattle.table.specs.Lists.{Filled}
 use Rattle.table.specs.Rows.{OnBytes, Put, AllRows, TellsCoverable}
 use Rattle.table.proofs.Uses.{put-front, some-on-table}
 use Rattle.engine.specs.declared.problem.Problem.{Problem}
@@ -103,17 +104,28 @@ refreshed-same p k ready count rows s l z = record { size = s; within = l; rows 
 pub refreshed-anew : (p : Problem) (k : model.Kind) (ready : Bool) (count : ℕ) (old new : List ℕ) (r : ℕ) → Prepares p new r → Refreshed p k ready count old new r
 refreshed-anew p k ready count old new r d = record { size = d .size; within = d .within; rows = λ q h f t. d .rows q h }
 
--- ---- costs
+-- ---- an array that a loop fills entry by entry
 
-abbrev pub CostsBelow : List Term → ℕ → List ℕ → Type 0
-CostsBelow terms i all = (length all ≡ 64) × (take i all ≡ map termCost (take i terms))
+module _ {A B : Type 0} (f : A → B) (cap : ℕ) where
+  -- the first i entries are done
+  abbrev pub MappedBelow : List A → ℕ → List B → Type 0
+  MappedBelow xs i all = (length all ≡ cap) × (take i all ≡ map f (take i xs))
 
-map-more : (xs : List Term) (t : Term) → map termCost (xs ++ (t ∷ [])) ≡ map termCost xs ++ (termCost t ∷ [])
-map-more [] t = refl
-map-more (x ∷ xs) t = ap (λ (l : List ℕ). termCost x ∷ l) (map-more xs t)
+  map-more : (xs : List A) (x : A) → map f (xs ++ (x ∷ [])) ≡ map f xs ++ (f x ∷ [])
+  map-more [] x = refl
+  map-more (y ∷ xs) x = ap (λ (l : List B). f y ∷ l) (map-more xs x)
 
-pub costs-next : (terms : List Term) (i : ℕ) (all : List ℕ) (w : ℕ) → i < 64 → i < length terms → w ≡ termCost (getD terms i (term 0 0 0)) → CostsBelow terms i all → CostsBelow terms (i + 1) (set all i w)
-costs-next terms i all w l k e c = (
-  length-set all i w ∙ c .0,
-  rw (add-one i) (take-suc-set all i w (omega (arith, c .0)) ∙ ap₂ (λ (xs : List ℕ) (y : ℕ). xs ++ (y ∷ [])) (c .1) e ∙ sym (map-more (take i terms) (getD terms i (term 0 0 0))) ∙ ap (map termCost) (sym (take-suc terms i (term 0 0 0) k))),
-)
+  pub mapped-next : (d : A) (xs : List A) (i : ℕ) (all : List B) (w : B) → i < cap → i < length xs → w ≡ f (getD xs i d) → MappedBelow xs i all → MappedBelow xs (i + 1) (set all i w)
+  mapped-next d xs i all w l k e c = (
+    length-set all i w ∙ c .0,
+    rw (add-one i) (take-suc-set all i w (omega (arith, c .0)) ∙ ap₂ (λ (ys : List B) (y : B). ys ++ (y ∷ [])) (c .1) e ∙ sym (map-more (take i xs) (getD xs i d)) ∙ ap (map f) (sym (take-suc xs i d k))),
+  )
+
+  pub mapped-all : (xs : List A) (i : ℕ) (all : List B) → length xs ≤ i → i ≤ length xs → MappedBelow xs i all → Filled cap (map f xs) all (length xs)
+  mapped-all xs i all l k c =
+      let e : i ≡ length xs = omega arith in
+      record {
+        size = c .0;
+        counted = sym (length-map xs f);
+        same = subst (λ (n : ℕ). take n all ≡ map f (take n xs)) e (c .1) ∙ ap (map f) (take-length xs);
+      }

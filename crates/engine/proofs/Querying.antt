@@ -85,6 +85,11 @@ module _ (x : Context) (k : model.Kind) (p : Problem) (old new : List ℕ) (r : 
 
 -- ---- L
 
+-- the covers of the rows are those of the problem
+pub rows-listed : (p : Problem) (q : model.Problem) (rows : List ℕ) (n : ℕ) → Holds p q → RowsOf (basisOf q) rows → n ≡ p .count → rowCovers n rows ≡ irredundants (covering (basisOf q))
+unfolding rowCovers
+rows-listed p q rows n h d m = ap (λ (i : ℕ). irredundants (ofRows (replicate i 0) rows)) (m ∙ h .cands .counted) ∙ sym (d .listed)
+
 module _ (p : Problem) (b : Bool) (told : TellsCovered p b) where
   pub list-uncovered : (rows : List ℕ) (s k : ℕ) (old : List ℕ) (e : Effect) → b ≡ false → e ≡ refusedAs p 12 → HandlesL p rows s k old old e
   unfolding refusalsOf
@@ -95,14 +100,11 @@ module _ (p : Problem) (b : Bool) (told : TellsCovered p b) where
   own-none x z f = rw (← told (x .problem) (f .holds), z)
 
   pub list-answered : (rows : List ℕ) (s k n c : ℕ) (old new : List ℕ) (r : Reply) (e : Effect) → b ≡ true → n ≡ p .count → c ≡ k → Replied (pageBytes (rowCovers n rows) s c) old new r → e ≡ repliedAs p r → HandlesL p rows s k old new e
-  unfolding answerFor rowCovers
+  unfolding answerFor
   list-answered rows s k n c old new r e z m v w q x f d i j l =
       handled-reply x model.Kind.L p old new r
-      (subst (λ (all : List ℕ). Replied (pageBytes all (start x) (count x)) old new r) same (rw (i, j, ← v) w))
+      (subst (λ (all : List ℕ). Replied (pageBytes all (start x) (count x)) old new r) (rows-listed p (x .problem) rows n (f .holds) d m) (rw (i, j, ← v) w))
       l (own-none x z f) (after-L x p (f .holds)) e q
-    where
-      same : irredundants (ofRows (replicate n 0) rows) ≡ irredundants (coveringOf x)
-      same = ap (λ (i : ℕ). irredundants (ofRows (replicate i 0) rows)) (m ∙ f .holds .cands .counted) ∙ sym (d .listed)
 
 -- ---- C
 

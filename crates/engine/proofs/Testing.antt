@@ -16,6 +16,7 @@ use Rattle.model.specs.Commands as model
 use Rattle.model.specs.Commands.{Context, operand, operandTerm}
 use Rattle.model.specs.Refusals.{refuse, firstOf, size, badRow, refusalsOf}
 use Rattle.model.specs.Invariants.{Valid}
+use Rattle.model.specs.Library.{badVertex}
 use Rattle.model.proofs.Lists.{T-true}
 use Rattle.model.proofs.Cubes.{formed-e}
 use Rattle.table.specs.Cubes.{Allowed, TableBytes, MayOf, TellsFormed, TellsNoOff, Cube}
@@ -87,18 +88,24 @@ module _ (p : Problem) (v on dc : ℕ) (t : Bool) (taken : TellsTaken p v t) whe
 
 -- ---- terms
 
--- the bytes of the table that p holds
-pub held-bytes : (p : Problem) (q : model.Problem) → Sized p → Holds p q → Valid q → TableBytes (q .table) (p .n) (p .on) (p .dc)
-held-bytes p q z h v = record {
+-- the bytes of the table that p holds, where its rows are well formed
+pub held-rows : (p : Problem) (q : model.Problem) → Sized p → Holds p q → ((v : ℕ) → v < 2 ^ q .table .n → T (not (badVertex (q .table) v))) → TableBytes (q .table) (p .n) (p .on) (p .dc)
+held-rows p q z h g = record {
   inputs = sym (h .inputs);
   on-bytes = λ w l. h .on-bytes w (small w l);
   dc-bytes = λ w l. h .dc-bytes w (small w l);
-  on-lt = λ w l. subst⁻¹ (λ (x : ℕ). x < 2 ^ q .table .m) (h .on-bytes w (small w l)) (small-bytes (q .table) w (v .good w) .0);
-  dc-lt = λ w l. subst⁻¹ (λ (x : ℕ). x < 2 ^ q .table .m) (h .dc-bytes w (small w l)) (small-bytes (q .table) w (v .good w) .1);
+  on-lt = λ w l. subst⁻¹ (λ (x : ℕ). x < 2 ^ q .table .m) (h .on-bytes w (small w l)) (bytes w l .0);
+  dc-lt = λ w l. subst⁻¹ (λ (x : ℕ). x < 2 ^ q .table .m) (h .dc-bytes w (small w l)) (bytes w l .1);
 }
   where
     small : (w : ℕ) → w < 2 ^ p .n → w < 256
     small w l = omega (arith, pow-mono (z .inputs))
+
+    bytes : (w : ℕ) → w < 2 ^ p .n → (getD (q .table .on) w 0 < 2 ^ q .table .m) × (getD (q .table .dc) w 0 < 2 ^ q .table .m)
+    bytes w l = small-bytes (q .table) w (g w (omega (arith, taken-law p w q h)))
+
+pub held-bytes : (p : Problem) (q : model.Problem) → Sized p → Holds p q → Valid q → TableBytes (q .table) (p .n) (p .on) (p .dc)
+held-bytes p q z h v = held-rows p q z h (λ w l. v .good w)
 
 module _ (p : Problem) (t : Term) (z : Sized p) (f : Bool) (formed-is : TellsFormed (p .n) (p .m) t f) where
   formed-here : (x : Context) → Holds p (x .problem) → f ≡ formed (x .problem .table) t

@@ -5,3 +5,4 @@ pub mod Tests
 pub mod Matrix
 pub mod Effects
 pub mod Jobs
+pub mod Library

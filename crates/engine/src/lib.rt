@@ -8,6 +8,7 @@ ghost use Rattle.engine.specs.Jobs.{called};
 pub mod commands;
 pub mod job;
 pub mod kinds;
+pub mod library;
 pub mod matrix;
 pub mod operands;
 pub mod problem;

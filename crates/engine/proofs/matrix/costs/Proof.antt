@@ -3,9 +3,10 @@ use Prim.Native.Nat.{ℕ, _-_, _≤_}
 use mathlib.Core.Path.{_≡_, refl, subst}
 use mathlib.Core.List.{map}
 use lib.ListN.{take}
+use Rattle.model.specs.Table.{term}
 use Rattle.model.specs.Candidates.{termCost}
 use native.Mathlib.Omega.{arith}
-use Rattle.engine.proofs.Preparing.{CostsBelow, costs-next}
+use Rattle.engine.proofs.Preparing.{MappedBelow, mapped-next}
 use Rattle.engine.proofs.matrix.costs.Statement.{statement}
 use Rattle.engine.proofs.matrix.costs.Tie as tie
 use Rattle.engine.proofs.matrix.costs.Reads as reads
@@ -13,7 +14,7 @@ use Rattle.engine.proofs.matrix.costs.Lts as lts
 use Rattle.engine.proofs.matrix.cost.Reads as cost-reads
 
 abbrev Inv-loop : tie.InvT-loop
-Inv-loop count terms all₀ i₀ all i = (i ≤ count) × CostsBelow terms i all
+Inv-loop count terms all₀ i₀ all i = (i ≤ count) × MappedBelow termCost 64 terms i all
 
 abbrev μ-loop : tie.MeasureT-loop
 μ-loop count terms all₀ i₀ all i = count - i
@@ -52,7 +53,7 @@ loop-less c = omega arith
 
 -- src/matrix.rt:47:5
 loop-again : tie.Need-loop-again Inv-loop μ-loop
-loop-again c = (omega arith, costs-next (c .before .before .before .before .args .t1) (c .before .before .before .loop .i) (c .before .before .before .loop .all) _ (omega (arith, c .before .before .before .before .pre)) (omega (arith, c .before .before .before .before .good .0 .1, c .before .before .before .before .pre)) (c .cost .ensures) (c .before .before .before .loop .inv .1))
+loop-again c = (omega arith, mapped-next termCost 64 (term 0 0 0) (c .before .before .before .before .args .t1) (c .before .before .before .loop .i) (c .before .before .before .loop .all) _ (omega (arith, c .before .before .before .before .pre)) (omega (arith, c .before .before .before .before .good .0 .1, c .before .before .before .before .pre)) (c .cost .ensures) (c .before .before .before .loop .inv .1))
 
 -- src/matrix.rt:41:1
 returns : tie.Need-returns Inv-loop μ-loop
