@@ -4,6 +4,7 @@ pub mod Bridge
 pub mod Same
 pub mod Tightening
 pub mod Scanning
+pub mod Extending
 pub mod Tree
 pub mod Climbing
 pub mod Listing

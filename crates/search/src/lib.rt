@@ -8,6 +8,7 @@ pub mod cheapest;
 pub mod components;
 pub mod costs;
 pub mod dominance;
+pub mod extension;
 pub mod greedy;
 pub mod lister;
 pub mod order;

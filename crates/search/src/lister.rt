@@ -4,6 +4,7 @@ ghost use mathlib.Core.Bool.{false};
 ghost use Prim.Native.Nat.{_+_, _^_, _≤_};
 ghost use Rattle.search.specs.Covers.{Node};
 ghost use Rattle.search.specs.Lister.{LeastIn, Narrowed, rowCovers, sought, advanced, Paged};
+use crate::extension;
 use crate::pruning;
 use crate::pruning::Tight;
 use crate::rows;
@@ -16,7 +17,8 @@ pub enum Found {
 }
 
 // The least irredundant cover in [s, s + 2^i). All of them lie between t.s and t.s | t.free, so that a candidate which t has decided
-// costs no test; of one that is open, the half without it comes first.
+// costs no test; of one that is open, the half without it comes first. Where that half had none, the other may well have none either: it is
+// tested exactly before it is searched, so that a range without a cover is left after one walk down.
 pub fn least(rows: &[u64], i: u64, s: u64, t: Tight) -> Found
     requires { ⌜ Node i s ⌝ }
     requires { ⌜ Narrowed (now rows) i s t ⌝ }
@@ -43,7 +45,7 @@ pub fn least(rows: &[u64], i: u64, s: u64, t: Tight) -> Found
     let low = least(rows, j, s, pruning::narrow(rows, t.s, rest));
     match low {
         Found::At(x) => Found::At(x),
-        Found::Nothing => least(rows, j, s + m, pruning::narrow(rows, t.s | m, rest)),
+        Found::Nothing => least(rows, j, s + m, extension::settle(rows, t.s | m, rest)),
     }
 }
 

@@ -12,6 +12,7 @@ use Rattle.search.proofs.lister.least.Kinds as least-kinds
 use Rattle.search.proofs.lister.+least.Lts-least as least-lts
 use Rattle.bits.proofs.set.minus.Reads as minus-reads
 use Rattle.bits.proofs.set.power.Reads as power-reads
+use Rattle.search.proofs.extension.settle.Reads as settle-reads
 use Rattle.search.proofs.pruning.narrow.Reads as narrow-reads
 use Rattle.search.proofs.rows.irredundant.Reads as irredundant-reads
 use Rattle.search.proofs.lister.+least.{statement}
@@ -28,7 +29,7 @@ least-below t = and 1 least-kinds.ps (falls 1 least-kinds.ps _<_ μ-least t) lea
 
 -- what is asked and learnt at each call
 abbrev G : ℕ → least-lts.Claims
-G t = (irredundant-reads.Asked, irredundant-reads.Learnt, power-reads.Asked, power-reads.Learnt, least-below t, least.Post, minus-reads.Asked, minus-reads.Learnt, narrow-reads.Asked, narrow-reads.Learnt)
+G t = (irredundant-reads.Asked, irredundant-reads.Learnt, power-reads.Asked, power-reads.Learnt, least-below t, least.Post, minus-reads.Asked, minus-reads.Learnt, narrow-reads.Asked, narrow-reads.Learnt, settle-reads.Asked, settle-reads.Learnt)
 
 least-returns : (t : ℕ) → least-lts.Need-returns (G t) (least-at t) least.Post
 least-returns t c = gone _ _ _ _ (c .before .before .pre .1 .1) (c .if1 .taken)
@@ -81,11 +82,11 @@ least-enum-told t c = search needs
 least-add-least-2 : (t : ℕ) → least-lts.Need-add-least-2 (G t) (least-at t) least.Post
 least-add-least-2 t c = omega (arith, c .before .before .before .before .before .before .before .before .before .power .ensures, halves (c .before .before .before .before .before .before .before .before .before .before .before .before .before .args .i) (not-zero-pos (c .before .before .before .before .before .before .before .before .before .before .if2 .left)), c .before .before .before .before .before .before .before .before .before .before .before .before .before .pre .1 .0 .room, pow-pos (c .before .before .before .before .before .before .before .before .before .before .before .before .before .args .i - 1))
 
-least-narrow-requires-2 : (t : ℕ) → least-lts.Need-narrow-requires-2 (G t) (least-at t) least.Post
-least-narrow-requires-2 t c κs = search needs
+least-settle-requires : (t : ℕ) → least-lts.Need-settle-requires (G t) (least-at t) least.Post
+least-settle-requires t c κs = search needs
 
 least-least-requires-4 : (t : ℕ) → least-lts.Need-least-requires-4 (G t) (least-at t) least.Post
-least-least-requires-4 t c κs = (omega (arith, c .before .before .before .before .before .before .before .before .before .before .before .before .before .before .before .pre .0, not-zero-pos (c .before .before .before .before .before .before .before .before .before .before .before .before .if2 .left)), (high-node _ _ _ (c .before .before .before .before .before .before .before .before .before .before .before .power .ensures) (c .before .before .before .before .before .before .before .before .before .before .before .before .before .before .before .pre .1 .0) (not-zero-pos (c .before .before .before .before .before .before .before .before .before .before .before .before .if2 .left)), high-open _ _ _ _ (c .before .before .before .before .before .before .before .before .before .before .before .before .before .before .before .pre .1 .1) _ (c .before .before .before .before .before .before .before .before .before .before .before .power .ensures) (c .before .before .before .before .before .before .before .before .before .before .before .before .before .before .before .pre .1 .0) (not-zero-pos (c .before .before .before .before .before .before .before .before .before .before .before .before .if2 .left)) _ (c .before .before .before .before .before .before .minus .ensures) _ (c .narrow2 .ensures)))
+least-least-requires-4 t c κs = (omega (arith, c .before .before .before .before .before .before .before .before .before .before .before .before .before .before .before .pre .0, not-zero-pos (c .before .before .before .before .before .before .before .before .before .before .before .before .if2 .left)), (high-node _ _ _ (c .before .before .before .before .before .before .before .before .before .before .before .power .ensures) (c .before .before .before .before .before .before .before .before .before .before .before .before .before .before .before .pre .1 .0) (not-zero-pos (c .before .before .before .before .before .before .before .before .before .before .before .before .if2 .left)), high-open _ _ _ _ (c .before .before .before .before .before .before .before .before .before .before .before .before .before .before .before .pre .1 .1) _ (c .before .before .before .before .before .before .before .before .before .before .before .power .ensures) (c .before .before .before .before .before .before .before .before .before .before .before .before .before .before .before .pre .1 .0) (not-zero-pos (c .before .before .before .before .before .before .before .before .before .before .before .before .if2 .left)) _ (c .before .before .before .before .before .before .minus .ensures) _ (c .settle .ensures)))
 
 least-returns-6 : (t : ℕ) → least-lts.Need-returns-6 (G t) (least-at t) least.Post
 least-returns-6 t c = from-low _ _ _ _ (c .before .before .before .before .before .before .before .before .before .before .before .before .before .before .pre .1 .1) _ (c .before .before .before .before .before .before .before .before .before .before .power .ensures) (c .before .before .before .before .before .before .before .before .before .before .before .before .before .before .pre .1 .0) (not-zero-pos (c .before .before .before .before .before .before .before .before .before .before .before .if2 .left)) _ _ (c .before .low .given .1) (c .before .before .before .least3 .ensures)
@@ -114,7 +115,7 @@ pub +least-spec : {M : Type 1} → statement M
     (least-enum-known-low t)
     (least-enum-told t)
     (least-add-least-2 t)
-    (least-narrow-requires-2 t)
+    (least-settle-requires t)
     (least-least-requires-4 t)
     (least-returns-6 t)
     (least-returns-7 t)
