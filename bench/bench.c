@@ -1,0 +1,560 @@
+/*
+ * Times the proved engine (cover_job) against the plain C one (baseline_job), and compares the answers.
+ *
+ *   bench [-t SECONDS] [-r ROUNDS] [-m] FOLDER
+ *
+ * For every *.job of the folder: the whole job, then each of its L and C commands. A command is timed by
+ * a job of its own, the commands before the first query, the one query and E, less the time of that job
+ * without the query; so it counts the making of the covering matrix, and has no ratio where it is less than
+ * 5 % of that job. Each time is the best of many runs, in ROUNDS rounds that alternate between the engines.
+ * Every measurement is a child process that is ended after SECONDS; what did not end is shown as "-".
+ *
+ * Then the stack that a call of cover_job uses, over all jobs, and the time of a job of 32,768 bytes that
+ * asks L with count 0 all along. -m prints the jobs as a markdown table.
+ *
+ * The exit status is 1 where answers differ or the stack use reaches 256 KiB, 2 where nothing was run.
+ */
+#define _GNU_SOURCE
+#include <dirent.h>
+#include <pthread.h>
+#include <stdbool.h>
+#include <stdint.h>
+#include <stdio.h>
+#include <stdlib.h>
+#include <string.h>
+#include <sys/mman.h>
+#include <sys/wait.h>
+#include <time.h>
+#include <unistd.h>
+
+#include "covers.h"
+
+uint64_t baseline_job(const uint8_t *job, size_t job_len, uint8_t *answers, size_t answers_len);
+
+enum { LONGEST = 32768, MOST_JOBS = 4096, MOST_QUERIES = 64 };
+enum { STACK = 4 << 20, STACK_LIMIT = 256 << 10, PAINT = 0xa5 };
+
+typedef uint64_t (*Engine)(const uint8_t *, size_t, uint8_t *, size_t);
+static const Engine engines[2] = {cover_job, baseline_job};
+
+typedef struct {
+    uint8_t bytes[LONGEST];
+    size_t len;
+} Job;
+
+/* What a child leaves: the best time of its runs, that of the job without the query, and what the call gave. */
+typedef struct {
+    double best, bare;
+    uint64_t outcome;
+    uint8_t answers[LONGEST];
+    bool ended;
+} Run;
+
+/* A measured job: both engines; the best over all rounds, less the best of the job without the query. */
+typedef struct {
+    double time[2];
+    bool ended[2];
+    bool differ; /* both ended, with other bytes or another outcome */
+    bool faint;  /* a difference of times that is too small for a ratio */
+} Pair;
+
+static int limit = 20, rounds = 3;
+static bool markdown = false;
+static Run *shared[2];
+static uint8_t *stack;
+
+static double now(void)
+{
+    struct timespec t;
+    clock_gettime(CLOCK_MONOTONIC, &t);
+    return (double)t.tv_sec + 1e-9 * (double)t.tv_nsec;
+}
+
+/* ---- jobs ---- */
+
+static size_t width(uint8_t command)
+{
+    switch (command) {
+    case 'I': return 2;
+    case 'R': case 'T': return 3;
+    case 'L': return 9;
+    default: return 0;
+    }
+}
+
+static void put(Job *job, const uint8_t *bytes, size_t len)
+{
+    memcpy(job->bytes + job->len, bytes, len);
+    job->len += len;
+}
+
+/* The part of the job before its first query. */
+static size_t head_of(const Job *job)
+{
+    size_t at = 0;
+    while (at < job->len && job->bytes[at] != 'L' && job->bytes[at] != 'C' && job->bytes[at] != 'E')
+        at += 1 + width(job->bytes[at]);
+    return at < job->len ? at : job->len;
+}
+
+static bool read_job(const char *folder, const char *name, Job *job)
+{
+    char path[4096];
+    snprintf(path, sizeof path, "%s/%s", folder, name);
+    FILE *f = fopen(path, "rb");
+    if (!f)
+        return false;
+    job->len = fread(job->bytes, 1, LONGEST, f);
+    fclose(f);
+    return true;
+}
+
+static bool starts_with(const char *s, const char *head) { return strncmp(s, head, strlen(head)) == 0; }
+
+/* Whether a job's table is a natural one, not made to be hard. */
+static bool natural(const char *name)
+{
+    static const char *const made[] = {"adv",    "cheaphard", "listhard", "cyc64",  "dup",
+                                       "edges",  "ring64",    "sub64",    "dupcyc"};
+    for (size_t i = 0; i < sizeof made / sizeof *made; i++)
+        if (starts_with(name, made[i]))
+            return false;
+    return true;
+}
+
+/* ---- time ---- */
+
+static double timed(Engine engine, const Job *job, Run *run)
+{
+    memset(run->answers, PAINT, LONGEST);
+    double start = now();
+    run->outcome = engine(job->bytes, job->len, run->answers, LONGEST);
+    return now() - start;
+}
+
+static double lesser(double a, double b) { return a < b ? a : b; }
+
+/* Runs in the child: calls the engine until 0.1 s is spent (but at most 1,000 times), and once at least. Where there is
+   a bare job, it is run in turn with the other. */
+static void repeat(Engine engine, const Job *job, const Job *bare, Run *run)
+{
+    double spent = 0;
+    for (int i = 0; i < 1000 && spent < 0.1; i++) {
+        if (bare)
+            run->bare = lesser(run->bare, timed(engine, bare, run));
+        double took = timed(engine, job, run);
+        run->best = lesser(run->best, took);
+        spent += took;
+    }
+    run->ended = true;
+}
+
+static void measure(int which, const Job *job, const Job *bare)
+{
+    Run *run = shared[which];
+    run->ended = false;
+    run->best = run->bare = 1e30;
+    fflush(stdout);
+    pid_t child = fork();
+    if (child == 0) {
+        alarm((unsigned)limit);
+        repeat(engines[which], job, bare, run);
+        _exit(0);
+    }
+    if (child < 0 || waitpid(child, NULL, 0) < 0) {
+        perror("bench");
+        exit(2);
+    }
+}
+
+static Pair compare(const Job *job, const Job *bare)
+{
+    Pair p = {{1e30, 1e30}, {true, true}, false, false};
+    double least[2] = {1e30, 1e30};
+    for (int r = 0; r < rounds && p.ended[0] && p.ended[1]; r++) {
+        for (int e = 0; e < 2; e++) {
+            measure(e, job, bare);
+            p.ended[e] = shared[e]->ended;
+            if (p.ended[e]) {
+                p.time[e] = lesser(p.time[e], shared[e]->best);
+                least[e] = lesser(least[e], shared[e]->bare);
+            }
+        }
+        if (p.ended[0] && p.ended[1])
+            p.differ |= shared[0]->outcome != shared[1]->outcome ||
+                        memcmp(shared[0]->answers, shared[1]->answers, LONGEST) != 0;
+        if (p.time[0] + p.time[1] > 4)
+            break;
+    }
+    for (int e = 0; e < 2 && bare; e++) {
+        p.faint |= p.time[e] < 1.05 * least[e];
+        p.time[e] = p.time[e] > least[e] ? p.time[e] - least[e] : 0;
+    }
+    return p;
+}
+
+static const char *shown(double t, bool ended)
+{
+    static char text[8][32];
+    static int next;
+    char *s = text[next++ % 8];
+    if (!ended)
+        return "-";
+    if (t < 1e-3)
+        snprintf(s, sizeof text[0], "%.1f us", t * 1e6);
+    else if (t < 1)
+        snprintf(s, sizeof text[0], "%.2f ms", t * 1e3);
+    else
+        snprintf(s, sizeof text[0], "%.2f s", t);
+    return s;
+}
+
+static const char *ratio(const Pair *p)
+{
+    static char text[8][32];
+    static int next;
+    char *s = text[next++ % 8];
+    if (!p->ended[0] || !p->ended[1] || p->faint)
+        return "-";
+    snprintf(s, sizeof text[0], "%.2f", p->time[0] / p->time[1]);
+    return s;
+}
+
+/* ---- stack ---- */
+
+static Job *stack_job;
+static size_t *stack_top; /* lent to the child: where the caller stands on the stack */
+
+static void *on_painted(void *nothing)
+{
+    static uint8_t answers[LONGEST];
+    uint8_t here;
+    *stack_top = (size_t)(&here - stack);
+    cover_job(stack_job->bytes, stack_job->len, answers, LONGEST);
+    return nothing;
+}
+
+/* How many bytes below its caller a call of cover_job writes to the stack; ended tells whether it came back. */
+static size_t stack_use(Job *job, bool *ended)
+{
+    int status;
+    size_t deepest = 0;
+    memset(stack, PAINT, STACK);
+    stack_job = job;
+    fflush(stdout);
+    pid_t child = fork();
+    if (child == 0) {
+        pthread_attr_t attr;
+        pthread_t thread;
+        alarm((unsigned)limit);
+        if (pthread_attr_init(&attr) || pthread_attr_setstack(&attr, stack, STACK) ||
+            pthread_create(&thread, &attr, on_painted, NULL) || pthread_join(thread, NULL))
+            _exit(2);
+        _exit(0);
+    }
+    if (child < 0 || waitpid(child, &status, 0) < 0 || (WIFEXITED(status) && WEXITSTATUS(status) == 2)) {
+        perror("bench");
+        exit(2);
+    }
+    *ended = WIFEXITED(status);
+    while (deepest < STACK && stack[deepest] == PAINT)
+        deepest++;
+    return *stack_top - deepest;
+}
+
+/* ---- a job of 32,768 bytes ---- */
+
+static uint64_t state;
+
+static uint64_t drawn(void)
+{
+    state ^= state << 13;
+    state ^= state >> 7;
+    state ^= state << 17;
+    return state;
+}
+
+static uint8_t may_drive(const uint8_t *may, uint8_t care, uint8_t value)
+{
+    uint8_t acc = 0xff;
+    for (int v = 0; v < 256; v++)
+        if ((v & care) == value)
+            acc &= may[v];
+    return acc;
+}
+
+typedef struct {
+    uint8_t on[256], may[256], held[256];
+    int terms;
+} Table;
+
+/* Adds a widest cube around the cell, with all outputs that it may drive; the inputs are tried from a drawn one on. */
+static void add_term(Job *job, Table *t, uint8_t v, int j)
+{
+    uint8_t care = 0xff;
+    int turn = (int)(drawn() >> 40) % 8;
+    for (int i = 0; i < 8; i++) {
+        uint8_t wider = care & (uint8_t)~(1u << (i + turn) % 8);
+        if (may_drive(t->may, wider, v & wider) >> j & 1)
+            care = wider;
+    }
+    uint8_t outputs = may_drive(t->may, care, v & care);
+    for (int u = 0; u < 256; u++)
+        if ((u & care) == (v & care))
+            t->held[u] |= outputs;
+    put(job, (const uint8_t[]){'T', care, v & care, outputs}, 4);
+    t->terms++;
+}
+
+/* 8 inputs, 8 outputs, 32 rows (the low five inputs run), 64 terms: one around each wanted cell that no term holds
+   yet, the others around wanted cells drawn. Then L with count 0 and a drawn start, until the bytes are used up, and
+   E. Returns how many L it has. */
+static int long_job(Job *job, uint64_t seed)
+{
+    Table t;
+    int lists = 0;
+    memset(&t, 0, sizeof t);
+    state = seed * 0x9e3779b97f4a7c15u + 1;
+    job->len = 0;
+    put(job, (const uint8_t[]){'I', 8, 8}, 3);
+    for (int v = 0xa0; v < 0xc0; v++) {
+        uint8_t dc = (uint8_t)(drawn() >> 32 & drawn() >> 32);
+        t.on[v] = (uint8_t)(drawn() >> 32 & drawn() >> 32 & ~dc);
+        t.may[v] = t.on[v] | dc;
+        put(job, (const uint8_t[]){'R', (uint8_t)v, t.on[v], dc}, 4);
+    }
+    for (int v = 0xa0; v < 0xc0; v++)
+        for (int j = 0; j < 8; j++)
+            if (t.terms < 64 && (t.on[v] & ~t.held[v]) >> j & 1)
+                add_term(job, &t, (uint8_t)v, j);
+    while (t.terms < 64) {
+        int cell = (int)(drawn() >> 40) % 256, v = 0xa0 + cell / 8, j = cell % 8;
+        if (t.on[v] >> j & 1)
+            add_term(job, &t, (uint8_t)v, j);
+    }
+    while (job->len + 10 < LONGEST) {
+        uint8_t list[10] = {'L'};
+        uint64_t start = drawn();
+        memcpy(list + 1, &start, 8);
+        put(job, list, 10);
+        lists++;
+    }
+    put(job, (const uint8_t[]){'E'}, 1);
+    return lists;
+}
+
+/* ---- the run ---- */
+
+static int by_name(const void *a, const void *b) { return strcmp(*(char *const *)a, *(char *const *)b); }
+
+static int by_number(const void *a, const void *b)
+{
+    double x = *(const double *)a, y = *(const double *)b;
+    return (x > y) - (x < y);
+}
+
+static void *lent(size_t len)
+{
+    void *p = mmap(NULL, len, PROT_READ | PROT_WRITE, MAP_SHARED | MAP_ANONYMOUS, -1, 0);
+    if (p == MAP_FAILED) {
+        perror("bench");
+        exit(2);
+    }
+    return p;
+}
+
+typedef struct {
+    double time;
+    const char *name;
+} Worst;
+
+static void raise_to(Worst *w, double time, const char *name)
+{
+    if (w->name == NULL || time > w->time) {
+        w->time = time;
+        w->name = name;
+    }
+}
+
+static Worst worst[2][2];     /* of the engine: page, C; of natural tables, of the others */
+static int open_queries[2][2]; /* how many of these did not end */
+static bool differ = false;
+
+/* The query at `at` of a job whose first query is at `head`. */
+static Pair query(const Job *job, size_t head, size_t at, const char *name)
+{
+    static Job one, bare;
+    one.len = bare.len = 0;
+    put(&bare, job->bytes, head);
+    put(&bare, (const uint8_t[]){'E'}, 1);
+    put(&one, job->bytes, head);
+    put(&one, job->bytes + at, 1 + width(job->bytes[at]));
+    put(&one, (const uint8_t[]){'E'}, 1);
+    Pair q = compare(&one, &bare);
+    int kind = job->bytes[at] == 'C', other = !natural(name);
+    if (q.ended[0])
+        raise_to(&worst[other][kind], q.time[0], name);
+    else
+        open_queries[other][kind]++;
+    return q;
+}
+
+int main(int argc, char **argv)
+{
+    int option;
+    while ((option = getopt(argc, argv, "t:r:m")) != -1)
+        switch (option) {
+        case 't': limit = atoi(optarg); break;
+        case 'r': rounds = atoi(optarg); break;
+        case 'm': markdown = true; break;
+        default: return 2;
+        }
+    if (optind + 1 != argc || limit < 1 || rounds < 1) {
+        fprintf(stderr, "usage: bench [-t SECONDS] [-r ROUNDS] [-m] FOLDER\n");
+        return 2;
+    }
+    const char *folder = argv[optind];
+    static char *names[MOST_JOBS];
+    static double ratios[MOST_JOBS];
+    static Job job;
+    size_t count = 0;
+    int both = 0, ended = 0;
+    Worst worst_ratio = {0, NULL};
+
+    DIR *dir = opendir(folder);
+    if (!dir) {
+        perror(folder);
+        return 2;
+    }
+    for (struct dirent *d; (d = readdir(dir)) != NULL && count < MOST_JOBS;) {
+        size_t len = strlen(d->d_name);
+        if (len > 4 && strcmp(d->d_name + len - 4, ".job") == 0)
+            names[count++] = strndup(d->d_name, len - 4);
+    }
+    closedir(dir);
+    if (count == 0) {
+        fprintf(stderr, "bench: no *.job in %s\n", folder);
+        return 2;
+    }
+    qsort(names, count, sizeof *names, by_name);
+    for (int e = 0; e < 2; e++)
+        shared[e] = lent(sizeof(Run));
+    stack = lent(STACK);
+    stack_top = lent(sizeof *stack_top);
+
+    if (markdown)
+        printf("| ratio | job | engine | plain C | longest L, engine | plain C | C command, engine | plain C |\n"
+               "|---:|:---|---:|---:|---:|---:|---:|---:|\n");
+    else
+        printf("%8s  %-10s  %-10s  %-6s  %s\n", "ratio", "engine", "baseline", "bytes", "job");
+    for (size_t i = 0; i < count; i++) {
+        char file[512];
+        snprintf(file, sizeof file, "%s.job", names[i]);
+        if (!read_job(folder, file, &job)) {
+            perror(file);
+            return 2;
+        }
+        Pair whole = compare(&job, NULL);
+        differ |= whole.differ;
+        ended += whole.ended[0];
+        if (whole.ended[0] && whole.ended[1]) {
+            ratios[both] = whole.time[0] / whole.time[1];
+            raise_to(&worst_ratio, ratios[both], names[i]);
+            both++;
+        }
+        if (!markdown)
+            printf("%8s  %-10s  %-10s  %-6s  %s\n", ratio(&whole), shown(whole.time[0], whole.ended[0]),
+                   shown(whole.time[1], whole.ended[1]),
+                   whole.differ ? "DIFFER" : whole.ended[0] && whole.ended[1] ? "same" : "-", names[i]);
+
+        size_t head = head_of(&job);
+        Pair page = {{0, 0}, {true, true}, false, false}, least = page;
+        int number = 0;
+        for (size_t at = head; at < job.len; at += 1 + width(job.bytes[at])) {
+            uint8_t c = job.bytes[at];
+            if ((c != 'L' && c != 'C') || at + 1 + width(c) > job.len || ++number > MOST_QUERIES)
+                continue;
+            Pair q = query(&job, head, at, names[i]);
+            differ |= q.differ;
+            Pair *longest = c == 'L' ? &page : &least;
+            for (int e = 0; e < 2; e++) {
+                longest->ended[e] &= q.ended[e];
+                if (q.ended[e] && q.time[e] > longest->time[e])
+                    longest->time[e] = q.time[e];
+            }
+            if (!markdown)
+                printf("%8s  %-10s  %-10s  %-6s    command %d: %c\n", ratio(&q), shown(q.time[0], q.ended[0]),
+                       shown(q.time[1], q.ended[1]), q.differ ? "DIFFER" : q.ended[0] && q.ended[1] ? "same" : "-",
+                       number, c);
+        }
+        if (markdown)
+            printf("| %s | %s%s | %s | %s | %s | %s | %s | %s |\n", ratio(&whole), names[i],
+                   whole.differ ? " (answers differ)" : "", shown(whole.time[0], whole.ended[0]),
+                   shown(whole.time[1], whole.ended[1]), shown(page.time[0], page.ended[0]),
+                   shown(page.time[1], page.ended[1]), shown(least.time[0], least.ended[0]),
+                   shown(least.time[1], least.ended[1]));
+    }
+
+    size_t most = 0;
+    int cut = 0;
+    const char *deepest = "";
+    for (size_t i = 0; i < count; i++) {
+        char file[512];
+        bool back;
+        snprintf(file, sizeof file, "%s.job", names[i]);
+        if (!read_job(folder, file, &job))
+            continue;
+        size_t use = stack_use(&job, &back);
+        cut += !back;
+        if (use > most) {
+            most = use;
+            deepest = names[i];
+        }
+    }
+
+    double slowest[2] = {0, 0};
+    bool all[2] = {true, true};
+    int lists = 0;
+    for (uint64_t seed = 1; seed <= 8; seed++) {
+        lists = long_job(&job, seed);
+        Pair p = compare(&job, NULL);
+        differ |= p.differ;
+        for (int e = 0; e < 2; e++) {
+            all[e] &= p.ended[e];
+            if (p.ended[e] && p.time[e] > slowest[e])
+                slowest[e] = p.time[e];
+        }
+        if (p.ended[0] && (job.len != LONGEST || shared[0]->outcome >> 32 != 0))
+            printf("long job %d: %d bytes, refusal %d\n", (int)seed, (int)job.len, (int)(shared[0]->outcome >> 32));
+        bool back;
+        size_t use = stack_use(&job, &back);
+        cut += !back;
+        if (use > most) {
+            most = use;
+            deepest = "the job of 32,768 bytes";
+        }
+    }
+
+    qsort(ratios, (size_t)both, sizeof *ratios, by_number);
+    double median = both == 0 ? 0 : both % 2 ? ratios[both / 2] : (ratios[both / 2 - 1] + ratios[both / 2]) / 2;
+    printf("\nsummary: ratio engine/baseline worst %.2f (%s), median %.2f; %d jobs, %d ended within %d s; answers %s\n",
+           worst_ratio.time, worst_ratio.name ? worst_ratio.name : "none", median, (int)count, ended, limit,
+           differ ? "DIFFER" : "are the same");
+    for (int other = 0; other < 2; other++) {
+        printf("%s tables, engine:", other ? "other" : "natural");
+        for (int kind = 0; kind < 2; kind++) {
+            const Worst *w = &worst[other][kind];
+            printf("%s longest %s %s (%s)", kind ? ";" : "", kind ? "C" : "page", shown(w->time, w->name != NULL),
+                   w->name ? w->name : "none");
+            if (open_queries[other][kind])
+                printf(", %d did not end", open_queries[other][kind]);
+        }
+        printf("\n");
+    }
+    printf("stack: %d bytes at most (%s), limit %d", (int)most, deepest, STACK_LIMIT);
+    if (cut)
+        printf("; %d jobs cut after %d s", cut, limit);
+    printf("\njob of 32,768 bytes, %d L with count 0, the slowest of 8 tables: engine %s, baseline %s\n", lists,
+           shown(slowest[0], all[0]), shown(slowest[1], all[1]));
+    return differ || most >= STACK_LIMIT ? 1 : 0;
+}
