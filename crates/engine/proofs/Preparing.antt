@@ -17,10 +17,10 @@ use Rattle.model.specs.Candidates.{termCost, Basis, basis, covering}
 use Rattle.model.specs.Commands as model
 use Rattle.model.specs.Commands.{basisOf}
 use Rattle.model.proofs.Matrix.{irredundants-same, rows-irredundants, rows-cheapest, rows-coverable, from-length}
-use Rattle.search.specs.Reduction.{Reduced}
-use Rattle.search.proofs.Same.{reduced-irredundants, reduced-cheapest, reduced-coverable}
-use Rattle.search.specs.Order.{SameRows}
-use Rattle.search.proofs.Ordering.{ordered-irredundants, ordered-cheapest, ordered-coverable}
+use Rattle.rows.specs.Reduction.{Reduced}
+use Rattle.rows.proofs.Same.{reduced-irredundants, reduced-cheapest, reduced-coverable}
+use Rattle.rows.specs.Order.{SameRows}
+use Rattle.rows.proofs.Ordering.{ordered-irredundants, ordered-cheapest, ordered-coverable}
 use Rattle.table.specs.Lists.{Filled}
 use Rattle.table.specs.Rows.{OnBytes, Put, AllRows, TellsCoverable}
 use Rattle.table.proofs.Uses.{put-front, some-on-table}

@@ -20,11 +20,11 @@ use Rattle.model.proofs.Lists.{T-true, T-false}
 use Rattle.model.proofs.Sets.{covers-more}
 use Rattle.model.proofs.Cheapest.{best-cheapest}
 use Rattle.model.proofs.Matrix.{rows-cost}
-use Rattle.search.specs.declared.cheapest.Optimum.{Optimum}
-use Rattle.search.specs.declared.cheapest.Optimum.the-variants.{Cover as AtCover, Nothing}
+use Rattle.optimum.specs.declared.cheapest.Optimum.{Optimum}
+use Rattle.optimum.specs.declared.cheapest.Optimum.the-variants.{Cover as AtCover, Nothing}
 use Rattle.search.specs.declared.lister.Filled.{Filled}
 use Rattle.search.specs.Lister.{rowCovers, Paged}
-use Rattle.search.specs.Costs.{Optimal}
+use Rattle.optimum.specs.Costs.{Optimal}
 use Rattle.engine.specs.declared.problem.Problem.{Problem}
 use Rattle.engine.specs.declared.commands.Effect.{Effect}
 use Rattle.engine.specs.declared.writers.Reply.{Reply}

@@ -12,10 +12,9 @@ use crate::kinds;
 use crate::kinds::Kind;
 use crate::problem::Problem;
 use model::Term;
-use search::order;
-use search::reduction;
+use rows::order;
+use rows::reduction;
 use table::presence;
-use table::rows;
 
 // Whether each on cell is held by a candidate: 12 does not apply.
 pub fn is_covered(p: Problem) -> bool
@@ -38,7 +37,7 @@ pub fn prepare(p: Problem, out: &mut [u64]) -> usize
     let terms = p.terms;
     let count = p.count;
     let mut all = [0u64; 2048];
-    let n = rows::rows(&on, terms, count, p.n, p.m, &mut all);
+    let n = table::rows::rows(&on, terms, count, p.n, p.m, &mut all);
     let r = reduction::reduce(&all[..n], out);
     order::by_size(&mut out[..r]);
     r

@@ -14,8 +14,8 @@ use crate::problem::Problem;
 use crate::writers;
 use crate::writers::Reply;
 use bits::byte;
-use search::cheapest;
-use search::cheapest::Optimum;
+use optimum::cheapest;
+use optimum::cheapest::Optimum;
 use search::lister;
 
 // A query that was answered with so many bytes, or whose answer is too long.

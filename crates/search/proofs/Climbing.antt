@@ -9,7 +9,7 @@ use lib.Pow.{pow-pos, pow-mono, pow-add, split, shr-lt, shr-shr}
 use Rattle.search.specs.declared.lister.Found.{Found}
 use Rattle.search.specs.declared.lister.Found.the-variants.{At, Nothing}
 use Rattle.bits.specs.Bits.{digit}
-use Rattle.search.specs.Covers.{Irredundant, Node}
+use Rattle.rows.specs.Covers.{Irredundant, Node}
 use Rattle.search.specs.Lister.{Among, LeastIn}
 use Rattle.search.proofs.Tree.{has-bit, lacks-bit, in-first, in-second}
 

@@ -9,14 +9,14 @@ use lib.ListN.{length, getD}
 use lib.Bits.{bitAnd, bitOr, and-le-l}
 use Rattle.search.specs.declared.pruning.Tight.{Tight}
 use Rattle.bits.specs.Bits.{digit, Part, Minus, Member}
-use Rattle.search.specs.Covers.{Own}
-use Rattle.search.specs.Pruning.{Between, IrredundantBetween, NoneBetween, Tightened}
+use Rattle.rows.specs.Covers.{Own, Between}
+use Rattle.search.specs.Pruning.{IrredundantBetween, NoneBetween, Tightened}
 use Rattle.search.specs.Extension.{NoneLeft}
 use Rattle.bits.proofs.Digits.{eq?, digit-lt, digit-or}
 use Rattle.bits.proofs.Decide.{true-is-not-false}
 use Rattle.bits.proofs.Members.{and-both}
 use Rattle.bits.proofs.Parts.{part-le, members, part-trans, minus-part, the-member, member-of-more, minus-member-less, part-and-less}
-use Rattle.search.proofs.Sets.{own-rows, own-row-fewer}
+use Rattle.rows.proofs.Sets.{own-rows, own-row-fewer}
 
 -- ---- one row
 

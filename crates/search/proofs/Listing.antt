@@ -21,10 +21,10 @@ use Rattle.model.proofs.Sets.{listed}
 use Rattle.search.specs.declared.lister.Found.{Found}
 use Rattle.search.specs.declared.lister.Found.the-variants.{At, Nothing}
 use Rattle.search.specs.declared.lister.Cursor.{Cursor}
-use Rattle.search.specs.Covers.{Irredundant}
+use Rattle.rows.specs.Covers.{Irredundant}
 use Rattle.search.specs.Lister.{Among, LeastIn, rowCovers, comingTo, atFirst, coming, sought, advanced, Paged}
 use Rattle.bits.proofs.Decide.{true-is-not-false}
-use Rattle.search.proofs.Bridge.{irredundant-to, irredundant-from}
+use Rattle.rows.proofs.Bridge.{irredundant-to, irredundant-from}
 
 -- ---- the list
 

@@ -14,13 +14,13 @@ use lib.Count.{trailingZeros, under}
 use lib.Bits.{bitAnd, bitOr}
 use Rattle.search.specs.declared.pruning.Scan.{Scan}
 use Rattle.bits.specs.Bits.{digit, Single, Part, Member}
-use Rattle.search.specs.Covers.{PrivatesOf}
+use Rattle.rows.specs.Covers.{PrivatesOf}
 use Rattle.search.specs.Pruning.{Unmet, NoneBetween, Forced, Taken, Only, United, Scanned}
 use Rattle.bits.proofs.Digits.{eq?, digit-lt, digit-or, pow-here, pow-only}
 use Rattle.bits.proofs.Decide.{true-is-not-false}
 use Rattle.bits.proofs.Members.{and-left, and-right, not-zero}
 use Rattle.bits.proofs.Parts.{members, by-members}
-use Rattle.search.proofs.Sets.{privates-none, privates-skip, privates-take, privates-done}
+use Rattle.rows.proofs.Sets.{privates-none, privates-skip, privates-take, privates-done}
 use Rattle.search.proofs.Tightening.{row-forces}
 
 -- ---- the number of a member

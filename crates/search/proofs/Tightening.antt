@@ -10,12 +10,12 @@ use lib.Bits.{bitAnd, bitOr, and-le-l}
 use Rattle.search.specs.declared.pruning.Tight.{Tight}
 use Rattle.search.specs.declared.pruning.Scan.{Scan}
 use Rattle.bits.specs.Bits.{digit, Single, Minus}
-use Rattle.search.specs.Covers.{Cover, Irredundant, Own}
-use Rattle.search.specs.Pruning.{Unmet, Between, IrredundantBetween, NoneBetween, Forced, Taken, Scanned, Stuck, Tightened}
-use Rattle.bits.proofs.Digits.{eq?, digit-lt, digit-of-zero, digit-and, digit-or, a-member, pow-here, pow-only}
+use Rattle.rows.specs.Covers.{Irredundant, Own, Between}
+use Rattle.search.specs.Pruning.{Unmet, IrredundantBetween, NoneBetween, Forced, Taken, Scanned, Stuck, Tightened}
+use Rattle.bits.proofs.Digits.{eq?, digit-lt, digit-or, a-member, pow-here, pow-only}
 use Rattle.bits.proofs.Decide.{true-is-not-false}
 use Rattle.bits.proofs.Members.{and-left, and-right, and-both, not-zero}
-use Rattle.search.proofs.Sets.{own-rows, own-row-fewer, own-fewer, all-privates}
+use Rattle.rows.proofs.Sets.{own-rows, own-row-fewer, own-fewer, all-privates, meets}
 use Rattle.bits.proofs.Parts.{part-le, members, minus-part, apart-by}
 
 -- ---- what an irredundant cover t above s has
@@ -44,25 +44,10 @@ module _ (rows : List ℕ) (s free k : ℕ) (lt : k < length rows) (z : bitAnd (
   abbrev x : ℕ
   x = getD rows k 0
 
-  -- a cover meets an unmet row in a free candidate
-  pub meets : (t : ℕ) → Cover rows t → Between s free t → (b : ℕ) × (digit b (bitAnd (getD rows k 0) free) ≡ 1) × (digit b t ≡ 1)
-  unfolding Between Cover
-  meets t cover w =
-      let m : (b : ℕ) × (digit b (bitAnd x t) ≡ 1) = a-member (bitAnd x t) (cover k lt) in
-      let b : ℕ = m .0 in
-      let in-x : digit b x ≡ 1 = and-left b x t (m .1) in
-      let in-t : digit b t ≡ 1 = and-right b x t (m .1) in
-      let either : digit b (bitOr s free) ≡ 1 = w .1 b in-t in
-      let not-s : digit b (bitAnd x s) ≡ 0 = ap (digit b) z ∙ digit-of-zero b in (
-        b,
-        and-both b x free in-x (omega (arith, digit-or b s free, digit-and b x s, digit-lt b s, digit-lt b free)),
-        in-t,
-      )
-
   pub row-lost : bitAnd (getD rows k 0) free ≡ 0 → NoneBetween rows s free
   unfolding NoneBetween IrredundantBetween Irredundant
   row-lost e t w =
-      let m : (b : ℕ) × (digit b (bitAnd x free) ≡ 1) × (digit b t ≡ 1) = meets t (w .0 .0) (w .1) in
+      let m : (b : ℕ) × (digit b (bitAnd x free) ≡ 1) × (digit b t ≡ 1) = meets rows s free k lt z t (w .0 .0) (w .1) in
       not-zero (m .0) (bitAnd x free) (m .1) e
 
   -- the only free candidate of the row is in each cover
@@ -71,7 +56,7 @@ module _ (rows : List ℕ) (s free k : ℕ) (lt : k < length rows) (z : bitAnd (
   row-forces one b m = (
     λ p. not-zero b (bitAnd x s) (and-both b x s (and-left b x free m) p) z,
     λ t w.
-        let q : (c : ℕ) × (digit c (bitAnd x free) ≡ 1) × (digit c t ≡ 1) = meets t (w .0 .0) (w .1) in
+        let q : (c : ℕ) × (digit c (bitAnd x free) ≡ 1) × (digit c t ≡ 1) = meets rows s free k lt z t (w .0 .0) (w .1) in
         let same : (c : ℕ) → digit c (bitAnd x free) ≡ 1 → c ≡ one .0 = λ c h. pow-only c (one .0) (sym (ap (digit c) (one .1)) ∙ h) in
         subst (λ (c : ℕ). digit c t ≡ 1) (same (q .0) (q .1) ∙ sym (same b m)) (q .2),
   )

@@ -3,54 +3,26 @@ use mathlib.Core.Path.{_≡_, refl, sym, ap, _∙_, subst}
 use mathlib.Core.Bool.{true}
 use mathlib.Core.Logic.{⊎-elim}
 use mathlib.Core.List.{List}
-use Prim.Native.Nat.{ℕ, suc, _+_, _-_, _*_, _/_, _%_, _^_, _≤_, _<_}
-use native.Mathlib.Nat.{pow-suc, zero-mod, add-mod-right, mul-assoc, add-mul}
+use Prim.Native.Nat.{ℕ, _+_, _-_, _*_, _/_, _%_, _^_, _≤_, _<_}
+use native.Mathlib.Nat.{mul-assoc, add-mul}
 use native.Mathlib.Decide.{decLt}
 use native.Mathlib.Omega.{arith}
 use lib.Bits.{bitAnd, bitOr}
-use lib.Pow.{split, high, mod-mod-pow}
+use lib.Pow.{split, high}
 use Rattle.search.specs.declared.lister.Found.{Found}
 use Rattle.search.specs.declared.lister.Found.the-variants.{At, Nothing}
 use Rattle.search.specs.declared.pruning.Tight.{Tight}
 use Rattle.bits.specs.Bits.{digit, Minus}
-use Rattle.search.specs.Covers.{Irredundant, Node}
+use Rattle.rows.specs.Covers.{Irredundant, Between, Node}
 use Rattle.search.specs.Lister.{Among, LeastIn, Narrowed}
-use Rattle.search.specs.Pruning.{Between, IrredundantBetween, Tightened}
+use Rattle.search.specs.Pruning.{IrredundantBetween, Tightened}
 use Rattle.bits.proofs.Digits.{eq?, digit-lt, digit-of-zero, digit-and, digit-or, a-member, pow-here, pow-only}
 use Rattle.bits.proofs.Decide.{true-is-not-false}
 use Rattle.bits.proofs.Members.{and-left, and-right, above, within}
+use Rattle.rows.proofs.Nodes.{halves}
 
 pub not-zero-pos : {n : ℕ} → (n ≡ 0 → ⊥) → 0 < n
 not-zero-pos h = omega arith
-
--- the whole is two halves
-pub halves : (i : ℕ) → 0 < i → 2 ^ i ≡ 2 ^ (i - 1) + 2 ^ (i - 1)
-halves i p =
-    let e : 2 ^ suc (i - 1) ≡ 2 ^ (i - 1) * 2 = pow-suc 2 (i - 1) in
-    let f : suc (i - 1) ≡ i = omega arith in
-    let g : 2 ^ i ≡ 2 ^ suc (i - 1) = ap (λ (k : ℕ). 2 ^ k) (sym f) in
-    omega arith
-
-pub low-node : (i s : ℕ) → Node i s → 0 < i → Node (i - 1) s
-low-node i s n p =
-    let h : 2 ^ i ≡ 2 ^ (i - 1) + 2 ^ (i - 1) = halves i p in
-    let f : 1 + (i - 1) ≡ i = omega arith in
-    let z : s % 2 ^ (1 + (i - 1)) ≡ 0 = subst (λ (k : ℕ). s % 2 ^ k ≡ 0) (sym f) (n .aligned) in
-    record {
-      small = omega (arith, n .small);
-      aligned = sym (mod-mod-pow s 1 (i - 1)) ∙ ap (λ (k : ℕ). k % 2 ^ (i - 1)) z ∙ zero-mod (2 ^ (i - 1));
-      room = omega (arith, n .room);
-    }
-
-pub high-node : (i s h : ℕ) → h ≡ 2 ^ (i - 1) → Node i s → 0 < i → Node (i - 1) (s + h)
-high-node i s h e n p =
-    let d : 2 ^ i ≡ 2 ^ (i - 1) + 2 ^ (i - 1) = halves i p in
-    let l : Node (i - 1) s = low-node i s n p in
-    record {
-      small = l .small;
-      aligned = ap (λ (k : ℕ). (s + k) % 2 ^ (i - 1)) e ∙ add-mod-right s (2 ^ (i - 1)) ∙ l .aligned;
-      room = omega (arith, n .room);
-    }
 
 -- ---- the set m of the one candidate j
 

@@ -1,7 +1,3 @@
-pub mod Covers
-pub mod Reduction
 pub mod Pruning
 pub mod Extension
 pub mod Lister
-pub mod Costs
-pub mod Order

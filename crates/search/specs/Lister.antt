@@ -12,8 +12,7 @@ use Rattle.search.specs.declared.lister.Found.the-variants.{At, Nothing}
 use Rattle.search.specs.declared.lister.Cursor.{Cursor}
 use Rattle.search.specs.declared.lister.Filled.{Filled}
 use Rattle.search.specs.declared.pruning.Tight.{Tight}
-use Rattle.search.specs.Covers.{Irredundant}
-use Rattle.search.specs.Pruning.{Between}
+use Rattle.rows.specs.Covers.{Irredundant, Between}
 
 -- ---- the search
 

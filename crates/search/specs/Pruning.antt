@@ -5,19 +5,15 @@ use mathlib.Core.List.{List}
 use mathlib.Core.Logic.{_⊎_}
 use Prim.Native.Nat.{ℕ, _^_, _≤_, _<_}
 use lib.ListN.{length, getD}
-use lib.Bits.{bitAnd, bitOr}
+use lib.Bits.{bitAnd}
 use Rattle.search.specs.declared.pruning.Tight.{Tight}
 use Rattle.search.specs.declared.pruning.Scan.{Scan}
 use Rattle.bits.specs.Bits.{digit, Single, Part}
-use Rattle.search.specs.Covers.{Irredundant, Privates}
+use Rattle.rows.specs.Covers.{Irredundant, Privates, Between}
 
 -- u has all of each row among the first n that s does not meet
 unfoldable pub Unmet : List ℕ → ℕ → ℕ → ℕ → Type 0
 Unmet rows n s u = (k : ℕ) → k < n → bitAnd (getD rows k 0) s ≡ 0 → Part (getD rows k 0) u
-
--- t has all of s, and of the rest only members of free
-unfoldable pub Between : ℕ → ℕ → ℕ → Type 0
-Between s free t = ((b : ℕ) → digit b s ≡ 1 → digit b t ≡ 1) × ((b : ℕ) → digit b t ≡ 1 → digit b (bitOr s free) ≡ 1)
 
 -- t is an irredundant cover between s and s | free
 unfoldable pub IrredundantBetween : List ℕ → ℕ → ℕ → ℕ → Type 0

@@ -9,8 +9,8 @@ ghost use Rattle.search.specs.Pruning.{NoneBetween, Tightened};
 ghost use Rattle.search.specs.Extension.{NoneLeft};
 use crate::pruning;
 use crate::pruning::Tight;
-use crate::rows;
 use bits::set;
+use rows::covering;
 
 // For each member of s, the free candidates of its private row with fewest of them, and how many private rows it has.
 pub struct Survey {
@@ -184,7 +184,7 @@ pub fn extends(rows: &[u64], t: Tight, q: u64) -> bool
     if pending == 0 {
         return true;
     }
-    if rows::covers(rows, t.s | set::minus(t.free, claimed.taken)) {
+    if covering::covers(rows, t.s | set::minus(t.free, claimed.taken)) {
         return true;
     }
     let b = scarcest(count, pending);

@@ -1,17 +1,7 @@
-// Covers of rows. A row and a set are numbers whose bits are the members; a set is a cover if it has a member of each row.
+// The lister: the irredundant covers of rows in rising order, as crate `rows` has them.
 //
-// `reduction` drops the rows that need not be looked at, `lister` goes through the irredundant covers in rising order, `cheapest` finds
-// the cheapest. `order` puts thin rows first. No function here knows of tables: crate `table` makes the rows.
-pub mod bounds;
-pub mod branching;
-pub mod cheapest;
-pub mod components;
-pub mod costs;
-pub mod dominance;
+// `lister` goes through the ranges of numbers and leaves out those that hold no irredundant cover: `pruning` is the quick test, which also
+// narrows what is left to decide, and `extension` the exact one.
 pub mod extension;
-pub mod greedy;
 pub mod lister;
-pub mod order;
 pub mod pruning;
-pub mod reduction;
-pub mod rows;

@@ -2,13 +2,13 @@
 ghost use mathlib.Core.Path.{_≡_};
 ghost use mathlib.Core.Bool.{false};
 ghost use Prim.Native.Nat.{_+_, _^_, _≤_};
-ghost use Rattle.search.specs.Covers.{Node};
+ghost use Rattle.rows.specs.Covers.{Node};
 ghost use Rattle.search.specs.Lister.{LeastIn, Narrowed, rowCovers, sought, advanced, Paged};
 use crate::extension;
 use crate::pruning;
 use crate::pruning::Tight;
-use crate::rows;
 use bits::set;
+use rows::covering;
 
 // A set, or that there is none.
 pub enum Found {
@@ -28,7 +28,7 @@ pub fn least(rows: &[u64], i: u64, s: u64, t: Tight) -> Found
         return Found::Nothing;
     }
     if i == 0 {
-        if rows::irredundant(rows, s) {
+        if covering::irredundant(rows, s) {
             return Found::At(s);
         }
         return Found::Nothing;
@@ -58,7 +58,7 @@ pub fn climb(rows: &[u64], n: u64, at: u64) -> Found
     if set::low_mask(n) < at {
         return Found::Nothing;
     }
-    if rows::irredundant(rows, at) {
+    if covering::irredundant(rows, at) {
         return Found::At(at);
     }
     let mut i: u64 = 0;

@@ -9,8 +9,8 @@ use Rattle.engine.proofs.matrix.prepare.Statement.{statement}
 use Rattle.engine.proofs.matrix.prepare.Tie as tie
 use Rattle.engine.proofs.matrix.prepare.Reads as reads
 use Rattle.engine.proofs.matrix.prepare.Lts as lts
-use Rattle.search.proofs.order.by_size.Reads as by-size-reads
-use Rattle.search.proofs.reduction.reduce.Reads as reduce-reads
+use Rattle.rows.proofs.order.by_size.Reads as by-size-reads
+use Rattle.rows.proofs.reduction.reduce.Reads as reduce-reads
 use Rattle.table.proofs.rows.rows.Reads as rows-reads
 
 -- src/matrix.rt:41:53

@@ -14,7 +14,7 @@ use Rattle.engine.proofs.commands.refused.Reads as refused-reads
 use Rattle.engine.proofs.matrix.costs.Reads as costs-reads
 use Rattle.engine.proofs.queries.replied.Reads as replied-reads
 use Rattle.engine.proofs.writers.put_cheapest.Reads as put-cheapest-reads
-use Rattle.search.proofs.cheapest.cheapest.Reads as cheapest-reads
+use Rattle.optimum.proofs.cheapest.cheapest.Reads as cheapest-reads
 
 -- src/queries.rt:66:17
 costs-requires : tie.Need-costs-requires

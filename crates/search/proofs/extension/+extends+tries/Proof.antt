@@ -22,7 +22,7 @@ use Rattle.search.proofs.extension.linked.Reads as linked-reads
 use Rattle.search.proofs.extension.private_rows.Reads as private-rows-reads
 use Rattle.search.proofs.extension.scarcest.Reads as scarcest-reads
 use Rattle.search.proofs.pruning.narrow.Reads as narrow-reads
-use Rattle.search.proofs.rows.covers.Reads as covers-reads
+use Rattle.rows.proofs.covering.covers.Reads as covers-reads
 use Rattle.search.proofs.extension.+extends+tries.{statement}
 use Rattle.search.proofs.extension.+extends+tries.Tie.{close}
 

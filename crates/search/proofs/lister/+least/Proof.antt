@@ -4,7 +4,8 @@ use native.Mathlib.Omega.{arith}
 use Prim.Native.Nat.{ℕ, _<_, _-_}
 use lib.Pow.{pow-pos}
 use Rattle.bits.proofs.Decide.{decides-true, decides-false}
-use Rattle.search.proofs.Tree.{not-zero-pos, halves, low-node, high-node, gone, leaf, no-leaf, low-narrowed, high-narrowed, with-bit, without-bit, low-open, high-open, from-low, from-both}
+use Rattle.rows.proofs.Nodes.{halves, low-node, high-node}
+use Rattle.search.proofs.Tree.{not-zero-pos, gone, leaf, no-leaf, low-narrowed, high-narrowed, with-bit, without-bit, low-open, high-open, from-low, from-both}
 use borrow.Fn.Kinds.{In}
 use borrow.Fn.PlainCycle.{Measures, is, falls, and}
 use Rattle.search.proofs.lister.least.Reads as least
@@ -14,7 +15,7 @@ use Rattle.bits.proofs.set.minus.Reads as minus-reads
 use Rattle.bits.proofs.set.power.Reads as power-reads
 use Rattle.search.proofs.extension.settle.Reads as settle-reads
 use Rattle.search.proofs.pruning.narrow.Reads as narrow-reads
-use Rattle.search.proofs.rows.irredundant.Reads as irredundant-reads
+use Rattle.rows.proofs.covering.irredundant.Reads as irredundant-reads
 use Rattle.search.proofs.lister.+least.{statement}
 use Rattle.search.proofs.lister.+least.Tie.{close}
 

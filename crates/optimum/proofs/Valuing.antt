@@ -1,0 +1,200 @@
+-- The choice of a candidate, and the least cost with it and without it.
+use mathlib.Core.Path.{_≡_, refl, sym, ap, _∙_, subst}
+use mathlib.Core.Logic.{_⊎_, inl, inr, ⊎-elim}
+use mathlib.Core.List.{List}
+use Prim.Native.Nat.{ℕ, _+_, _≤_, _<_}
+use native.Mathlib.Omega.{arith}
+use lib.ListN.{length, getD}
+use lib.Bits.{bitAnd, bitOr}
+use Rattle.optimum.specs.declared.branching.Choice.{Choice}
+use Rattle.optimum.specs.declared.branching.Choice.the-variants.{Done, Lost, Try}
+use Rattle.optimum.specs.declared.costs.Best.{Best}
+use Rattle.bits.specs.Bits.{digit, Single, Part, Minus, Member}
+use Rattle.rows.specs.Covers.{Cover, Between}
+use Rattle.optimum.specs.Costs.{costOf, Price, CoverBetween, Bound, Chosen, Priced, Attained, Valued}
+use Rattle.bits.proofs.Digits.{eq?, digit-lt, digit-or, pow-only}
+use Rattle.bits.proofs.Members.{not-zero, and-left, and-right}
+use Rattle.bits.proofs.Parts.{members, by-members, member-of-more, apart-by, no-common}
+use Rattle.optimum.proofs.Costing.{cost-join, cost-part, cost-small}
+use Rattle.rows.proofs.Sets.{meets}
+
+-- ---- the choice
+
+-- pick is free and not in s; where it is 0, s meets the first n rows
+pub record Scanned (rows : List ℕ) (n s free pick : ℕ) : Type 0 where
+  pub met : pick ≡ 0 → (k : ℕ) → k < n → bitAnd (getD rows k 0) s ≡ 0 → ⊥
+  pub part : Part pick free
+  pub apart : bitAnd s pick ≡ 0
+
+pub scanned-none : (rows : List ℕ) (s free : ℕ) → Scanned rows 0 s free 0
+scanned-none rows s free = record {
+  met = λ e k lt. absurd (omega arith);
+  part = by-members 0 free (λ b m. absurd (not-zero b 0 m refl));
+  apart = apart-by s 0 (λ b p q. not-zero b 0 q refl);
+}
+
+module _ (rows : List ℕ) (n s free pick : ℕ) (h : Scanned rows n s free pick) where
+  pub scanned-met : (bitAnd (getD rows n 0) s ≡ 0 → ⊥) → Scanned rows (n + 1) s free pick
+  scanned-met m = record {
+    met = λ e k lt z. ⊎-elim
+        (λ (q : k ≡ n). m (subst (λ (j : ℕ). bitAnd (getD rows j 0) s ≡ 0) q z))
+        (λ (q : k ≡ n → ⊥). h .met e k (omega arith) z) (eq? k n);
+    part = h .part;
+    apart = h .apart;
+  }
+
+  pub scanned-unmet : (pick' : ℕ) → bitAnd (getD rows n 0) s ≡ 0 → (bitAnd (getD rows n 0) free ≡ 0 → ⊥)
+      → (pick' ≡ bitAnd (getD rows n 0) free) ⊎ ((pick' ≡ pick) × (pick ≡ 0 → ⊥)) → Scanned rows (n + 1) s free pick'
+  scanned-unmet pick' z nz =
+      ⊎-elim
+      (λ (e : pick' ≡ bitAnd (getD rows n 0) free). record {
+        met = λ q. absurd (nz (sym e ∙ q));
+        part = subst (λ (v : ℕ). Part v free) (sym e) (by-members (bitAnd (getD rows n 0) free) free (λ b m. and-right b (getD rows n 0) free m));
+        apart = subst (λ (v : ℕ). bitAnd s v ≡ 0) (sym e)
+            (apart-by s (bitAnd (getD rows n 0) free) (λ b p q. no-common (getD rows n 0) s b z (and-left b (getD rows n 0) free q) p));
+      })
+      (λ (e : (pick' ≡ pick) × (pick ≡ 0 → ⊥)). record {
+        met = λ q. absurd (e .1 (sym (e .0) ∙ q));
+        part = subst (λ (v : ℕ). Part v free) (sym (e .0)) (h .part);
+        apart = subst (λ (v : ℕ). bitAnd s v ≡ 0) (sym (e .0)) (h .apart);
+      })
+
+  pub chosen-done : n ≡ length rows → pick ≡ 0 → Chosen rows s free Done
+  unfolding Chosen Cover
+  chosen-done e z k lt = h .met z k (omega arith)
+
+  pub chosen-try : (m : ℕ) → Member pick m → Chosen rows s free (Try m)
+  unfolding Chosen
+  chosen-try m one = (
+    member-of-more pick free m (h .part) one,
+    apart-by s m (λ b p q. no-common s pick b (h .apart) p (members m pick (one .part) b q)),
+  )
+
+pub chosen-lost : (rows : List ℕ) (s free k : ℕ) → k < length rows → bitAnd (getD rows k 0) s ≡ 0 → bitAnd (getD rows k 0) free ≡ 0 → Chosen rows s free Lost
+unfolding Chosen CoverBetween
+chosen-lost rows s free k lt z e t r =
+    let m : (b : ℕ) × (digit b (bitAnd (getD rows k 0) free) ≡ 1) × (digit b t ≡ 1) = meets rows s free k lt z t (r .0) (r .1) in
+    not-zero (m .0) (bitAnd (getD rows k 0) free) (m .1) e
+
+-- ---- the value
+
+module _ (rows costs : List ℕ) (s free cost : ℕ) (best : Best) (is : cost ≡ costOf costs s) where
+  pub valued-bound : (more : ℕ) → Bound rows costs s free more → best .cost ≤ cost + more → Valued rows costs s free best best
+  valued-bound more h le = record {
+    within = omega arith;
+    found = inl refl;
+    least = λ t r. omega (arith, h .under t r);
+  }
+
+  pub valued-done : (choice : Choice) (more : ℕ) → choice ≡ Done → Chosen rows s free choice → cost + more < best .cost
+      → Valued rows costs s free best (record { cost = cost; set = s })
+  unfolding Chosen CoverBetween Between
+  valued-done choice more e c₀ lt =
+      let c : Chosen rows s free Done = subst (Chosen rows s free) e c₀ in
+      record {
+        within = omega arith;
+        found = inr (record { cover = (c, (λ b m. m, λ b m. omega (arith, digit-or b s free, digit-lt b free))); cost-is = sym is }, omega arith);
+        least = λ t r. omega (arith, cost-part costs s t (by-members s t (r .1 .0)));
+      }
+
+  pub valued-lost : (choice : Choice) → choice ≡ Lost → Chosen rows s free choice → Valued rows costs s free best best
+  unfolding Chosen
+  valued-lost choice e c₀ =
+      let c : Chosen rows s free Lost = subst (Chosen rows s free) e c₀ in
+      record { within = omega arith; found = inl refl; least = λ t r. absurd (c t r) }
+
+-- a candidate to try: in free, and not in s
+pub tried : (rows : List ℕ) (s free : ℕ) (choice : Choice) (m : ℕ) → choice ≡ Try m → Chosen rows s free choice → Member free m × (bitAnd s m ≡ 0)
+unfolding Chosen
+tried rows s free choice m e c = subst (Chosen rows s free) e c
+
+module _ (rows : List ℕ) (s free m rest : ℕ) (one : Member free m) (d : Minus free m rest) (t : ℕ) where
+  -- a cover there has m or not
+  reached-with : bitAnd m t ≡ m → CoverBetween rows s free t → CoverBetween rows (bitOr s m) rest t
+  unfolding CoverBetween Between Minus
+  reached-with p r = (
+    r .0,
+    (
+      λ b q. ⊎-elim (λ (e : digit b s ≡ 1). r .1 .0 b e)
+          (λ (e : digit b s ≡ 1 → ⊥). and-right b m t (ap (digit b) p ∙ omega (arith, digit-or b s m, digit-lt b s, digit-lt b m))) (eq? (digit b s) 1),
+      λ b q. omega (arith, r .1 .1 b q, d b, digit-or b s free, digit-or b s m, digit-or b (bitOr s m) rest, digit-lt b s, digit-lt b m, digit-lt b free, digit-lt b rest),
+    ),
+  )
+
+  reached-without : (bitAnd m t ≡ m → ⊥) → CoverBetween rows s free t → CoverBetween rows s rest t
+  unfolding CoverBetween Between Minus Single Part
+  reached-without n r = (
+    r .0,
+    (
+      r .1 .0,
+      λ b q. ⊎-elim
+          (λ (e : digit b m ≡ 1). absurd (n (by-bits b e q)))
+          (λ (e : digit b m ≡ 1 → ⊥). omega (arith, r .1 .1 b q, d b, digit-or b s free, digit-or b s rest, digit-lt b s, digit-lt b m, digit-lt b free, digit-lt b rest))
+          (eq? (digit b m) 1),
+    ),
+  )
+    where
+      -- where t has the member b of m, it has all of m
+      by-bits : (b : ℕ) → digit b m ≡ 1 → digit b t ≡ 1 → bitAnd m t ≡ m
+      by-bits b e q =
+          let is : (c : ℕ) → digit c m ≡ 1 → c ≡ one .single .0 = λ c h. pow-only c (one .single .0) (sym (ap (digit c) (one .single .1)) ∙ h) in
+          by-members m t (λ c h. subst (λ (j : ℕ). digit j t ≡ 1) (is b e ∙ sym (is c h)) q)
+
+  -- and what is found with it or without it lies there
+  from-with : CoverBetween rows (bitOr s m) rest t → CoverBetween rows s free t
+  unfolding CoverBetween Between Minus
+  from-with r = (
+    r .0,
+    (
+      λ b q. r .1 .0 b (omega (arith, digit-or b s m, digit-lt b m)),
+      λ b q. ⊎-elim
+          (λ (e : digit b m ≡ 1). omega (arith, members m free (one .part) b e, digit-or b s free, digit-lt b s))
+          (λ (e : digit b m ≡ 1 → ⊥). omega (arith, r .1 .1 b q, d b, digit-or b s free, digit-or b s m, digit-or b (bitOr s m) rest, digit-lt b s, digit-lt b m, digit-lt b free))
+          (eq? (digit b m) 1),
+    ),
+  )
+
+  from-without : CoverBetween rows s rest t → CoverBetween rows s free t
+  unfolding CoverBetween Between Minus
+  from-without r = (
+    r .0,
+    (r .1 .0, λ b q. omega (arith, r .1 .1 b q, d b, digit-or b s free, digit-or b s rest, digit-lt b s, digit-lt b m, digit-lt b free)),
+  )
+
+pub valued-both : (rows costs : List ℕ) (s free m rest : ℕ) (best with r : Best) → Member free m → Minus free m rest
+    → Valued rows costs (bitOr s m) rest best with → Valued rows costs s rest with r → Valued rows costs s free best r
+valued-both rows costs s free m rest best with r one d u v = record {
+  within = omega (arith, u .within, v .within);
+  found = ⊎-elim
+      (λ (e : r ≡ with). ⊎-elim
+      (λ (f : with ≡ best). inl (e ∙ f))
+      (λ (f : Attained rows costs (bitOr s m) rest with × (with .cost < best .cost)).
+      inr (subst (λ (x : Best). Attained rows costs s free x × (x .cost < best .cost)) (sym e)
+      (record { cover = from-with rows s free m rest one d (with .set) (f .0 .cover); cost-is = f .0 .cost-is }, f .1)))
+      (u .found))
+      (λ (f : Attained rows costs s rest r × (r .cost < with .cost)).
+      inr (record { cover = from-without rows s free m rest one d (r .set) (f .0 .cover); cost-is = f .0 .cost-is }, omega (arith, f .1, u .within)))
+      (v .found);
+  least = λ t h. ⊎-elim
+      (λ (p : bitAnd m t ≡ m). omega (arith, v .within, u .least t (reached-with rows s free m rest one d t p h)))
+      (λ (n : bitAnd m t ≡ m → ⊥). v .least t (reached-without rows s free m rest one d t n h))
+      (eq? (bitAnd m t) m);
+}
+
+-- m is taken
+pub priced-with : (costs : List ℕ) (s m cost bound p : ℕ) → Priced costs s cost bound → Price costs m p → bitAnd s m ≡ 0 → Priced costs (bitOr s m) (cost + p) bound
+priced-with costs s m cost bound p h q z =
+    record { few = h .few; is = omega (arith, h .is, q .is, cost-join costs s m z); near = omega (arith, h .near) }
+
+-- a lower bound
+pub priced-less : (costs : List ℕ) (s cost bound bound' : ℕ) → Priced costs s cost bound → bound' ≤ bound → Priced costs s cost bound'
+priced-less costs s cost bound bound' h le = record { few = h .few; is = h .is; near = omega (arith, h .near) }
+
+-- a set's cost fits, and sums of a few
+pub cost-fits : (costs : List ℕ) (s cost : ℕ) → length costs ≤ 64 → ((k : ℕ) → getD costs k 0 < 65536) → cost ≡ costOf costs s → cost < 4194304
+cost-fits costs s cost l lt e = omega (arith, cost-small costs s lt)
+
+pub priced-fits : (costs : List ℕ) (s cost bound : ℕ) → ((k : ℕ) → getD costs k 0 < 65536) → Priced costs s cost bound → (cost < 4194304) × (bound < 8388609)
+priced-fits costs s cost bound lt h =
+    let f : cost < 4194304 = cost-fits costs s cost (h .few) lt (h .is) in
+    (f, omega (arith, h .near))

@@ -1,0 +1,30 @@
+-- `optimum::cheapest::cheapest` meets its contract.
+use native.Mathlib.Omega.{arith}
+use Rattle.optimum.proofs.Pinning.{priced-start, none-below, least-cost}
+use Rattle.optimum.proofs.Optimality.{optimal-none, optimal-cover}
+use borrow.Author.Needs.{needs}
+use Rattle.optimum.proofs.cheapest.cheapest.Statement.{statement}
+use Rattle.optimum.proofs.cheapest.cheapest.Tie as tie
+
+low-mask-requires : tie.Need-low-mask-requires
+low-mask-requires c κs = search needs
+
+start-requires : tie.Need-start-requires
+start-requires c κs = search needs
+
+value-requires : tie.Need-value-requires
+value-requires c κs = priced-start _ _ _ _ (c .before .before .before .before .pre) (λ k. omega (arith, c .before .before .shared-slice-known2 .given k)) (c .start .ensures)
+
+returns : tie.Need-returns
+returns c = optimal-none _ _ (none-below _ _ _ _ _ _ (c .before .before .before .before .low-mask .ensures) (c .before .before .before .start .ensures) (c .before .before .value .ensures) (λ k. omega (arith, c .before .before .before .before .before .shared-slice-known2 .given k)) (c .before .before .before .before .before .before .before .pre) (c .if1 .taken))
+
+first-requires : tie.Need-first-requires
+first-requires c κs = (c .before .before .before .before .before .before .before .pre, (c .before .before .before .before .before .before .before .pre, least-cost _ _ _ _ _ _ (c .before .before .before .before .low-mask .ensures) (c .before .before .before .start .ensures) (c .before .before .value .ensures) (c .if1 .left)))
+
+returns-2 : tie.Need-returns-2
+returns-2 c = optimal-cover _ _ _ _ (c .before .before .before .before .before .before .before .before .pre) (λ k. omega (arith, c .before .before .before .before .before .before .shared-slice-known2 .given k)) (c .first .ensures)
+
+pub cheapest-spec : {M : Type 1} → statement M
+cheapest-spec =
+    tie.close
+    (tie.spec low-mask-requires start-requires value-requires returns first-requires returns-2)

@@ -1,0 +1,6 @@
+pub mod Sets
+pub mod Nodes
+pub mod Reducing
+pub mod Bridge
+pub mod Same
+pub mod Ordering
