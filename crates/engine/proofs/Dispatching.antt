@@ -19,13 +19,14 @@ use Rattle.model.specs.Invariants.{Valid}
 use Rattle.model.proofs.Lists.{T-true, T-false}
 use Rattle.model.proofs.Runs.{Numbered, first-before, first-behind}
 use Rattle.model.proofs.Valid.{place-one}
-use Rattle.engine.specs.declared.kinds.Kind.{Kind}
-use Rattle.engine.specs.declared.problem.Problem.{Problem}
-use Rattle.engine.specs.declared.commands.Effect.{Effect}
-use Rattle.engine.specs.Kinds.{kindIs, isQueryKind, earlyRefusal}
-use Rattle.engine.specs.Problems.{Holds}
-use Rattle.engine.specs.Matrix.{RowsOf}
-use Rattle.engine.specs.Effects.{refusedAs, lateRefusal, Handled, Found, Stepped, Steps, contextAt, HandlesI, HandlesR, HandlesT, HandlesP, HandlesL, HandlesC, HandlesE}
+use Rattle.codec.specs.declared.kinds.Kind.{Kind}
+use Rattle.codec.specs.Kinds.{kindIs, isQueryKind, earlyRefusal}
+use Rattle.problem.specs.declared.Problem.{Problem}
+use Rattle.problem.specs.Problems.{Holds}
+use Rattle.problem.specs.Matrix.{RowsOf}
+use Rattle.commands.specs.declared.Effect.{Effect}
+use Rattle.commands.specs.Effects.{refusedAs, lateRefusal, Handled, Found, HandlesI, HandlesR, HandlesT, HandlesP, HandlesL, HandlesC, HandlesE}
+use Rattle.engine.specs.Steps.{Stepped, Steps, contextAt}
 
 -- ---- what passing 3, 4 and 5 says
 

@@ -1,10 +1,2 @@
-pub mod Bytes
-pub mod Testing
-pub mod Preparing
-pub mod Keeping
-pub mod Handling
-pub mod Stepping
-pub mod Querying
 pub mod Dispatching
 pub mod Running
-pub mod Calling

@@ -22,14 +22,15 @@ use Rattle.model.specs.Invariants.{Valid}
 use Rattle.model.proofs.Lists.{T-true, T-false, or-cases}
 use Rattle.model.proofs.Runs.{Passed, passed}
 use Rattle.model.proofs.Valid.{after-valid, valid-empty}
-use Rattle.engine.specs.declared.problem.Problem.{Problem}
-use Rattle.engine.specs.declared.commands.Effect.{Effect}
-use Rattle.engine.specs.Kinds.{isQueryKind}
-use Rattle.engine.specs.Problems.{noProblem, Holds, Reached, Sized}
-use Rattle.engine.specs.Matrix.{RowsOf, Refreshed}
-use Rattle.engine.specs.Effects.{Answered, Stepped, Steps, contextAt}
+use Rattle.codec.specs.Kinds.{isQueryKind}
+use Rattle.problem.specs.declared.Problem.{Problem}
+use Rattle.problem.specs.Problems.{noProblem, Holds, Reached, Sized}
+use Rattle.problem.specs.Matrix.{RowsOf, Refreshed}
+use Rattle.problem.proofs.Keeping.{holds-empty}
+use Rattle.commands.specs.declared.Effect.{Effect}
+use Rattle.commands.specs.Effects.{Answered}
+use Rattle.engine.specs.Steps.{Stepped, Steps, contextAt}
 use Rattle.engine.specs.Jobs.{called}
-use Rattle.engine.proofs.Keeping.{holds-empty}
 
 -- ---- one command of the definitions' run
 

@@ -4,11 +4,10 @@ ghost use Prim.Native.Nat.{_+_, _*_, _^_, _≤_};
 ghost use lib.ListN.{length};
 ghost use Rattle.model.specs.Calls.{Met};
 ghost use Rattle.engine.specs.Jobs.{called};
-use crate::kinds;
-use crate::matrix;
-use crate::problem;
 use crate::step;
 use bits::byte;
+use codec::kinds;
+use problem::matrix;
 
 // A number that counts as a 64-bit number.
 fn long(x: usize) -> u64

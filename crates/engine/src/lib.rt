@@ -1,21 +1,12 @@
-// The engine: jobs of commands over a problem, their answers, and the library call.
+// The engine: jobs of commands over a problem, and their answers.
 //
-// `cover_job` is what a C program links to; `library::list_covers` is the call for Rattle. The contracts of both cite only definitions of
-// crate `model`.
+// `cover_job` is what a C program links to; its contract cites only definitions of crate `model`. `step` is any command of a
+// job, `job` goes through them. The call for Rattle is `library::list_covers`, in a crate of its own.
 ghost use Rattle.model.specs.Calls.{Met};
 ghost use Rattle.engine.specs.Jobs.{called};
 
-pub mod commands;
 pub mod job;
-pub mod kinds;
-pub mod library;
-pub mod matrix;
-pub mod operands;
-pub mod problem;
-pub mod queries;
 pub mod step;
-pub mod tests;
-pub mod writers;
 
 // Runs a job on two byte buffers: returns number × 2^32 + offset × 2^16 + written, and leaves the bytes of the finished answers in front
 // of `answers`. Every other byte of `answers` stays as it was.

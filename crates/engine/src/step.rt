@@ -1,15 +1,14 @@
 // Any command of a job.
 ghost use Prim.Native.Nat.{_<_};
 ghost use lib.ListN.{length};
-ghost use Rattle.engine.specs.Problems.{Reached};
-ghost use Rattle.engine.specs.Effects.{Steps};
-use crate::commands;
-use crate::commands::Effect;
-use crate::kinds;
-use crate::kinds::Kind;
-use crate::operands;
-use crate::problem::Problem;
-use crate::queries;
+ghost use Rattle.problem.specs.Problems.{Reached};
+ghost use Rattle.engine.specs.Steps.{Steps};
+use codec::kinds;
+use codec::kinds::Kind;
+use codec::operands;
+use commands::Effect;
+use commands::queries;
+use problem::Problem;
 
 // The command at `at`: tested in the paper's order, then answered into the free part and applied. `rows` are the problem's where it is
 // an L or a C.

@@ -1,8 +1,7 @@
 // Runs the library call on the paper's cases and on odd parity of 7 inputs, and prints what it finds.
 ghost use Prim.Native.Nat.{_≤_};
-use engine::library;
-use engine::library::Listed;
 use libc::STDOUT_FILENO;
+use library::Listed;
 use model::Term;
 use optimum::cheapest;
 use optimum::cheapest::Optimum;
@@ -85,7 +84,7 @@ fn show_cheapest(on: &[u8; 256], terms: [Term; 64], count: usize)
 {
     let mut all = [0u64; 2048];
     let k = rows::rows(on, terms, count, 7, 1, &mut all);
-    let costs = engine::matrix::costs(terms, count);
+    let costs = problem::matrix::costs(terms, count);
     if k <= 2048 {
         if let Optimum::Cover(set, cost) = cheapest::cheapest(&all[..k], &costs[..count]) {
             io::write_all(STDOUT_FILENO, b"parity of 7 inputs, cheapest and cost: ");

@@ -15,43 +15,43 @@ Inv-loop terms all₀ i₀ all i = (i ≤ 64) × (length all ≡ 64)
 abbrev μ-loop : tie.MeasureT-loop
 μ-loop terms all₀ i₀ all i = 64 - i
 
--- src/main.rt:74:5
+-- src/main.rt:73:5
 loop-holds : tie.Need-loop-holds Inv-loop μ-loop
 loop-holds c = (omega arith, refl)
 
--- src/main.rt:75:17
+-- src/main.rt:74:17
 mul-t : tie.Need-mul-t Inv-loop μ-loop
 mul-t c = omega arith
 
--- src/main.rt:75:17
+-- src/main.rt:74:17
 array-copy-out-t : tie.Need-array-copy-out-t Inv-loop μ-loop
 array-copy-out-t c = omega arith
 
--- src/main.rt:76:18
+-- src/main.rt:75:18
 word-requires : tie.Need-word-requires Inv-loop μ-loop
 word-requires c κs = tt
 
--- src/main.rt:76:9
+-- src/main.rt:75:9
 mul-all : tie.Need-mul-all Inv-loop μ-loop
 mul-all c = omega arith
 
--- src/main.rt:76:9
+-- src/main.rt:75:9
 array-write-all : tie.Need-array-write-all Inv-loop μ-loop
 array-write-all c = omega arith
 
--- src/main.rt:77:9
+-- src/main.rt:76:9
 add-i : tie.Need-add-i Inv-loop μ-loop
 add-i c = omega arith
 
--- src/main.rt:74:5
+-- src/main.rt:73:5
 loop-less : tie.Need-loop-less Inv-loop μ-loop
 loop-less c = omega arith
 
--- src/main.rt:74:5
+-- src/main.rt:73:5
 loop-again : tie.Need-loop-again Inv-loop μ-loop
 loop-again c = (omega arith, (simp length-set (c .before .before .before .loop .inv .1)))
 
--- src/main.rt:71:1
+-- src/main.rt:70:1
 returns : tie.Need-returns Inv-loop μ-loop
 returns c = tt
 

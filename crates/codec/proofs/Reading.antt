@@ -1,0 +1,65 @@
+-- The laws behind reading a command: the early refusals, and a number of 8 bytes.
+use Prim.Native.Nat.{ℕ, zero, suc, _+_, _-_, _*_, _^_, _≤_, _<_}
+use native.Mathlib.Omega.{arith}
+use native.Mathlib.Nat.{pow-suc, pow-le-pow-right}
+use mathlib.Core.Path.{_≡_, refl, sym, ap, ap₂, _∙_, subst, subst⁻¹}
+use mathlib.Core.Bool.{Bool, true, false, not, cond}
+use mathlib.Core.List.{List, [], _∷_, _++_}
+use borrow.Author.Tests.{lt-ltb, le-ltb}
+use lib.Dec.{T, ltb}
+use lib.ListN.{getD, length, take, drop}
+use lib.Seq.{drop-cons}
+use Rattle.model.specs.Commands as model
+use Rattle.model.specs.Commands.{number, is, width, allowed}
+use Rattle.codec.specs.Kinds.{earlyRefusal}
+
+-- ---- 3, 4 and 5
+
+module _ (k : model.Kind) (place rest : ℕ) where
+  pub early-none : (n : Bool) → n ≡ is k model.Kind.none → n ≡ true → 3 ≡ earlyRefusal k place rest
+  early-none n e t = rw (← e, t)
+
+  pub early-place : (n a : Bool) → n ≡ is k model.Kind.none → n ≡ false → a ≡ allowed k place → a ≡ false → 4 ≡ earlyRefusal k place rest
+  early-place n a e t f u = rw (← e, t, ← f, u)
+
+  pub early-short : (n a : Bool) (w : ℕ) → n ≡ is k model.Kind.none → n ≡ false → a ≡ allowed k place → a ≡ true → w ≡ width k → rest < w → 5 ≡ earlyRefusal k place rest
+  early-short n a w e t f u g l = rw (← e, t, ← f, u, ← g, lt-ltb rest w l)
+
+  pub early-passed : (n a : Bool) (w : ℕ) → n ≡ is k model.Kind.none → n ≡ false → a ≡ allowed k place → a ≡ true → w ≡ width k → w ≤ rest → 0 ≡ earlyRefusal k place rest
+  early-passed n a w e t f u g l = rw (← e, t, ← f, u, ← g, le-ltb rest w l)
+
+-- ---- a number of 8 bytes, from the last one down
+
+pub record ReadFrom (job : List ℕ) (at i x : ℕ) : Type 0 where
+  pub within : i ≤ 8
+  pub is : x ≡ number (take (8 - i) (drop (at + i) job))
+  pub small : x < 256 ^ (8 - i)
+
+pub read-none : (job : List ℕ) (at : ℕ) → ReadFrom job at 8 0
+read-none job at = record { within = omega arith; is = refl; small = omega arith }
+
+pub read-next : (job : List ℕ) (at i x b y : ℕ) → at + 8 ≤ length job → 0 < i → ReadFrom job at i x → b ≡ getD job (at + (i - 1)) 0 → b ≤ 255 → y ≡ x * 256 + b → ReadFrom job at (i - 1) y
+read-next job at i x b y h l r e s q = record {
+  within = omega (arith, r .within);
+  is = rw (k, drop-cons job (at + (i - 1)) 0 here, next) (omega (arith, r .is, e, q));
+  small = rw k (omega (arith, r .small, pow-suc 256 (8 - i)));
+}
+  where
+    k : 8 - (i - 1) ≡ suc (8 - i)
+    k = omega (arith, r .within)
+
+    here : at + (i - 1) < length job
+    here = omega (arith, r .within)
+
+    next : suc (at + (i - 1)) ≡ at + i
+    next = omega arith
+
+pub read-room : (job : List ℕ) (at i x : ℕ) → 0 < i → ReadFrom job at i x → x * 256 + 255 < 2 ^ 64
+read-room job at i x l r =
+    let h : 8 - i ≤ 7 = omega arith in
+    let z : 0 < 256 = omega arith in
+    omega (arith, r .small, pow-le-pow-right {n = 256} z h)
+
+pub read-all : (job : List ℕ) (at i x : ℕ) → i ≤ 0 → ReadFrom job at i x → x ≡ number (take 8 (drop at job))
+read-all job at zero x l r = r .is ∙ (let e : at + 0 ≡ at = omega arith in ap (λ (n : ℕ). number (take 8 (drop n job))) e)
+read-all job at (suc i) x l r = absurd (omega arith)

@@ -1,0 +1,83 @@
+-- `codec::writers::put_page` meets its contract.
+use mathlib.Core.Path.{_≡_, refl}
+use mathlib.Core.Bool.{cond}
+use mathlib.Core.List.{List, [], _∷_}
+use Prim.Native.Nat.{ℕ, _*_}
+use native.Mathlib.Omega.{arith}
+use lib.ListN.{length-set}
+use lib.Seq.{length-take-le}
+use Rattle.model.specs.Commands.{low}
+use Rattle.codec.proofs.Bytes.{low-length, blocks-length, same-long, headed-room, headed, written}
+use borrow.Author.Needs.{needs}
+use Rattle.codec.proofs.writers.put_page.Statement.{statement}
+use Rattle.codec.proofs.writers.put_page.Tie as tie
+
+abbrev Old : tie.Start → List ℕ
+Old c = c .args .free .now
+
+abbrev Sets : tie.Start → List ℕ
+Sets c = c .args .sets .now
+
+flag-is : (c : tie.After-flag) → c .flag .result ≡ cond (c .before .before .before .before .args .more) 1 0
+flag-is c = c .flag .ensures
+
+mul-len : tie.Need-mul-len
+mul-len c = search needs
+
+add-len : tie.Need-add-len
+add-len c = search needs
+
+returns : tie.Need-returns
+returns c = (omega (arith, blocks-length (low 8) 8 (low-length 8) (Sets (c .before .before .before)) (c .before .before .before .args .k) (c .before .before .before .pre .0)), refl)
+
+slice-write-free : tie.Need-slice-write-free
+slice-write-free c = search needs
+
+cast-free : tie.Need-cast-free
+cast-free c = search needs
+
+slice-write-free-2 : tie.Need-slice-write-free-2
+slice-write-free-2 c = simp length-set (omega arith)
+
+flag-requires : tie.Need-flag-requires
+flag-requires c κs = search needs
+
+slice-write-free-3 : tie.Need-slice-write-free-3
+slice-write-free-3 c = simp length-set (omega arith)
+
+sub-put-sets : tie.Need-sub-put-sets
+sub-put-sets c = simp length-set (omega arith)
+
+part-put-sets-start : tie.Need-part-put-sets-start
+part-put-sets-start c = simp length-set (omega arith)
+
+part-put-sets-end : tie.Need-part-put-sets-end
+part-put-sets-end c = search needs
+
+put-sets-requires : tie.Need-put-sets-requires
+put-sets-requires c κs = (c .before .before .before .before .before .pre .0, c .before .before .before .before .before .pre .1, headed-room (0x6c ∷ _ ∷ _ ∷ []) (Old (c .before .before .before .before .before)) _ (c .before .before .if1 .left))
+
+same-length : tie.Need-same-length
+same-length c = same-long _ _ _ _ (headed (0x6c ∷ _ ∷ _ ∷ []) (Old (c .before .before .before .before .before .before .before .before)) _ _ (8 * c .before .before .before .before .before .before .before .before .args .k) (c .before .before .before .before .before .if1 .left) (c .before .before .put-sets .ensures)) (c .before .before .before .before .before .if1 .left)
+
+returns-2 : tie.Need-returns-2
+returns-2 c = rw (length-take-le _ _ (c .before .before .before .before .before .before .before .before .pre .0), ← flag-is (c .before .before .before .before)) (written _ _ _ _ (c .before .before .before .before .before .if1 .left) (headed (0x6c ∷ _ ∷ _ ∷ []) (Old (c .before .before .before .before .before .before .before .before)) _ _ (8 * c .before .before .before .before .before .before .before .before .args .k) (c .before .before .before .before .before .if1 .left) (c .before .before .put-sets .ensures)))
+
+pub put-page-spec : {M : Type 1} → statement M
+put-page-spec =
+    tie.close
+    (tie.spec
+    mul-len
+    add-len
+    returns
+    slice-write-free
+    cast-free
+    slice-write-free-2
+    flag-requires
+    slice-write-free-3
+    sub-put-sets
+    part-put-sets-start
+    part-put-sets-end
+    put-sets-requires
+    same-length
+    returns-2)

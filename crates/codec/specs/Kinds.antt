@@ -1,0 +1,28 @@
+-- The engine's commands are those of the paper.
+use Prim.Native.Nat.{ℕ}
+use mathlib.Core.Bool.{Bool, not, _||_}
+use mathlib.Core.List.{[], _∷_}
+use lib.Dec.{ltb}
+use Rattle.model.specs.Commands as model
+use Rattle.model.specs.Refusals.{refuse, firstOf}
+use Rattle.codec.specs.declared.kinds.Kind.{Kind}
+use Rattle.codec.specs.declared.kinds.Kind.the-variants.{I, R, T, P, L, C, E, None}
+
+abbrev pub kindIs : Kind → model.Kind
+kindIs I = model.Kind.I
+kindIs R = model.Kind.R
+kindIs T = model.Kind.T
+kindIs P = model.Kind.P
+kindIs L = model.Kind.L
+kindIs C = model.Kind.C
+kindIs E = model.Kind.E
+kindIs None = model.Kind.none
+
+-- L or C
+abbrev pub isQueryKind : model.Kind → Bool
+isQueryKind k = model.is k model.Kind.L || model.is k model.Kind.C
+
+-- 3, 4 and 5 for a command at this place with so many bytes behind its own: the first that applies, 0 where none does
+abbrev pub earlyRefusal : model.Kind → ℕ → ℕ → ℕ
+earlyRefusal k place rest =
+    firstOf (refuse 3 (model.is k model.Kind.none) ∷ refuse 4 (not (model.allowed k place)) ∷ refuse 5 (ltb rest (model.width k)) ∷ [])

@@ -1,0 +1,174 @@
+-- The laws behind the commands: a refusal, an answer of no bytes, an answer that is written, and one that is too long.
+use Prim.Native.Nat.{ℕ, _+_, _^_, _≤_, _<_}
+use native.Mathlib.Omega.{arith}
+use mathlib.Core.Path.{_≡_, refl, sym, ap, _∙_, subst, subst⁻¹}
+use mathlib.Core.Bool.{Bool, true, false, not, cond, _&&_, _||_}
+use mathlib.Core.List.{List, [], _∷_, _++_}
+use borrow.Author.Tests.{lt-ltb, le-ltb, leb-false}
+use lib.Dec.{T, ltb, leb, eqb}
+use lib.ListN.{getD, length, drop, take, length-take}
+use Rattle.model.specs.Base.{some}
+use Rattle.model.specs.declared.Term.{Term}
+use Rattle.model.specs.Primes.{primes}
+use Rattle.model.specs.Commands as model
+use Rattle.model.specs.Commands.{Context, operand, operandTerm, problemAfter}
+use Rattle.model.specs.Answers.{Answer, bytesOf, answerFor}
+use Rattle.model.specs.Refusals.{refuse, firstOf, refusalsOf, size, badRow}
+use Rattle.model.specs.Invariants.{Valid}
+use Rattle.model.proofs.Runs.{refusalsOf-no, first-before, first-behind}
+use Rattle.table.specs.declared.prime_list.PrimeList.{PrimeList}
+use Rattle.table.specs.Lists.{Filled}
+use Rattle.table.specs.Cubes.{MayOf}
+use Rattle.table.specs.Primes.{Listed, AllPrimes}
+use Rattle.table.proofs.Uses.{whole-list}
+use Rattle.codec.specs.declared.writers.Reply.{Reply}
+use Rattle.codec.specs.declared.writers.Reply.the-variants.{Written, TooLong}
+use Rattle.codec.specs.Writers.{Replied}
+use Rattle.problem.specs.declared.Problem.{Problem}
+use Rattle.problem.specs.Problems.{startedWith, rowPut, termPut, candidatesPut, Sized, Holds, Reached}
+use Rattle.problem.specs.Tests.{RowRefusal, TermRefusal}
+use Rattle.problem.proofs.Testing.{held-bytes}
+use Rattle.problem.proofs.Keeping.{after-I, after-R, after-T, after-P}
+use Rattle.commands.specs.declared.Effect.{Effect}
+use Rattle.commands.specs.Effects.{refusedAs, answerBytes, lateRefusal, Answered, Handled, Found, HandlesI, HandlesR, HandlesT, HandlesP, HandlesE}
+
+-- ---- 14 stands behind the command's own refusals
+
+module _ (x : Context) (k : model.Kind) where
+  pub late-own : (r : ℕ) → r ≡ firstOf (refusalsOf x k) → (r ≡ 0 → ⊥) → r ≡ lateRefusal x k
+  late-own r e n = e ∙ sym (first-before (refusalsOf x k) (refuse 14 (ltb (x .free) (length (answerBytes x k))) ∷ []) (λ z. n (e ∙ z)))
+
+  late-last : firstOf (refusalsOf x k) ≡ 0 → lateRefusal x k ≡ firstOf (refuse 14 (ltb (x .free) (length (answerBytes x k))) ∷ [])
+  late-last e = first-behind (refusalsOf x k) (refuse 14 (ltb (x .free) (length (answerBytes x k))) ∷ []) (refusalsOf-no x k) e
+
+  pub late-long : 0 ≡ firstOf (refusalsOf x k) → x .free < length (answerBytes x k) → 14 ≡ lateRefusal x k
+  late-long e l = sym (late-last (sym e) ∙ (rw (lt-ltb (x .free) (length (answerBytes x k)) l)))
+
+  pub late-none : 0 ≡ firstOf (refusalsOf x k) → length (answerBytes x k) ≤ x .free → 0 ≡ lateRefusal x k
+  late-none e l = sym (late-last (sym e) ∙ (rw (le-ltb (x .free) (length (answerBytes x k)) l)))
+
+  -- ---- effects
+
+  pub handled-refused : (old : List ℕ) (p : Problem) (n : ℕ) (e : Effect) → e ≡ refusedAs p n → n ≡ lateRefusal x k → (n ≡ 0 → ⊥) → Handled x k old old e
+  handled-refused old p n e q l d = rw q record { number = l; refused = λ h. refl; answered = λ z. absurd (d z) }
+
+  pub handled-silent : (old : List ℕ) (q : Problem) → answerBytes x k ≡ [] → 0 ≡ firstOf (refusalsOf x k) → Holds q (problemAfter x k) → Handled x k old old (record { number = 0; written = 0; problem = q })
+  handled-silent old q a e h = record {
+    number = late-none e (omega (arith, ap length a));
+    refused = λ n. refl;
+    answered = λ z. record { written = sym (ap length a); bytes = rw a; problem = h };
+  }
+
+  pub handled-written : (old new : List ℕ) (q : Problem) (r : Reply) (n : ℕ) → r ≡ Written n → x .free ≡ length old → Replied (answerBytes x k) old new r → 0 ≡ firstOf (refusalsOf x k) → Holds q (problemAfter x k)
+      → Handled x k old new (record { number = 0; written = n; problem = q })
+  handled-written old new q r n s f w e h =
+      let w' : Replied (answerBytes x k) old new (Written n) = subst (Replied (answerBytes x k) old new) s w in
+      record {
+        number = late-none e (omega (arith, w' .0, w' .1));
+        refused = λ d. absurd (d refl);
+        answered = λ z. record { written = w' .0; bytes = w' .2 ∙ ap (λ (i : ℕ). answerBytes x k ++ drop i old) (w' .0); problem = h };
+      }
+
+  pub handled-long : (old new : List ℕ) (p : Problem) (r : Reply) (e : Effect) → r ≡ TooLong → e ≡ refusedAs p 14 → x .free ≡ length old → Replied (answerBytes x k) old new r → 0 ≡ firstOf (refusalsOf x k) → Handled x k old new e
+  handled-long old new p r e s q f w o =
+      let w' : Replied (answerBytes x k) old new TooLong = subst (Replied (answerBytes x k) old new) s w in
+      rw q record { number = late-long o (omega (arith, w' .0)); refused = λ d. w' .1; answered = λ z. absurd (omega (arith, z)) }
+
+-- ---- I, R and T
+
+pub init-refused : (p : Problem) (n m r : ℕ) (e : Effect) → r ≡ firstOf (refuse 6 (not (size n && size m)) ∷ []) → (r ≡ 0 → ⊥) → e ≡ refusedAs p r → HandlesI n m e
+unfolding refusalsOf
+init-refused p n m r e o d q x free a b = handled-refused x model.Kind.I free p r e q (late-own x model.Kind.I r (rw (a, b) o) d) d
+
+pub init-good : (n m r : ℕ) (q : Problem) → r ≡ firstOf (refuse 6 (not (size n && size m)) ∷ []) → r ≡ 0 → q ≡ startedWith n m 1 → HandlesI n m (record { number = 0; written = 0; problem = q })
+unfolding refusalsOf answerFor
+init-good n m r q o z s x free a b = handled-silent x model.Kind.I free q refl (rw (a, b) (sym z ∙ o)) (subst⁻¹ (λ (y : Problem). Holds y (problemAfter x model.Kind.I)) s (after-I x n m a b))
+
+row-vertex : (x : Context) → 0 ≡ firstOf (refusalsOf x model.Kind.R) → operand x 0 < 2 ^ x .problem .table .n
+unfolding refusalsOf
+row-vertex x e = go (leb (2 ^ x .problem .table .n) (operand x 0)) refl e
+  where
+    rest : ℕ
+    rest = firstOf (refuse 8 (badRow (x .problem .table .m) (operand x 1) (operand x 2)) ∷ [])
+
+    go : (b : Bool) → leb (2 ^ x .problem .table .n) (operand x 0) ≡ b → 0 ≡ cond (b || some (eqb (operand x 0)) (x .problem .rowsAt)) 7 rest → operand x 0 < 2 ^ x .problem .table .n
+    go true q z = absurd (omega arith)
+    go false q z = leb-false (2 ^ x .problem .table .n) (operand x 0) q
+
+module _ (p : Problem) (v on dc r : ℕ) (o : RowRefusal p v on dc r) where
+  pub row-refused : (e : Effect) → (r ≡ 0 → ⊥) → e ≡ refusedAs p r → HandlesR p v on dc e
+  row-refused e d q x free f a b c = handled-refused x model.Kind.R free p r e q (late-own x model.Kind.R r (o x (f .holds) a b c) d) d
+
+  pub row-kept : (q : Problem) → r ≡ 0 → q ≡ rowPut p v on dc → HandlesR p v on dc (record { number = 0; written = 0; problem = q })
+  unfolding answerFor
+  row-kept q z s x free f a b c =
+      let own : 0 ≡ firstOf (refusalsOf x model.Kind.R) = sym z ∙ o x (f .holds) a b c in
+      handled-silent x model.Kind.R free q refl own
+      (subst⁻¹ (λ (y : Problem). Holds y (problemAfter x model.Kind.R)) s (after-R x p v on dc (f .holds) (f .valid) (f .begun) a b c (subst (λ (w : ℕ). w < 2 ^ x .problem .table .n) a (row-vertex x own))))
+
+module _ (p : Problem) (t : Term) (r : ℕ) (o : TermRefusal p t r) where
+  pub term-refused : (e : Effect) → (r ≡ 0 → ⊥) → e ≡ refusedAs p r → HandlesT p t e
+  term-refused e d q x free f a = handled-refused x model.Kind.T free p r e q (late-own x model.Kind.T r (o .refusal x (f .holds) (f .valid) a) d) d
+
+  pub term-kept : (q : Problem) → r ≡ 0 → q ≡ termPut p t → HandlesT p t (record { number = 0; written = 0; problem = q })
+  unfolding answerFor
+  term-kept q z s x free f a =
+      handled-silent x model.Kind.T free q refl (sym z ∙ o .refusal x (f .holds) (f .valid) a)
+      (subst⁻¹ (λ (y : Problem). Holds y (problemAfter x model.Kind.T)) s (after-T x p t (f .holds) a (o .room z)))
+
+-- ---- P
+
+module _ (p : Problem) (z : Sized p) (may : List ℕ) (of : MayOf (p .on) (p .dc) may) (list : PrimeList) (all : AllPrimes may (p .n) list) where
+  primes-here : (x : Context) → Found p x → Listed (primes (x .problem .table)) list
+  primes-here x f = all (x .problem .table) (of (x .problem .table) (p .n) (z .inputs) (held-bytes p (x .problem) z (f .holds) (f .valid)))
+
+  pub few-primes : Reached p → list .count ≤ 64
+  few-primes r =
+      let l = all (r .problem .table) (of (r .problem .table) (p .n) (z .inputs) (held-bytes p (r .problem) z (r .holds) (r .valid))) in
+      omega (arith, l .stored .counted, length-take 64 (primes (r .problem .table)))
+
+  pub primes-many : (old : List ℕ) (e : Effect) → list .full ≡ true → e ≡ refusedAs p 11 → HandlesP p old old e
+  unfolding refusalsOf
+  primes-many old e g q x f s =
+      handled-refused x model.Kind.P old p 11 e q
+      (late-own x model.Kind.P 11 (rw (← primes-here x f .more, g)) (λ n. omega (arith, n))) (λ n. omega (arith, n))
+
+  module _ (old new : List ℕ) (r : Reply) (g : list .full ≡ false) (w : Replied (bytesOf (Answer.primesAre (take (list .count) (list .terms)))) old new r) where
+    own-none : (x : Context) → Found p x → 0 ≡ firstOf (refusalsOf x model.Kind.P)
+    unfolding refusalsOf
+    own-none x f = rw (← primes-here x f .more, g)
+
+    whole : (x : Context) → Found p x → Filled 64 (primes (x .problem .table)) (list .terms) (list .count)
+    whole x f = whole-list (primes (x .problem .table)) list (primes-here x f) g
+
+    replied : (x : Context) → Found p x → Replied (answerBytes x model.Kind.P) old new r
+    unfolding answerFor
+    replied x f = subst (λ (ts : List Term). Replied (bytesOf (Answer.primesAre ts)) old new r) (whole x f .same) w
+
+    pub primes-long : (e : Effect) → r ≡ TooLong → e ≡ refusedAs p 14 → HandlesP p old new e
+    primes-long e s q x f l = handled-long x model.Kind.P old new p r e s q l (replied x f) (own-none x f)
+
+    pub primes-kept : (q : Problem) (n : ℕ) → r ≡ Written n → q ≡ candidatesPut p (list .terms) (list .count) → HandlesP p old new (record { number = 0; written = n; problem = q })
+    primes-kept q n s e x f l =
+        handled-written x model.Kind.P old new q r n s l (replied x f) (own-none x f)
+        (subst⁻¹ (λ (y : Problem). Holds y (problemAfter x model.Kind.P)) e (after-P x p (list .terms) (list .count) (f .holds) (whole x f)))
+
+-- ---- E
+
+pub end-early : (p : Problem) (rest : ℕ) (old : List ℕ) (e : Effect) → 0 < rest → e ≡ refusedAs p 13 → HandlesE p rest old old e
+unfolding refusalsOf
+end-early p rest old e l q x h r f =
+    handled-refused x model.Kind.E old p 13 e q (late-own x model.Kind.E 13 (rw (r, lt-ltb 0 rest l)) (λ n. omega (arith, n))) (λ n. omega (arith, n))
+
+end-none : (x : Context) (rest : ℕ) → rest ≤ 0 → length (x .rest) ≡ rest → 0 ≡ firstOf (refusalsOf x model.Kind.E)
+unfolding refusalsOf
+end-none x rest l r = rw (r, le-ltb 0 rest l)
+
+module _ (p : Problem) (rest : ℕ) (old new : List ℕ) (r : Reply) (l : rest ≤ 0) (w : Replied (bytesOf Answer.ended) old new r) where
+  pub end-long : (e : Effect) → r ≡ TooLong → e ≡ refusedAs p 14 → HandlesE p rest old new e
+  unfolding answerFor
+  end-long e s q x h i f = handled-long x model.Kind.E old new p r e s q f w (end-none x rest l i)
+
+  pub end-written : (n : ℕ) → r ≡ Written n → HandlesE p rest old new (record { number = 0; written = n; problem = p })
+  unfolding answerFor problemAfter
+  end-written n s x h i f = handled-written x model.Kind.E old new p r n s f w (end-none x rest l i) h

@@ -1,0 +1,145 @@
+-- The laws behind L and C.
+use Prim.Native.Nat.{ℕ, _/_, _≤_}
+use native.Mathlib.Omega.{arith}
+use mathlib.Core.Path.{_≡_, refl, sym, ap, ap₂, _∙_, subst, subst⁻¹}
+use mathlib.Core.Bool.{Bool, true, false, not, cond}
+use mathlib.Core.List.{List, [], _∷_, _++_, map, List·Memᴰ, List·Memᴰ·head, List·Memᴰ·tail}
+use lib.Dec.{T}
+use lib.ListN.{length, take, drop, replicate, length-take, length-append}
+use lib.Seq.{take-at}
+use Rattle.model.specs.Base.{bit}
+use Rattle.model.specs.declared.Term.{Term}
+use Rattle.model.specs.Sets.{Covering, members, Best, cover, coverable, irredundants, cheapest, cost, ofRows}
+use Rattle.model.specs.Pages.{page, more, atOrAbove}
+use Rattle.model.specs.Candidates.{termCost, covering}
+use Rattle.model.specs.Commands as model
+use Rattle.model.specs.Commands.{Context, basisOf, coveringOf, start, count, problemAfter}
+use Rattle.model.specs.Answers.{Answer, bytesOf, answerFor}
+use Rattle.model.specs.Refusals.{refuse, firstOf, refusalsOf}
+use Rattle.model.proofs.Lists.{T-true, T-false}
+use Rattle.model.proofs.Sets.{covers-more}
+use Rattle.model.proofs.Cheapest.{best-cheapest}
+use Rattle.model.proofs.Matrix.{rows-cost}
+use Rattle.optimum.specs.declared.cheapest.Optimum.{Optimum}
+use Rattle.optimum.specs.declared.cheapest.Optimum.the-variants.{Cover as AtCover, Nothing}
+use Rattle.search.specs.declared.lister.Filled.{Filled}
+use Rattle.search.specs.Lister.{rowCovers, Paged}
+use Rattle.optimum.specs.Costs.{Optimal}
+use Rattle.codec.specs.declared.writers.Reply.{Reply}
+use Rattle.codec.specs.declared.writers.Reply.the-variants.{Written, TooLong}
+use Rattle.codec.specs.Writers.{Replied}
+use Rattle.problem.specs.declared.Problem.{Problem}
+use Rattle.problem.specs.Problems.{queried, Sized, Holds, Reached}
+use Rattle.problem.specs.Matrix.{TellsCovered, RowsOf}
+use Rattle.problem.proofs.Keeping.{after-L, after-C}
+use Rattle.problem.proofs.Preparing.{rows-listed}
+use Rattle.commands.specs.declared.Effect.{Effect}
+use Rattle.commands.specs.Effects.{refusedAs, repliedAs, answerBytes, pageBytes, lateRefusal, Handled, Found, HandlesL, HandlesC}
+use Rattle.commands.proofs.Handling.{late-own, handled-refused, handled-written, handled-long}
+
+-- ---- covers by all candidates, and costs without rows
+
+members-among : {A : Type 0} (ts : List A) (s : ℕ) {t : A} → List·Memᴰ t (members ts s) → List·Memᴰ t ts
+members-among [] s m = m
+members-among (u ∷ us) s {t} m = go (bit 0 s) m (members-among us (s / 2))
+  where
+    later : (List·Memᴰ t (members us (s / 2)) → List·Memᴰ t us) → List·Memᴰ t (u ∷ members us (s / 2)) → List·Memᴰ t (u ∷ us)
+    later r (List·Memᴰ·head e) = List·Memᴰ·head e
+    later r (List·Memᴰ·tail h) = List·Memᴰ·tail (r h)
+
+    go : (b : Bool) → List·Memᴰ t (cond b (u ∷ members us (s / 2)) (members us (s / 2))) → (List·Memᴰ t (members us (s / 2)) → List·Memᴰ t us) → List·Memᴰ t (u ∷ us)
+    go true h r = later r h
+    go false h r = List·Memᴰ·tail (r h)
+
+cover-coverable : {A X : Type 0} (k : Covering A X) (s : ℕ) → T (cover k s) → T (coverable k)
+unfolding cover coverable
+cover-coverable k s c = covers-more (k .holds) (k .points) (members (k .cands) s) (k .cands) (λ t m. members-among (k .cands) s m) c
+
+rows-cost-any : {A X : Type 0} (k : Covering A X) (rows : List ℕ) (s : ℕ) → cost (ofRows (map (k .weight) (k .cands)) rows) s ≡ cost k s
+unfolding cost
+rows-cost-any k rows s = rows-cost k s
+
+-- ---- a page
+
+module _ (all : List ℕ) (s : ℕ) (old new : List ℕ) (f : Filled) (p : Paged all s old new f) where
+  pub page-front : take (f .count) new ≡ page all s (length old)
+  page-front = ap (take (f .count)) (p .row) ∙ take-at (page all s (length old)) (drop (length (page all s (length old))) old) (f .count) (sym (p .count))
+
+  pub page-within : (f .count ≤ length old) × (f .count ≤ length new)
+  unfolding page
+  page-within =
+      let a = length-take (length old) (atOrAbove all s) in
+      (omega (arith, p .count, a), omega (arith, p .count, ap length (p .row), length-append (page all s (length old)) (drop (length (page all s (length old))) old)))
+
+  pub page-answer : (free free' : List ℕ) (r : Reply) → Replied (bytesOf (Answer.paged (take (f .count) new) (f .more))) free free' r → Replied (pageBytes all s (length old)) free free' r
+  page-answer free free' r w = subst (λ (a : Answer). Replied (bytesOf a) free free' r) (ap₂ Answer.paged page-front (p .more)) w
+
+-- ---- L and C by their replies
+
+module _ (x : Context) (k : model.Kind) (p : Problem) (old new : List ℕ) (r : Reply) (w : Replied (answerBytes x k) old new r) (f : x .free ≡ length old) (o : 0 ≡ firstOf (refusalsOf x k)) (h : Holds (queried p) (problemAfter x k)) where
+  pub handled-reply : (e : Effect) → e ≡ repliedAs p r → Handled x k old new e
+  handled-reply e q = subst⁻¹ (Handled x k old new) q (go r refl)
+    where
+      go : (s : Reply) → r ≡ s → Handled x k old new (repliedAs p s)
+      go (Written n) i = handled-written x k old new (queried p) r n i f w o h
+      go TooLong i = handled-long x k old new p r (refusedAs p 14) i refl f w o
+
+-- ---- L
+
+module _ (p : Problem) (b : Bool) (told : TellsCovered p b) where
+  pub list-uncovered : (rows : List ℕ) (s k : ℕ) (old : List ℕ) (e : Effect) → b ≡ false → e ≡ refusedAs p 12 → HandlesL p rows s k old old e
+  unfolding refusalsOf
+  list-uncovered rows s k old e z q x f d i j l = handled-refused x model.Kind.L old p 12 e q (late-own x model.Kind.L 12 (rw (← told (x .problem) (f .holds), z)) (λ n. omega (arith, n))) (λ n. omega (arith, n))
+
+  own-none : (x : Context) → b ≡ true → Found p x → 0 ≡ firstOf (refusalsOf x model.Kind.L)
+  unfolding refusalsOf
+  own-none x z f = rw (← told (x .problem) (f .holds), z)
+
+  pub list-answered : (rows : List ℕ) (s k n c : ℕ) (old new : List ℕ) (r : Reply) (e : Effect) → b ≡ true → n ≡ p .count → c ≡ k → Replied (pageBytes (rowCovers n rows) s c) old new r → e ≡ repliedAs p r → HandlesL p rows s k old new e
+  unfolding answerFor
+  list-answered rows s k n c old new r e z m v w q x f d i j l =
+      handled-reply x model.Kind.L p old new r
+      (subst (λ (all : List ℕ). Replied (pageBytes all (start x) (count x)) old new r) (rows-listed p (x .problem) rows n (f .holds) d m) (rw (i, j, ← v) w))
+      l (own-none x z f) (after-L x p (f .holds)) e q
+
+-- ---- C
+
+module _ (p : Problem) (rows costs : List ℕ) (count-is : costs ≡ map termCost (take (p .count) (p .terms))) where
+  costs-here : (x : Context) → Found p x → costs ≡ map termCost (x .problem .cands)
+  costs-here x f = count-is ∙ ap (map termCost) (f .holds .cands .same)
+
+  pub cheapest-none : (old : List ℕ) (o : Optimum) (e : Effect) → o ≡ Nothing → Optimal rows costs o → e ≡ refusedAs p 12 → HandlesC p rows old old e
+  unfolding Optimal refusalsOf
+  cheapest-none old o e z h q x f d l =
+      handled-refused x model.Kind.C old p 12 e q (late-own x model.Kind.C 12 (rw (d .covered, ← costs-here x f, no) refl) (λ n. omega (arith, n))) (λ n. omega (arith, n))
+    where
+      none : T (not (coverable (ofRows costs rows)))
+      none = subst (Optimal rows costs) z h
+
+      no : coverable (ofRows costs rows) ≡ false
+      no = T-false {b = coverable (ofRows costs rows)} none
+
+  module _ (s c : ℕ) (o : Optimum) (z : o ≡ AtCover s c) (h : Optimal rows costs o) where
+    best : Best (ofRows costs rows) c s
+    unfolding Optimal
+    best = subst (Optimal rows costs) z h .0
+
+    covered : T (coverable (ofRows costs rows))
+    covered = cover-coverable (ofRows costs rows) s (best .tight .covering)
+
+    pub cheapest-answered : (old new : List ℕ) (r : Reply) (e : Effect) → Replied (bytesOf (Answer.cheapestIs c s)) old new r → e ≡ repliedAs p r → HandlesC p rows old new e
+    unfolding answerFor refusalsOf
+    cheapest-answered old new r e w q x f d l =
+        handled-reply x model.Kind.C p old new r (subst (λ (a : Answer). Replied (bytesOf a) old new r) (ap₂ Answer.cheapestIs cost-same set-same) w) l own (after-C x p (f .holds)) e q
+      where
+        pair : (c ≡ cost (ofRows costs rows) (cheapest (ofRows costs rows))) × (s ≡ cheapest (ofRows costs rows))
+        pair = best-cheapest (ofRows costs rows) c s covered best
+
+        set-same : s ≡ cheapest (coveringOf x)
+        set-same = pair .1 ∙ ap (λ (cs : List ℕ). cheapest (ofRows cs rows)) (costs-here x f) ∙ sym (d .cheapest)
+
+        cost-same : c ≡ cost (coveringOf x) (cheapest (coveringOf x))
+        cost-same = pair .0 ∙ ap (cost (ofRows costs rows)) (sym (pair .1) ∙ set-same) ∙ ap (λ (cs : List ℕ). cost (ofRows cs rows) (cheapest (coveringOf x))) (costs-here x f) ∙ rows-cost-any (coveringOf x) rows (cheapest (coveringOf x))
+
+        own : 0 ≡ firstOf (refusalsOf x model.Kind.C)
+        own = rw (d .covered, ← costs-here x f, T-true {b = coverable (ofRows costs rows)} covered)

@@ -1,0 +1,81 @@
+-- What the contracts of the commands cite: the effect of a command, in the context that the definitions give it.
+use Prim.Native.Nat.{ℕ, _≤_}
+use mathlib.Core.Path.{_≡_}
+use mathlib.Core.List.{List, [], _∷_, _++_}
+use lib.Dec.{ltb}
+use lib.ListN.{length, drop}
+use Rattle.model.specs.declared.Term.{Term}
+use Rattle.model.specs.Pages.{page, more}
+use Rattle.model.specs.Commands as model
+use Rattle.model.specs.Commands.{Context, basisOf, operand, operandTerm, start, count, problemAfter}
+use Rattle.model.specs.Answers.{Answer, bytesOf, answerFor}
+use Rattle.model.specs.Refusals.{refuse, firstOf, refusalsOf}
+use Rattle.model.specs.Invariants.{Valid}
+use Rattle.codec.specs.declared.writers.Reply.{Reply}
+use Rattle.codec.specs.declared.writers.Reply.the-variants.{Written, TooLong}
+use Rattle.problem.specs.declared.Problem.{Problem}
+use Rattle.problem.specs.Problems.{queried, Holds}
+use Rattle.problem.specs.Matrix.{RowsOf}
+use Rattle.commands.specs.declared.Effect.{Effect}
+
+abbrev pub refusedAs : Problem → ℕ → Effect
+refusedAs p n = record { number = n; written = 0; problem = p }
+
+-- what a query comes to, by its reply
+abbrev pub repliedAs : Problem → Reply → Effect
+repliedAs p (Written n) = record { number = 0; written = n; problem = queried p }
+repliedAs p TooLong = refusedAs p 14
+
+-- the bytes that a command of this kind answers
+abbrev pub answerBytes : Context → model.Kind → List ℕ
+answerBytes x k = bytesOf (answerFor x k)
+
+-- the answer of an L: the page of a list from a start on, for a row of so many entries
+abbrev pub pageBytes : List ℕ → ℕ → ℕ → List ℕ
+pageBytes all s k = bytesOf (Answer.paged (page all s k) (more all s k))
+
+-- the first refusal behind 3, 4 and 5: the command's own, then 14; 0 where none applies
+abbrev pub lateRefusal : Context → model.Kind → ℕ
+lateRefusal x k = firstOf (refusalsOf x k ++ (refuse 14 (ltb (x .free) (length (answerBytes x k))) ∷ []))
+
+-- an answered command of kind k: its bytes stand in front of the free part, and the record holds the problem after it
+pub record Answered (x : Context) (k : model.Kind) (old new : List ℕ) (e : Effect) : Type 0 where
+  pub written : e .written ≡ length (answerBytes x k)
+  pub bytes : new ≡ answerBytes x k ++ drop (length (answerBytes x k)) old
+  pub problem : Holds (e .problem) (problemAfter x k)
+
+-- a command of kind k behind the tests of 3, 4 and 5: its refusal, which leaves the free part alone, or its answer
+pub record Handled (x : Context) (k : model.Kind) (old new : List ℕ) (e : Effect) : Type 0 where
+  pub number : e .number ≡ lateRefusal x k
+  pub refused : (e .number ≡ 0 → ⊥) → new ≡ old
+  pub answered : e .number ≡ 0 → Answered x k old new e
+
+-- a context of the problem that p holds
+pub record Found (p : Problem) (x : Context) : Type 0 where
+  pub holds : Holds p (x .problem)
+  pub valid : Valid (x .problem)
+  pub begun : 1 ≤ x .problem .place
+
+-- ---- each kind, in every context that has these operands
+
+abbrev pub HandlesI : ℕ → ℕ → Effect → Type 0
+HandlesI n m e = (x : Context) (free : List ℕ) → operand x 0 ≡ n → operand x 1 ≡ m → Handled x model.Kind.I free free e
+
+abbrev pub HandlesR : Problem → ℕ → ℕ → ℕ → Effect → Type 0
+HandlesR p v on dc e = (x : Context) (free : List ℕ) → Found p x → operand x 0 ≡ v → operand x 1 ≡ on → operand x 2 ≡ dc → Handled x model.Kind.R free free e
+
+abbrev pub HandlesT : Problem → Term → Effect → Type 0
+HandlesT p t e = (x : Context) (free : List ℕ) → Found p x → operandTerm x ≡ t → Handled x model.Kind.T free free e
+
+abbrev pub HandlesP : Problem → List ℕ → List ℕ → Effect → Type 0
+HandlesP p old new e = (x : Context) → Found p x → x .free ≡ length old → Handled x model.Kind.P old new e
+
+abbrev pub HandlesE : Problem → ℕ → List ℕ → List ℕ → Effect → Type 0
+HandlesE p rest old new e = (x : Context) → Holds p (x .problem) → length (x .rest) ≡ rest → x .free ≡ length old → Handled x model.Kind.E old new e
+
+-- L and C, with the rows of the problem
+abbrev pub HandlesL : Problem → List ℕ → ℕ → ℕ → List ℕ → List ℕ → Effect → Type 0
+HandlesL p rows s k old new e = (x : Context) → Found p x → RowsOf (basisOf (x .problem)) rows → start x ≡ s → count x ≡ k → x .free ≡ length old → Handled x model.Kind.L old new e
+
+abbrev pub HandlesC : Problem → List ℕ → List ℕ → List ℕ → Effect → Type 0
+HandlesC p rows old new e = (x : Context) → Found p x → RowsOf (basisOf (x .problem)) rows → x .free ≡ length old → Handled x model.Kind.C old new e

@@ -1,0 +1,70 @@
+// L and C over the rows of a problem.
+ghost use mathlib.Core.Path.{_≡_};
+ghost use Prim.Native.Nat.{_≤_};
+ghost use lib.ListN.{length};
+ghost use Rattle.search.specs.Lister.{rowCovers};
+ghost use Rattle.codec.specs.Writers.{Replied};
+ghost use Rattle.problem.specs.Problems.{Reached};
+ghost use Rattle.commands.specs.Effects.{repliedAs, pageBytes, HandlesL, HandlesC};
+use crate::Effect;
+use crate::refused;
+use bits::byte;
+use codec::writers;
+use codec::writers::Reply;
+use optimum::cheapest;
+use optimum::cheapest::Optimum;
+use problem::Problem;
+use problem::matrix;
+use search::lister;
+
+// A query that was answered with so many bytes, or whose answer is too long.
+fn replied(p: Problem, reply: Reply) -> Effect
+    ensures { λ r. ⌜ r ≡ repliedAs p reply ⌝ }
+{
+    match reply {
+        Reply::TooLong => refused(p, 14),
+        Reply::Written(n) => Effect {
+            number: 0,
+            written: n,
+            problem: problem::after_query(p),
+        },
+    }
+}
+
+// Fills the row with the covers from `start` on, and answers with them.
+fn page_into(rows: &[u64], n: u64, start: u64, row: &mut [u64], free: &mut [u8]) -> Reply
+    requires { ⌜ (n ≤ 64) × (length (now row) ≤ 255) ⌝ }
+    ensures { λ r. ⌜ Replied (pageBytes (rowCovers n (now (rows .entry))) start (length (now (row .entry)))) (now (free .entry)) (now (free .exit)) r ⌝ }
+{
+    let page = lister::fill(rows, n, start, row);
+    let filled = page.count;
+    writers::put_page(free, row, filled, page.more)
+}
+
+// L: the sets for a row of `count` entries from `start` on.
+pub fn list(p: Problem, rows: &[u64], start: u64, count: u8, free: &mut [u8]) -> Effect
+    requires { ⌜ Reached p ⌝ }
+    ensures { λ r. ⌜ HandlesL p (now (rows .entry)) start count (now (free .entry)) (now (free .exit)) r ⌝ }
+{
+    if matrix::is_covered(p) {
+        let n = p.count as u64;
+        let k = byte::wide(count);
+        let mut row = [0u64; 255];
+        return replied(p, page_into(rows, n, start, &mut row[..k], free));
+    }
+    refused(p, 12)
+}
+
+// C: the cheapest cover; there is none where a cell is held by no candidate.
+pub fn least_cost(p: Problem, rows: &[u64], free: &mut [u8]) -> Effect
+    requires { ⌜ Reached p ⌝ }
+    ensures { λ r. ⌜ HandlesC p (now (rows .entry)) (now (free .entry)) (now (free .exit)) r ⌝ }
+{
+    let terms = p.terms;
+    let count = p.count;
+    let costs = matrix::costs(terms, count);
+    match cheapest::cheapest(rows, &costs[..count]) {
+        Optimum::Nothing => refused(p, 12),
+        Optimum::Cover(set, cost) => replied(p, writers::put_cheapest(free, cost, set)),
+    }
+}

@@ -1,0 +1,31 @@
+-- What the contract of a step cites: any command of a job, in the context that the definitions give it.
+use Prim.Native.Nat.{ℕ, _+_}
+use mathlib.Core.Path.{_≡_}
+use mathlib.Core.List.{List}
+use lib.Dec.{T}
+use lib.ListN.{getD, length, drop}
+use Rattle.model.specs.Commands as model
+use Rattle.model.specs.Commands.{Context, basisOf, kindOf}
+use Rattle.model.specs.Refusals.{refusal}
+use Rattle.model.specs.Invariants.{Valid}
+use Rattle.codec.specs.Kinds.{isQueryKind}
+use Rattle.problem.specs.declared.Problem.{Problem}
+use Rattle.problem.specs.Problems.{Holds}
+use Rattle.problem.specs.Matrix.{RowsOf}
+use Rattle.commands.specs.declared.Effect.{Effect}
+use Rattle.commands.specs.Effects.{Answered}
+
+-- the context of the command at `at`
+abbrev pub contextAt : model.Problem → List ℕ → ℕ → ℕ → Context
+contextAt q job at free = record { problem = q; kind = kindOf (getD job at 0); rest = drop (at + 1) job; free = free }
+
+-- a command: its refusal, which leaves the free part alone, or its answer
+pub record Stepped (x : Context) (old new : List ℕ) (e : Effect) : Type 0 where
+  pub number : e .number ≡ refusal x
+  pub refused : (e .number ≡ 0 → ⊥) → new ≡ old
+  pub answered : e .number ≡ 0 → Answered x (x .kind) old new e
+
+-- in every problem that p holds, with its rows where it is an L or a C
+abbrev pub Steps : Problem → List ℕ → List ℕ → ℕ → List ℕ → List ℕ → Effect → Type 0
+Steps p rows job at old new e =
+    (q : model.Problem) → Holds p q → Valid q → (T (isQueryKind (kindOf (getD job at 0))) → RowsOf (basisOf q) rows) → Stepped (contextAt q job at (length old)) old new e

@@ -1,0 +1,137 @@
+-- The laws behind the covering matrix: the rows of a problem, reduced, have its covers and its cheapest.
+use Prim.Native.Nat.{ℕ, zero, suc, _+_, _^_, _≤_, _<_}
+use native.Mathlib.Omega.{arith}
+use native.Mathlib.Numerals.{add-one}
+use mathlib.Core.Path.{_≡_, refl, sym, ap, ap₂, _∙_, subst, subst⁻¹}
+use mathlib.Core.Bool.{Bool, true, false}
+use mathlib.Core.List.{List, [], _∷_, _++_, map}
+use lib.Dec.{T}
+use lib.ListN.{getD, length, take, set, replicate, length-map, length-replicate, length-set}
+use lib.Pow.{pow-mono}
+use lib.Seq.{take-suc, take-suc-set, take-length}
+use Rattle.model.specs.Base.{bit, below}
+use Rattle.model.specs.declared.Term.{Term}
+use Rattle.model.specs.Table.{holds, onCells}
+use Rattle.model.specs.Sets.{covers, cover, coverable, irredundants, cheapest, ofRows, rowOf, members}
+use Rattle.model.specs.Candidates.{termCost, Basis, basis, covering}
+use Rattle.model.specs.Commands as model
+use Rattle.model.specs.Commands.{basisOf}
+use Rattle.model.proofs.Matrix.{irredundants-same, rows-irredundants, rows-cheapest, rows-coverable, from-length}
+use Rattle.rows.specs.Reduction.{Reduced}
+use Rattle.rows.proofs.Same.{reduced-irredundants, reduced-cheapest, reduced-coverable}
+use Rattle.rows.specs.Order.{SameRows}
+use Rattle.search.specs.Lister.{rowCovers}
+use Rattle.rows.proofs.Ordering.{ordered-irredundants, ordered-cheapest, ordered-coverable}
+use Rattle.table.specs.Lists.{Filled}
+use Rattle.table.specs.Rows.{OnBytes, Put, AllRows, TellsCoverable}
+use Rattle.table.proofs.Uses.{put-front, some-on-table}
+use Rattle.codec.specs.Kinds.{isQueryKind}
+use Rattle.problem.specs.declared.Problem.{Problem}
+use Rattle.problem.specs.Problems.{Sized, Holds}
+use Rattle.problem.specs.Matrix.{TellsCovered, RowsOf, Prepares, Refreshed, Costs}
+
+-- the on bytes of the table that p holds
+pub held-on : (p : Problem) (q : model.Problem) → Sized p → Holds p q → OnBytes (q .table) (p .n) (p .m) (p .on)
+held-on p q z h = record { inputs = sym (h .inputs); outputs = sym (h .outputs); bytes = λ v l. h .on-bytes v (omega (arith, pow-mono (z .inputs))) }
+
+-- the candidates are those that p holds
+held-cands : (p : Problem) (q : model.Problem) → Holds p q → take (p .count) (p .terms) ≡ q .cands
+held-cands p q h = h .cands .same
+
+pub covered : (p : Problem) (r : Bool) → Sized p → TellsCoverable (p .on) (p .n) (p .m) (take (p .count) (p .terms)) r → TellsCovered p r
+covered p r z c q h = c (q .table) (held-on p q z h) ∙ ap (λ (ts : List Term). coverable (covering (basis (q .table) ts))) (held-cands p q h)
+
+-- ---- costs play no part in the listing
+
+costs-apart : (cs ds rows : List ℕ) → length cs ≡ length ds → irredundants (ofRows cs rows) ≡ irredundants (ofRows ds rows)
+unfolding cover covers
+costs-apart cs ds rows e =
+    irredundants-same (ofRows cs rows) (ofRows ds rows) (from-length 0 (length cs) ∙ e ∙ sym (from-length 0 (length ds)))
+    (λ s l. ap (λ (n : ℕ). covers bit rows (members (below n) s)) e)
+
+-- ---- the rows
+
+module _ (b : Basis) where
+  all-rows : List ℕ
+  all-rows = map (rowOf holds (b .cands)) (onCells (b .table))
+
+  all-costs : List ℕ
+  all-costs = map termCost (b .cands)
+
+  pub rows-of : (rows out : List ℕ) (r : ℕ) → rows ≡ map (rowOf holds (b .cands)) (onCells (b .table)) → Reduced rows out r → RowsOf b (take r out)
+  unfolding all-rows all-costs
+  rows-of rows out r e d = record {
+    listed = sym (rows-irredundants (covering b)) ∙ reduced-irredundants all-costs all-rows out r d' ∙ costs-apart all-costs (replicate (length (b .cands)) 0) (take r out) (length-map (b .cands) termCost ∙ sym (length-replicate (length (b .cands)) 0));
+    cheapest = sym (rows-cheapest (covering b)) ∙ reduced-cheapest all-costs all-rows out r d';
+    covered = sym (rows-coverable (covering b)) ∙ reduced-coverable all-costs all-rows out r d';
+  }
+    where
+      d' : Reduced (map (rowOf holds (b .cands)) (onCells (b .table))) out r
+      d' = subst (λ (xs : List ℕ). Reduced xs out r) e d
+
+-- the same rows in another order
+rows-ordered : (b : Basis) (rows sorted : List ℕ) → RowsOf b rows → SameRows rows sorted → RowsOf b sorted
+rows-ordered b rows sorted r d = record {
+  listed = r .listed ∙ ordered-irredundants (replicate (length (b .cands)) 0) rows sorted d;
+  cheapest = r .cheapest ∙ ordered-cheapest (map termCost (b .cands)) rows sorted d;
+  covered = r .covered ∙ ordered-coverable (map termCost (b .cands)) rows sorted d;
+}
+
+module _ (p : Problem) (z : Sized p) (old all : List ℕ) (k : ℕ) (a : AllRows (p .on) (p .n) (p .m) (take (p .count) (p .terms)) old all k) where
+  some-put : Put (map (rowOf holds (take (p .count) (p .terms))) (onCells (record { n = p .n; m = p .m; on = p .on; dc = [] }))) old all k
+  some-put = a (record { n = p .n; m = p .m; on = p .on; dc = [] }) (some-on-table (p .on) (p .n) (p .m))
+
+  pub few-rows : k ≤ 2048
+  few-rows = some-put .most
+
+  pub prepared : (out last new : List ℕ) (r : ℕ) → length out ≡ 2048 → length new ≡ 2048 → Reduced (take k all) out r → SameRows (take r out) last → take r new ≡ last → Prepares p new r
+  prepared out last new r l m d s e = record {
+    size = m;
+    within = omega (arith, d .within);
+    rows = λ q h. rows-ordered (basisOf q) (take r out) (take r new) (rows-of (basisOf q) (take k all) out r (rows-are q h) d) (subst⁻¹ (SameRows (take r out)) e s);
+  }
+    where
+      rows-are : (q : model.Problem) → Holds p q → take k all ≡ map (rowOf holds (q .cands)) (onCells (q .table))
+      rows-are q h = put-front _ old all k (a (q .table) (held-on p q z h)) ∙ ap (λ (ts : List Term). map (rowOf holds ts) (onCells (q .table))) (held-cands p q h)
+
+-- the covers of the rows are those of the problem
+pub rows-listed : (p : Problem) (q : model.Problem) (rows : List ℕ) (n : ℕ) → Holds p q → RowsOf (basisOf q) rows → n ≡ p .count → rowCovers n rows ≡ irredundants (covering (basisOf q))
+unfolding rowCovers
+rows-listed p q rows n h d m = ap (λ (i : ℕ). irredundants (ofRows (replicate i 0) rows)) (m ∙ h .cands .counted) ∙ sym (d .listed)
+
+-- ---- rows that stand, rows made anew, and a command that looks at none
+
+pub refreshed-none : (p : Problem) (k : model.Kind) (ready : Bool) (count : ℕ) (rows : List ℕ) (b : Bool) → length rows ≡ 2048 → count ≤ 2048 → b ≡ isQueryKind k → b ≡ false → Refreshed p k ready count rows rows count
+refreshed-none p k ready count rows b s l e z = record { size = s; within = l; rows = λ q h f t. absurd (subst (λ (x : Bool). T x) (sym e ∙ z) t) }
+
+pub refreshed-same : (p : Problem) (k : model.Kind) (ready : Bool) (count : ℕ) (rows : List ℕ) → length rows ≡ 2048 → count ≤ 2048 → ready ≡ true → Refreshed p k ready count rows rows count
+refreshed-same p k ready count rows s l z = record { size = s; within = l; rows = λ q h f t. f z }
+
+pub refreshed-anew : (p : Problem) (k : model.Kind) (ready : Bool) (count : ℕ) (old new : List ℕ) (r : ℕ) → Prepares p new r → Refreshed p k ready count old new r
+refreshed-anew p k ready count old new r d = record { size = d .size; within = d .within; rows = λ q h f t. d .rows q h }
+
+-- ---- an array that a loop fills entry by entry
+
+module _ {A B : Type 0} (f : A → B) (cap : ℕ) where
+  -- the first i entries are done
+  abbrev pub MappedBelow : List A → ℕ → List B → Type 0
+  MappedBelow xs i all = (length all ≡ cap) × (take i all ≡ map f (take i xs))
+
+  map-more : (xs : List A) (x : A) → map f (xs ++ (x ∷ [])) ≡ map f xs ++ (f x ∷ [])
+  map-more [] x = refl
+  map-more (y ∷ xs) x = ap (λ (l : List B). f y ∷ l) (map-more xs x)
+
+  pub mapped-next : (d : A) (xs : List A) (i : ℕ) (all : List B) (w : B) → i < cap → i < length xs → w ≡ f (getD xs i d) → MappedBelow xs i all → MappedBelow xs (i + 1) (set all i w)
+  mapped-next d xs i all w l k e c = (
+    length-set all i w ∙ c .0,
+    rw (add-one i) (take-suc-set all i w (omega (arith, c .0)) ∙ ap₂ (λ (ys : List B) (y : B). ys ++ (y ∷ [])) (c .1) e ∙ sym (map-more (take i xs) (getD xs i d)) ∙ ap (map f) (sym (take-suc xs i d k))),
+  )
+
+  pub mapped-all : (xs : List A) (i : ℕ) (all : List B) → length xs ≤ i → i ≤ length xs → MappedBelow xs i all → Filled cap (map f xs) all (length xs)
+  mapped-all xs i all l k c =
+      let e : i ≡ length xs = omega arith in
+      record {
+        size = c .0;
+        counted = sym (length-map xs f);
+        same = subst (λ (n : ℕ). take n all ≡ map f (take n xs)) e (c .1) ∙ ap (map f) (take-length xs);
+      }

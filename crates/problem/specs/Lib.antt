@@ -1,0 +1,3 @@
+pub mod Problems
+pub mod Tests
+pub mod Matrix
