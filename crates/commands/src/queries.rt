@@ -58,6 +58,7 @@ pub fn list(p: Problem, rows: &[u64], start: u64, count: u8, free: &mut [u8]) ->
 // C: the cheapest cover; there is none where a cell is held by no candidate.
 pub fn least_cost(p: Problem, rows: &[u64], free: &mut [u8]) -> Effect
     requires { ⌜ Reached p ⌝ }
+    requires { ⌜ length (now rows) ≤ 2048 ⌝ }
     ensures { λ r. ⌜ HandlesC p (now (rows .entry)) (now (free .entry)) (now (free .exit)) r ⌝ }
 {
     let terms = p.terms;

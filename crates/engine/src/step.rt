@@ -1,5 +1,5 @@
 // Any command of a job.
-ghost use Prim.Native.Nat.{_<_};
+ghost use Prim.Native.Nat.{_≤_, _<_};
 ghost use lib.ListN.{length};
 ghost use Rattle.problem.specs.Problems.{Reached};
 ghost use Rattle.engine.specs.Steps.{Steps};
@@ -15,6 +15,7 @@ use problem::Problem;
 pub fn step(p: Problem, rows: &[u64], job: &[u8], at: usize, free: &mut [u8]) -> Effect
     requires { ⌜ Reached p ⌝ }
     requires { ⌜ at < length (now job) ⌝ }
+    requires { ⌜ length (now rows) ≤ 2048 ⌝ }
     ensures { λ r. ⌜ Steps p (now (rows .entry)) (now (job .entry)) at (now (free .entry)) (now (free .exit)) r ⌝ }
 {
     let k = kinds::kind_of(job[at]);

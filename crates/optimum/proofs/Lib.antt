@@ -6,3 +6,6 @@ pub mod Narrowing
 pub mod Parting
 pub mod Pinning
 pub mod Optimality
+pub mod Ascending
+pub mod Planning
+pub mod Measuring

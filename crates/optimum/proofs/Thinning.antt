@@ -206,7 +206,7 @@ thinned-wanted rows costs s free u h = record {
 
 -- ---- the value
 
-reached-wider : (rows : List ℕ) (s f free t : ℕ) → Part f free → CoverBetween rows s f t → CoverBetween rows s free t
+pub reached-wider : (rows : List ℕ) (s f free t : ℕ) → Part f free → CoverBetween rows s f t → CoverBetween rows s free t
 unfolding CoverBetween Between
 reached-wider rows s f free t p r = (
   r .0,
@@ -218,16 +218,3 @@ reached-wider rows s f free t p r = (
         (eq? (digit e f) 1),
   ),
 )
-
-pub valued-thinned : (rows costs : List ℕ) (s free f : ℕ) (best r : Best) → Thinned rows costs s free f → Valued rows costs s f best r → Valued rows costs s free best r
-valued-thinned rows costs s free f best r h v = record {
-  within = v .within;
-  found = ⊎-elim
-      (λ (e : r ≡ best). inl e)
-      (λ (w : Attained rows costs s f r × (r .cost < best .cost)).
-      inr (record { cover = reached-wider rows s f free (r .set) (h .part) (w .0 .cover); cost-is = w .0 .cost-is }, w .1))
-      (v .found);
-  least = λ t q.
-      let u : (u : ℕ) × CoverBetween rows s f u × (costOf costs u ≤ costOf costs t) = h .swap t q in
-      omega (arith, u .2, v .least (u .0) (u .1));
-}

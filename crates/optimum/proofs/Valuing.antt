@@ -78,31 +78,6 @@ chosen-lost rows s free k lt z e t r =
 
 -- ---- the value
 
-module _ (rows costs : List ℕ) (s free cost : ℕ) (best : Best) (is : cost ≡ costOf costs s) where
-  pub valued-bound : (more : ℕ) → Bound rows costs s free more → best .cost ≤ cost + more → Valued rows costs s free best best
-  valued-bound more h le = record {
-    within = omega arith;
-    found = inl refl;
-    least = λ t r. omega (arith, h .under t r);
-  }
-
-  pub valued-done : (choice : Choice) (more : ℕ) → choice ≡ Done → Chosen rows s free choice → cost + more < best .cost
-      → Valued rows costs s free best (record { cost = cost; set = s })
-  unfolding Chosen CoverBetween Between
-  valued-done choice more e c₀ lt =
-      let c : Chosen rows s free Done = subst (Chosen rows s free) e c₀ in
-      record {
-        within = omega arith;
-        found = inr (record { cover = (c, (λ b m. m, λ b m. omega (arith, digit-or b s free, digit-lt b free))); cost-is = sym is }, omega arith);
-        least = λ t r. omega (arith, cost-part costs s t (by-members s t (r .1 .0)));
-      }
-
-  pub valued-lost : (choice : Choice) → choice ≡ Lost → Chosen rows s free choice → Valued rows costs s free best best
-  unfolding Chosen
-  valued-lost choice e c₀ =
-      let c : Chosen rows s free Lost = subst (Chosen rows s free) e c₀ in
-      record { within = omega arith; found = inl refl; least = λ t r. absurd (c t r) }
-
 -- a candidate to try: in free, and not in s
 pub tried : (rows : List ℕ) (s free : ℕ) (choice : Choice) (m : ℕ) → choice ≡ Try m → Chosen rows s free choice → Member free m × (bitAnd s m ≡ 0)
 unfolding Chosen

@@ -1,1 +1,4 @@
 pub mod Costs
+pub mod Ascent
+pub mod Units
+pub mod Plan

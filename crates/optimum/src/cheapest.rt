@@ -2,14 +2,13 @@
 ghost use Prim.Native.Nat.{_≤_};
 ghost use lib.ListN.{length};
 ghost use Rattle.optimum.specs.Costs.{Priced, Valued, LeastCost, Cheapest, Optimal};
-use crate::bounds;
-use crate::branching;
-use crate::branching::Choice;
-use crate::components;
+ghost use Rattle.optimum.specs.Units.{Unit};
 use crate::costs;
 use crate::costs::Best;
-use crate::dominance;
 use crate::greedy;
+use crate::plan;
+use crate::plan::Next;
+use crate::units;
 use bits::set;
 
 // The cheapest cover and its cost, or that there is no cover.
@@ -18,46 +17,54 @@ pub enum Optimum {
     Nothing,
 }
 
-// The cheapest cover between s and s | free if it costs less than best, else best. cost is that of s.
-pub fn value(rows: &[u64], costs: &[u16], s: u64, free: u64, cost: u64, best: Best) -> Best
+// The cheapest cover between s and s | free if it costs less than best, else best. cost is that of s, and unit measures the costs.
+pub fn value(
+    rows: &[u64],
+    costs: &[u16],
+    unit: u64,
+    s: u64,
+    free: u64,
+    cost: u64,
+    best: Best,
+) -> Best
+    requires { ⌜ length (now rows) ≤ 2048 ⌝ }
+    requires { ⌜ Unit (now costs) unit ⌝ }
     requires { ⌜ Priced (now costs) s cost (best .cost) ⌝ }
     ensures { λ r. ⌜ Valued (now (rows .entry)) (now (costs .entry)) s free best r ⌝ }
 {
-    if best.cost <= cost + bounds::bound(rows, costs, s, free) {
-        return best;
-    }
-    let useful = dominance::thin(rows, costs, s, free);
-    let choice = branching::choose(rows, costs, s, useful);
-    match choice {
-        Choice::Done => Best { cost: cost, set: s },
-        Choice::Lost => best,
-        Choice::Try(m) => {
-            let part = components::component(rows, s, useful, m);
+    let limit = units::goal(best.cost, unit);
+    let next = plan::plan(rows, costs, s, free, cost, limit);
+    match next {
+        Next::Cut => best,
+        Next::Done => Best { cost: cost, set: s },
+        Next::Split(useful, part) => {
+            // With all of other taken only part's rows are left; the bar is as far above the cost as best is.
             let other = set::minus(useful, part);
-            if components::divides(s, useful, part, other) {
-                // With all of other taken only part's rows are left; the limit is as far above the cost as best is.
-                let spent = costs::total(costs, other);
-                let over = best.cost + spent;
-                let limit = Best { cost: over, set: 0 };
-                let p = value(rows, costs, s | other, part, cost + spent, limit);
-                if over <= p.cost {
-                    return best;
-                }
-                let taken = p.set & part;
-                let paid = cost + costs::total(costs, taken);
-                return value(rows, costs, s | taken, other, paid, best);
+            let spent = costs::total(costs, other);
+            let over = best.cost + spent;
+            let bar = Best { cost: over, set: 0 };
+            let p = value(rows, costs, unit, s | other, part, cost + spent, bar);
+            if over <= p.cost {
+                return best;
             }
+            let taken = p.set & part;
+            let paid = cost + costs::total(costs, taken);
+            value(rows, costs, unit, s | taken, other, paid, best)
+        }
+        Next::Branch(useful, m) => {
             let rest = set::minus(useful, m);
             let paid = cost + costs::price(costs, m);
-            let with = value(rows, costs, s | m, rest, paid, best);
-            value(rows, costs, s, rest, cost, with)
+            let with = value(rows, costs, unit, s | m, rest, paid, best);
+            value(rows, costs, unit, s, rest, cost, with)
         }
     }
 }
 
 // The first of the covers below 2^n that cost as little as best does: from the top, leaves out each candidate that it can do without.
 // The witness is such a cover with the members decided so far: where it lacks a candidate there is nothing to search for.
-pub fn first(rows: &[u64], costs: &[u16], n: u64, best: Best) -> u64
+pub fn first(rows: &[u64], costs: &[u16], unit: u64, n: u64, best: Best) -> u64
+    requires { ⌜ length (now rows) ≤ 2048 ⌝ }
+    requires { ⌜ Unit (now costs) unit ⌝ }
     requires { ⌜ n ≤ 64 ⌝ }
     requires { ⌜ length (now costs) ≤ 64 ⌝ }
     requires { ⌜ LeastCost (now rows) (now costs) n best ⌝ }
@@ -75,7 +82,7 @@ pub fn first(rows: &[u64], costs: &[u16], n: u64, best: Best) -> u64
                 cost: best.cost + 1,
                 set: 0,
             };
-            let without = value(rows, costs, s, set::low_mask(i), cost, limit);
+            let without = value(rows, costs, unit, s, set::low_mask(i), cost, limit);
             if without.cost == best.cost {
                 witness = without.set;
             } else {
@@ -89,15 +96,25 @@ pub fn first(rows: &[u64], costs: &[u16], n: u64, best: Best) -> u64
 
 // The cover of least cost, and of these the least number, with its cost; candidates are as many as costs.
 pub fn cheapest(rows: &[u64], costs: &[u16]) -> Optimum
+    requires { ⌜ length (now rows) ≤ 2048 ⌝ }
     requires { ⌜ length (now costs) ≤ 64 ⌝ }
     ensures { λ r. ⌜ Optimal (now (rows .entry)) (now (costs .entry)) r ⌝ }
 {
     let n = costs.len() as u64;
     let free = set::low_mask(n);
-    let best = value(rows, costs, 0, free, 0, greedy::start(rows, costs, free));
+    let unit = units::unit(costs);
+    let best = value(
+        rows,
+        costs,
+        unit,
+        0,
+        free,
+        0,
+        greedy::start(rows, costs, free),
+    );
     if best.cost == 4194305 {
         return Optimum::Nothing;
     }
-    let s = first(rows, costs, n, best);
+    let s = first(rows, costs, unit, n, best);
     Optimum::Cover(s, best.cost)
 }

@@ -43,7 +43,7 @@ slice-aggregate-cheapest-2 c = sym (length-take-le _ _ (array-share-prefix-costs
 
 -- src/main.rt:89:44
 cheapest-requires : tie.Need-cheapest-requires
-cheapest-requires c κs = omega (arith, slice-aggregate-cheapest-2 c, c .before .before .before .before .before .before .before .pre)
+cheapest-requires c κs = (omega (arith, slice-aggregate-cheapest (c .before), array-share-prefix-all (c .before .before)), omega (arith, slice-aggregate-cheapest-2 c, c .before .before .before .before .before .before .before .pre))
 
 -- src/main.rt:89:31
 enum-known-set : tie.Need-enum-known-set

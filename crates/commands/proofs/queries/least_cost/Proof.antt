@@ -30,7 +30,7 @@ slice-aggregate-cheapest c = sym (length-take-le _ _ (array-share-prefix-costs (
 
 -- src/queries.rt:66:11
 cheapest-requires : tie.Need-cheapest-requires
-cheapest-requires c κs = omega (arith, slice-aggregate-cheapest c, reached-sized _ (c .before .before .before .before .before .pre) .few)
+cheapest-requires c κs = (c .before .before .before .before .before .pre .1, omega (arith, slice-aggregate-cheapest c, reached-sized _ (c .before .before .before .before .before .pre .0) .few))
 
 -- src/queries.rt:67:29
 enum-told : tie.Need-enum-told

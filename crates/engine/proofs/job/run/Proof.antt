@@ -104,7 +104,7 @@ part-step-end c = omega arith
 
 -- src/job.rt:42:13
 step-requires : tie.Need-step-requires Inv-loop μ-loop
-step-requires c κs = (reached (now (c .before .before .before .before .before .before .before .before .before .before .before .before .before .args .job)) (now (c .before .before .before .before .before .before .before .before .before .before .before .before .before .args .answers)) (c .before .before .before .before .before .before .before .before .before .loop .answers) (c .before .before .before .before .before .before .before .before .before .loop .p) (c .before .before .before .before .before .before .before .before .before .loop .rows) (c .before .before .before .before .before .before .before .before .before .loop .count) (c .before .before .before .before .before .before .before .before .before .loop .ready) (c .before .before .before .before .before .before .before .before .before .loop .at) (c .before .before .before .before .before .before .before .before .before .loop .written) (c .before .before .before .before .before .before .before .before .before .loop .inv), c .before .before .before .before .before .before .before .before .loop-test .taken)
+step-requires c κs = (reached (now (c .before .before .before .before .before .before .before .before .before .before .before .before .before .args .job)) (now (c .before .before .before .before .before .before .before .before .before .before .before .before .before .args .answers)) (c .before .before .before .before .before .before .before .before .before .loop .answers) (c .before .before .before .before .before .before .before .before .before .loop .p) (c .before .before .before .before .before .before .before .before .before .loop .rows) (c .before .before .before .before .before .before .before .before .before .loop .count) (c .before .before .before .before .before .before .before .before .before .loop .ready) (c .before .before .before .before .before .before .before .before .before .loop .at) (c .before .before .before .before .before .before .before .before .before .loop .written) (c .before .before .before .before .before .before .before .before .before .loop .inv), (c .before .before .before .before .before .before .before .before .loop-test .taken, omega (arith, slice-aggregate-step (c .before), array-share-prefix-rows (c .before .before))))
 
 -- src/job.rt:44:13
 pack-requires : tie.Need-pack-requires Inv-loop μ-loop

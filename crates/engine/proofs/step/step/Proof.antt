@@ -53,7 +53,7 @@ told8 : (c : tie.After-enum-told8) → kindIs (c .before .before .before .before
 told8 c = ap kindIs (c .enum-told8 .given .1)
 
 room : (c : tie.Else1) → c .before .before .before .before .before .before .before .args .at + 1 + width (kindIs (c .before .before .kind-of .result)) ≤ length (now (c .before .before .before .before .before .before .before .args .job))
-room c = operands-there (c .before .before .before .before .before .before .before .args .p) (now (c .before .before .before .before .before .before .before .args .rows)) (now (c .before .before .before .before .before .before .before .args .job)) (c .before .before .before .before .before .before .before .args .at) (now (c .before .before .before .before .before .before .before .args .free)) (c .before .before .kind-of .result) (c .before .early-refusal .result) (length (now (c .before .before .before .before .before .before .before .args .job)) - c .before .before .before .before .before .before .before .args .at - 1) (c .before .before .before .before .before .before .before .pre .1) (c .before .before .kind-of .ensures) refl (c .before .early-refusal .ensures) (c .if1 .left)
+room c = operands-there (c .before .before .before .before .before .before .before .args .p) (now (c .before .before .before .before .before .before .before .args .rows)) (now (c .before .before .before .before .before .before .before .args .job)) (c .before .before .before .before .before .before .before .args .at) (now (c .before .before .before .before .before .before .before .args .free)) (c .before .before .kind-of .result) (c .before .early-refusal .result) (length (now (c .before .before .before .before .before .before .before .args .job)) - c .before .before .before .before .before .before .before .args .at - 1) (c .before .before .before .before .before .before .before .pre .1 .0) (c .before .before .kind-of .ensures) refl (c .before .early-refusal .ensures) (c .if1 .left)
 
 -- src/step.rt:20:28
 shared-slice-read-kind-of : tie.Need-shared-slice-read-kind-of
@@ -81,7 +81,7 @@ refused-requires c κs = search needs
 
 -- src/step.rt:24:9
 returns : tie.Need-returns
-returns c = step-early (c .before .before .before .before .before .before .before .before .args .p) (now (c .before .before .before .before .before .before .before .before .args .rows)) (now (c .before .before .before .before .before .before .before .before .args .job)) (c .before .before .before .before .before .before .before .before .args .at) (now (c .before .before .before .before .before .before .before .before .args .free)) (c .before .before .before .kind-of .result) (c .before .before .early-refusal .result) (length (now (c .before .before .before .before .before .before .before .before .args .job)) - c .before .before .before .before .before .before .before .before .args .at - 1) (c .before .before .before .before .before .before .before .before .pre .1) (c .before .before .before .kind-of .ensures) refl (c .before .before .early-refusal .ensures) _ (c .before .if1 .taken) (c .refused .ensures)
+returns c = step-early (c .before .before .before .before .before .before .before .before .args .p) (now (c .before .before .before .before .before .before .before .before .args .rows)) (now (c .before .before .before .before .before .before .before .before .args .job)) (c .before .before .before .before .before .before .before .before .args .at) (now (c .before .before .before .before .before .before .before .before .args .free)) (c .before .before .before .kind-of .result) (c .before .before .early-refusal .result) (length (now (c .before .before .before .before .before .before .before .before .args .job)) - c .before .before .before .before .before .before .before .before .args .at - 1) (c .before .before .before .before .before .before .before .before .pre .1 .0) (c .before .before .before .kind-of .ensures) refl (c .before .before .early-refusal .ensures) _ (c .before .if1 .taken) (c .refused .ensures)
 
 -- src/step.rt:27:42
 enum-told : tie.Need-enum-told
@@ -213,15 +213,15 @@ refused-requires-2 c κs = search needs
 
 -- src/step.rt:15:1
 returns-2 : tie.Need-returns-2
-returns-2 c = step-I (c .before .before .before .before .before .before .before .before .before .before .before .before .args .p) (now (c .before .before .before .before .before .before .before .before .before .before .before .before .args .rows)) (now (c .before .before .before .before .before .before .before .before .before .before .before .before .args .job)) (c .before .before .before .before .before .before .before .before .before .before .before .before .args .at) (now (c .before .before .before .before .before .before .before .before .before .before .before .before .args .free)) (c .before .before .before .before .before .before .before .kind-of .result) (c .before .before .before .before .before .before .early-refusal .result) (length (now (c .before .before .before .before .before .before .before .before .before .before .before .before .args .job)) - c .before .before .before .before .before .before .before .before .before .before .before .before .args .at - 1) (c .before .before .before .before .before .before .before .before .before .before .before .before .pre .1) (c .before .before .before .before .before .before .before .kind-of .ensures) refl (c .before .before .before .before .before .before .early-refusal .ensures) (c .before .before .before .before .before .if1 .left) _ (told1 (c .before .before .before)) (c .init .ensures)
+returns-2 c = step-I (c .before .before .before .before .before .before .before .before .before .before .before .before .args .p) (now (c .before .before .before .before .before .before .before .before .before .before .before .before .args .rows)) (now (c .before .before .before .before .before .before .before .before .before .before .before .before .args .job)) (c .before .before .before .before .before .before .before .before .before .before .before .before .args .at) (now (c .before .before .before .before .before .before .before .before .before .before .before .before .args .free)) (c .before .before .before .before .before .before .before .kind-of .result) (c .before .before .before .before .before .before .early-refusal .result) (length (now (c .before .before .before .before .before .before .before .before .before .before .before .before .args .job)) - c .before .before .before .before .before .before .before .before .before .before .before .before .args .at - 1) (c .before .before .before .before .before .before .before .before .before .before .before .before .pre .1 .0) (c .before .before .before .before .before .before .before .kind-of .ensures) refl (c .before .before .before .before .before .before .early-refusal .ensures) (c .before .before .before .before .before .if1 .left) _ (told1 (c .before .before .before)) (c .init .ensures)
 
 -- src/step.rt:15:1
 returns-3 : tie.Need-returns-3
-returns-3 c = step-R (c .before .before .before .before .before .before .before .before .before .before .before .before .before .args .p) (now (c .before .before .before .before .before .before .before .before .before .before .before .before .before .args .rows)) (now (c .before .before .before .before .before .before .before .before .before .before .before .before .before .args .job)) (c .before .before .before .before .before .before .before .before .before .before .before .before .before .args .at) (now (c .before .before .before .before .before .before .before .before .before .before .before .before .before .args .free)) (c .before .before .before .before .before .before .before .before .kind-of .result) (c .before .before .before .before .before .before .before .early-refusal .result) (length (now (c .before .before .before .before .before .before .before .before .before .before .before .before .before .args .job)) - c .before .before .before .before .before .before .before .before .before .before .before .before .before .args .at - 1) (c .before .before .before .before .before .before .before .before .before .before .before .before .before .pre .1) (c .before .before .before .before .before .before .before .before .kind-of .ensures) refl (c .before .before .before .before .before .before .before .early-refusal .ensures) (c .before .before .before .before .before .before .if1 .left) _ (told2 (c .before .before .before .before)) (c .row .ensures)
+returns-3 c = step-R (c .before .before .before .before .before .before .before .before .before .before .before .before .before .args .p) (now (c .before .before .before .before .before .before .before .before .before .before .before .before .before .args .rows)) (now (c .before .before .before .before .before .before .before .before .before .before .before .before .before .args .job)) (c .before .before .before .before .before .before .before .before .before .before .before .before .before .args .at) (now (c .before .before .before .before .before .before .before .before .before .before .before .before .before .args .free)) (c .before .before .before .before .before .before .before .before .kind-of .result) (c .before .before .before .before .before .before .before .early-refusal .result) (length (now (c .before .before .before .before .before .before .before .before .before .before .before .before .before .args .job)) - c .before .before .before .before .before .before .before .before .before .before .before .before .before .args .at - 1) (c .before .before .before .before .before .before .before .before .before .before .before .before .before .pre .1 .0) (c .before .before .before .before .before .before .before .before .kind-of .ensures) refl (c .before .before .before .before .before .before .before .early-refusal .ensures) (c .before .before .before .before .before .before .if1 .left) _ (told2 (c .before .before .before .before)) (c .row .ensures)
 
 -- src/step.rt:15:1
 returns-4 : tie.Need-returns-4
-returns-4 c = step-T (c .before .before .before .before .before .before .before .before .before .before .before .args .p) (now (c .before .before .before .before .before .before .before .before .before .before .before .args .rows)) (now (c .before .before .before .before .before .before .before .before .before .before .before .args .job)) (c .before .before .before .before .before .before .before .before .before .before .before .args .at) (now (c .before .before .before .before .before .before .before .before .before .before .before .args .free)) (c .before .before .before .before .before .before .kind-of .result) (c .before .before .before .before .before .early-refusal .result) (length (now (c .before .before .before .before .before .before .before .before .before .before .before .args .job)) - c .before .before .before .before .before .before .before .before .before .before .before .args .at - 1) (c .before .before .before .before .before .before .before .before .before .before .before .pre .1) (c .before .before .before .before .before .before .kind-of .ensures) refl (c .before .before .before .before .before .early-refusal .ensures) (c .before .before .before .before .if1 .left) _ _ (told3 (c .before .before)) (c .before .term-at .ensures) (c .term .ensures)
+returns-4 c = step-T (c .before .before .before .before .before .before .before .before .before .before .before .args .p) (now (c .before .before .before .before .before .before .before .before .before .before .before .args .rows)) (now (c .before .before .before .before .before .before .before .before .before .before .before .args .job)) (c .before .before .before .before .before .before .before .before .before .before .before .args .at) (now (c .before .before .before .before .before .before .before .before .before .before .before .args .free)) (c .before .before .before .before .before .before .kind-of .result) (c .before .before .before .before .before .early-refusal .result) (length (now (c .before .before .before .before .before .before .before .before .before .before .before .args .job)) - c .before .before .before .before .before .before .before .before .before .before .before .args .at - 1) (c .before .before .before .before .before .before .before .before .before .before .before .pre .1 .0) (c .before .before .before .before .before .before .kind-of .ensures) refl (c .before .before .before .before .before .early-refusal .ensures) (c .before .before .before .before .if1 .left) _ _ (told3 (c .before .before)) (c .before .term-at .ensures) (c .term .ensures)
 
 -- src/step.rt:15:1
 same-length : tie.Need-same-length
@@ -229,7 +229,7 @@ same-length c = search needs
 
 -- src/step.rt:15:1
 returns-5 : tie.Need-returns-5
-returns-5 c = step-P (c .before .before .before .before .before .before .before .before .before .before .before .before .before .args .p) (now (c .before .before .before .before .before .before .before .before .before .before .before .before .before .args .rows)) (now (c .before .before .before .before .before .before .before .before .before .before .before .before .before .args .job)) (c .before .before .before .before .before .before .before .before .before .before .before .before .before .args .at) (now (c .before .before .before .before .before .before .before .before .before .before .before .before .before .args .free)) (c .before .before .before .before .before .before .before .before .kind-of .result) (c .before .before .before .before .before .before .before .early-refusal .result) (length (now (c .before .before .before .before .before .before .before .before .before .before .before .before .before .args .job)) - c .before .before .before .before .before .before .before .before .before .before .before .before .before .args .at - 1) (c .before .before .before .before .before .before .before .before .before .before .before .before .before .pre .1) (c .before .before .before .before .before .before .before .before .kind-of .ensures) refl (c .before .before .before .before .before .before .before .early-refusal .ensures) (c .before .before .before .before .before .before .if1 .left) _ _ (told4 (c .before .before .before .before)) (c .before .before .primes .ensures)
+returns-5 c = step-P (c .before .before .before .before .before .before .before .before .before .before .before .before .before .args .p) (now (c .before .before .before .before .before .before .before .before .before .before .before .before .before .args .rows)) (now (c .before .before .before .before .before .before .before .before .before .before .before .before .before .args .job)) (c .before .before .before .before .before .before .before .before .before .before .before .before .before .args .at) (now (c .before .before .before .before .before .before .before .before .before .before .before .before .before .args .free)) (c .before .before .before .before .before .before .before .before .kind-of .result) (c .before .before .before .before .before .before .before .early-refusal .result) (length (now (c .before .before .before .before .before .before .before .before .before .before .before .before .before .args .job)) - c .before .before .before .before .before .before .before .before .before .before .before .before .before .args .at - 1) (c .before .before .before .before .before .before .before .before .before .before .before .before .before .pre .1 .0) (c .before .before .before .before .before .before .before .before .kind-of .ensures) refl (c .before .before .before .before .before .before .before .early-refusal .ensures) (c .before .before .before .before .before .before .if1 .left) _ _ (told4 (c .before .before .before .before)) (c .before .before .primes .ensures)
 
 -- src/step.rt:15:1
 same-length-2 : tie.Need-same-length-2
@@ -237,7 +237,7 @@ same-length-2 c = search needs
 
 -- src/step.rt:15:1
 returns-6 : tie.Need-returns-6
-returns-6 c = step-L (c .before .before .before .before .before .before .before .before .before .before .before .before .before .before .before .args .p) (now (c .before .before .before .before .before .before .before .before .before .before .before .before .before .before .before .args .rows)) (now (c .before .before .before .before .before .before .before .before .before .before .before .before .before .before .before .args .job)) (c .before .before .before .before .before .before .before .before .before .before .before .before .before .before .before .args .at) (now (c .before .before .before .before .before .before .before .before .before .before .before .before .before .before .before .args .free)) (c .before .before .before .before .before .before .before .before .before .before .kind-of .result) (c .before .before .before .before .before .before .before .before .before .early-refusal .result) (length (now (c .before .before .before .before .before .before .before .before .before .before .before .before .before .before .before .args .job)) - c .before .before .before .before .before .before .before .before .before .before .before .before .before .before .before .args .at - 1) (c .before .before .before .before .before .before .before .before .before .before .before .before .before .before .before .pre .1) (c .before .before .before .before .before .before .before .before .before .before .kind-of .ensures) refl (c .before .before .before .before .before .before .before .before .before .early-refusal .ensures) (c .before .before .before .before .before .before .before .before .if1 .left) _ _ _ _ (told5 (c .before .before .before .before .before .before)) (c .before .before .before .before .before .number-at .ensures) refl (c .before .before .list .ensures)
+returns-6 c = step-L (c .before .before .before .before .before .before .before .before .before .before .before .before .before .before .before .args .p) (now (c .before .before .before .before .before .before .before .before .before .before .before .before .before .before .before .args .rows)) (now (c .before .before .before .before .before .before .before .before .before .before .before .before .before .before .before .args .job)) (c .before .before .before .before .before .before .before .before .before .before .before .before .before .before .before .args .at) (now (c .before .before .before .before .before .before .before .before .before .before .before .before .before .before .before .args .free)) (c .before .before .before .before .before .before .before .before .before .before .kind-of .result) (c .before .before .before .before .before .before .before .before .before .early-refusal .result) (length (now (c .before .before .before .before .before .before .before .before .before .before .before .before .before .before .before .args .job)) - c .before .before .before .before .before .before .before .before .before .before .before .before .before .before .before .args .at - 1) (c .before .before .before .before .before .before .before .before .before .before .before .before .before .before .before .pre .1 .0) (c .before .before .before .before .before .before .before .before .before .before .kind-of .ensures) refl (c .before .before .before .before .before .before .before .before .before .early-refusal .ensures) (c .before .before .before .before .before .before .before .before .if1 .left) _ _ _ _ (told5 (c .before .before .before .before .before .before)) (c .before .before .before .before .before .number-at .ensures) refl (c .before .before .list .ensures)
 
 -- src/step.rt:15:1
 same-length-3 : tie.Need-same-length-3
@@ -245,7 +245,7 @@ same-length-3 c = search needs
 
 -- src/step.rt:15:1
 returns-7 : tie.Need-returns-7
-returns-7 c = step-C (c .before .before .before .before .before .before .before .before .before .before .before .before .before .args .p) (now (c .before .before .before .before .before .before .before .before .before .before .before .before .before .args .rows)) (now (c .before .before .before .before .before .before .before .before .before .before .before .before .before .args .job)) (c .before .before .before .before .before .before .before .before .before .before .before .before .before .args .at) (now (c .before .before .before .before .before .before .before .before .before .before .before .before .before .args .free)) (c .before .before .before .before .before .before .before .before .kind-of .result) (c .before .before .before .before .before .before .before .early-refusal .result) (length (now (c .before .before .before .before .before .before .before .before .before .before .before .before .before .args .job)) - c .before .before .before .before .before .before .before .before .before .before .before .before .before .args .at - 1) (c .before .before .before .before .before .before .before .before .before .before .before .before .before .pre .1) (c .before .before .before .before .before .before .before .before .kind-of .ensures) refl (c .before .before .before .before .before .before .before .early-refusal .ensures) (c .before .before .before .before .before .before .if1 .left) _ _ (told6 (c .before .before .before .before)) (c .before .before .least-cost .ensures)
+returns-7 c = step-C (c .before .before .before .before .before .before .before .before .before .before .before .before .before .args .p) (now (c .before .before .before .before .before .before .before .before .before .before .before .before .before .args .rows)) (now (c .before .before .before .before .before .before .before .before .before .before .before .before .before .args .job)) (c .before .before .before .before .before .before .before .before .before .before .before .before .before .args .at) (now (c .before .before .before .before .before .before .before .before .before .before .before .before .before .args .free)) (c .before .before .before .before .before .before .before .before .kind-of .result) (c .before .before .before .before .before .before .before .early-refusal .result) (length (now (c .before .before .before .before .before .before .before .before .before .before .before .before .before .args .job)) - c .before .before .before .before .before .before .before .before .before .before .before .before .before .args .at - 1) (c .before .before .before .before .before .before .before .before .before .before .before .before .before .pre .1 .0) (c .before .before .before .before .before .before .before .before .kind-of .ensures) refl (c .before .before .before .before .before .before .before .early-refusal .ensures) (c .before .before .before .before .before .before .if1 .left) _ _ (told6 (c .before .before .before .before)) (c .before .before .least-cost .ensures)
 
 -- src/step.rt:15:1
 same-length-4 : tie.Need-same-length-4
@@ -253,11 +253,11 @@ same-length-4 c = search needs
 
 -- src/step.rt:15:1
 returns-8 : tie.Need-returns-8
-returns-8 c = step-E (c .before .before .before .before .before .before .before .before .before .before .before .before .before .args .p) (now (c .before .before .before .before .before .before .before .before .before .before .before .before .before .args .rows)) (now (c .before .before .before .before .before .before .before .before .before .before .before .before .before .args .job)) (c .before .before .before .before .before .before .before .before .before .before .before .before .before .args .at) (now (c .before .before .before .before .before .before .before .before .before .before .before .before .before .args .free)) (c .before .before .before .before .before .before .before .before .kind-of .result) (c .before .before .before .before .before .before .before .early-refusal .result) (length (now (c .before .before .before .before .before .before .before .before .before .before .before .before .before .args .job)) - c .before .before .before .before .before .before .before .before .before .before .before .before .before .args .at - 1) (c .before .before .before .before .before .before .before .before .before .before .before .before .before .pre .1) (c .before .before .before .before .before .before .before .before .kind-of .ensures) refl (c .before .before .before .before .before .before .before .early-refusal .ensures) (c .before .before .before .before .before .before .if1 .left) _ _ (told7 (c .before .before .before .before)) (c .before .before .end .ensures)
+returns-8 c = step-E (c .before .before .before .before .before .before .before .before .before .before .before .before .before .args .p) (now (c .before .before .before .before .before .before .before .before .before .before .before .before .before .args .rows)) (now (c .before .before .before .before .before .before .before .before .before .before .before .before .before .args .job)) (c .before .before .before .before .before .before .before .before .before .before .before .before .before .args .at) (now (c .before .before .before .before .before .before .before .before .before .before .before .before .before .args .free)) (c .before .before .before .before .before .before .before .before .kind-of .result) (c .before .before .before .before .before .before .before .early-refusal .result) (length (now (c .before .before .before .before .before .before .before .before .before .before .before .before .before .args .job)) - c .before .before .before .before .before .before .before .before .before .before .before .before .before .args .at - 1) (c .before .before .before .before .before .before .before .before .before .before .before .before .before .pre .1 .0) (c .before .before .before .before .before .before .before .before .kind-of .ensures) refl (c .before .before .before .before .before .before .before .early-refusal .ensures) (c .before .before .before .before .before .before .if1 .left) _ _ (told7 (c .before .before .before .before)) (c .before .before .end .ensures)
 
 -- src/step.rt:15:1
 returns-9 : tie.Need-returns-9
-returns-9 c = step-none (c .before .before .before .before .before .before .before .before .before .before .args .p) (now (c .before .before .before .before .before .before .before .before .before .before .args .rows)) (now (c .before .before .before .before .before .before .before .before .before .before .args .job)) (c .before .before .before .before .before .before .before .before .before .before .args .at) (now (c .before .before .before .before .before .before .before .before .before .before .args .free)) (c .before .before .before .before .before .kind-of .result) (c .before .before .before .before .early-refusal .result) (length (now (c .before .before .before .before .before .before .before .before .before .before .args .job)) - c .before .before .before .before .before .before .before .before .before .before .args .at - 1) (c .before .before .before .before .before .before .before .before .before .before .pre .1) (c .before .before .before .before .before .kind-of .ensures) refl (c .before .before .before .before .early-refusal .ensures) (c .before .before .before .if1 .left) _ _ (told8 (c .before))
+returns-9 c = step-none (c .before .before .before .before .before .before .before .before .before .before .args .p) (now (c .before .before .before .before .before .before .before .before .before .before .args .rows)) (now (c .before .before .before .before .before .before .before .before .before .before .args .job)) (c .before .before .before .before .before .before .before .before .before .before .args .at) (now (c .before .before .before .before .before .before .before .before .before .before .args .free)) (c .before .before .before .before .before .kind-of .result) (c .before .before .before .before .early-refusal .result) (length (now (c .before .before .before .before .before .before .before .before .before .before .args .job)) - c .before .before .before .before .before .before .before .before .before .before .args .at - 1) (c .before .before .before .before .before .before .before .before .before .before .pre .1 .0) (c .before .before .before .before .before .kind-of .ensures) refl (c .before .before .before .before .early-refusal .ensures) (c .before .before .before .if1 .left) _ _ (told8 (c .before))
 
 pub step-spec : {M : Type 1} → statement M
 step-spec =

@@ -10,13 +10,13 @@ use Rattle.optimum.proofs.cheapest.first.Statement.{statement}
 use Rattle.optimum.proofs.cheapest.first.Tie as tie
 
 abbrev Inv-loop : tie.InvT-loop
-Inv-loop rows costs n best s₀ cost₀ witness₀ i₀ s cost witness i = Pinned rows costs n (best .cost) i s cost witness
+Inv-loop rows costs unit n best s₀ cost₀ witness₀ i₀ s cost witness i = Pinned rows costs n (best .cost) i s cost witness
 
 abbrev μ-loop : tie.MeasureT-loop
-μ-loop rows costs n best s₀ cost₀ witness₀ i₀ s cost witness i = i
+μ-loop rows costs unit n best s₀ cost₀ witness₀ i₀ s cost witness i = i
 
 loop-holds : tie.Need-loop-holds Inv-loop μ-loop
-loop-holds c = pinned-none _ _ _ _ (c .before .before .pre .0) (c .before .before .pre .1 .1)
+loop-holds c = pinned-none _ _ _ _ (c .before .before .pre .1 .1 .0) (c .before .before .pre .1 .1 .1 .1)
 
 sub-i : tie.Need-sub-i Inv-loop μ-loop
 sub-i c = search needs
@@ -25,25 +25,25 @@ power-requires : tie.Need-power-requires Inv-loop μ-loop
 power-requires c κs = omega (arith, left-over (c .loop-test .taken), c .before .loop .inv .node .small)
 
 add-value : tie.Need-add-value Inv-loop μ-loop
-add-value c = omega (arith, best-fits _ _ _ _ (c .before .before .before .before .before .before .before .pre .1 .0) (λ k. omega (arith, c .before .before .before .before .before .shared-slice-known2 .given k)) (c .before .before .before .before .before .before .before .pre .1 .1))
+add-value c = omega (arith, best-fits _ _ _ _ (c .before .before .before .before .before .before .before .pre .1 .1 .1 .0) (λ k. omega (arith, c .before .before .before .before .before .shared-slice-known2 .given k)) (c .before .before .before .before .before .before .before .pre .1 .1 .1 .1))
 
 low-mask-requires : tie.Need-low-mask-requires Inv-loop μ-loop
 low-mask-requires c κs = omega (arith, c .before .before .before .before .loop .inv .node .small)
 
 value-requires : tie.Need-value-requires Inv-loop μ-loop
-value-requires c κs = priced-without _ _ _ _ _ _ _ _ (c .before .before .before .before .before .before .before .before .pre .1 .0) (λ k. omega (arith, c .before .before .before .before .before .before .shared-slice-known2 .given k)) (c .before .before .before .before .before .before .before .before .pre .1 .1) (c .before .before .before .before .before .loop .inv) _ (omega arith)
+value-requires c κs = (c .before .before .before .before .before .before .before .before .pre .0, (c .before .before .before .before .before .before .before .before .pre .1 .0, priced-without _ _ _ _ _ _ _ _ (c .before .before .before .before .before .before .before .before .pre .1 .1 .1 .0) (λ k. omega (arith, c .before .before .before .before .before .before .shared-slice-known2 .given k)) (c .before .before .before .before .before .before .before .before .pre .1 .1 .1 .1) (c .before .before .before .before .before .loop .inv) _ (omega arith)))
 
 loop-less : tie.Need-loop-less Inv-loop μ-loop
 loop-less c = search needs
 
 loop-again : tie.Need-loop-again Inv-loop μ-loop
-loop-again c = pinned-without _ _ _ _ _ _ _ _ _ (c .before .before .before .before .before .before .before .before .before .before .before .before .pre .1 .1) (c .before .before .before .before .before .before .before .before .before .loop .inv) (left-over (c .before .before .before .before .before .before .before .before .loop-test .taken)) (c .before .before .before .before .before .before .before .power .ensures) _ _ (c .before .before .before .before .low-mask .ensures) (c .before .before .before .value .ensures) (c .if2 .taken)
+loop-again c = pinned-without _ _ _ _ _ _ _ _ _ (c .before .before .before .before .before .before .before .before .before .before .before .before .pre .1 .1 .1 .1) (c .before .before .before .before .before .before .before .before .before .loop .inv) (left-over (c .before .before .before .before .before .before .before .before .loop-test .taken)) (c .before .before .before .before .before .before .before .power .ensures) _ _ (c .before .before .before .before .low-mask .ensures) (c .before .before .before .value .ensures) (c .if2 .taken)
 
 price-requires : tie.Need-price-requires Inv-loop μ-loop
 price-requires c κs = power-single _ _ (c .before .before .before .before .before .before .before .power .ensures)
 
 add-cost : tie.Need-add-cost Inv-loop μ-loop
-add-cost c = omega (arith, cost-fits _ _ _ (c .before .before .before .before .before .before .before .before .before .before .before .before .before .pre .1 .0) (λ k. omega (arith, c .before .before .before .before .before .before .before .before .before .before .before .shared-slice-known2 .given k)) (c .before .before .before .before .before .before .before .before .before .before .loop .inv .cost-is), c .price .ensures .small)
+add-cost c = omega (arith, cost-fits _ _ _ (c .before .before .before .before .before .before .before .before .before .before .before .before .before .pre .1 .1 .1 .0) (λ k. omega (arith, c .before .before .before .before .before .before .before .before .before .before .before .shared-slice-known2 .given k)) (c .before .before .before .before .before .before .before .before .before .before .loop .inv .cost-is), c .price .ensures .small)
 
 add-s : tie.Need-add-s Inv-loop μ-loop
 add-s c = omega (arith, c .before .before .before .before .before .before .before .before .power .ensures, halves (c .before .before .before .before .before .before .before .before .before .before .loop .i) (left-over (c .before .before .before .before .before .before .before .before .before .loop-test .taken)), c .before .before .before .before .before .before .before .before .before .before .loop .inv .node .room, pow-pos (c .before .before .before .before .before .before .before .before .before .before .loop .i - 1))
@@ -52,16 +52,16 @@ loop-less-2 : tie.Need-loop-less-2 Inv-loop μ-loop
 loop-less-2 c = search needs
 
 loop-again-2 : tie.Need-loop-again-2 Inv-loop μ-loop
-loop-again-2 c = pinned-with _ _ _ _ _ _ _ _ _ (c .before .before .before .before .before .before .before .before .before .before .before .before .before .pre .1 .1) (c .before .before .before .before .before .before .before .before .before .before .loop .inv) (left-over (c .before .before .before .before .before .before .before .before .before .loop-test .taken)) (c .before .before .before .before .before .before .before .before .power .ensures) _ _ (c .before .before .before .before .before .low-mask .ensures) (c .before .before .before .before .value .ensures) _ (c .before .if2 .left) (c .price .ensures)
+loop-again-2 c = pinned-with _ _ _ _ _ _ _ _ _ (c .before .before .before .before .before .before .before .before .before .before .before .before .before .pre .1 .1 .1 .1) (c .before .before .before .before .before .before .before .before .before .before .loop .inv) (left-over (c .before .before .before .before .before .before .before .before .before .loop-test .taken)) (c .before .before .before .before .before .before .before .before .power .ensures) _ _ (c .before .before .before .before .before .low-mask .ensures) (c .before .before .before .before .value .ensures) _ (c .before .if2 .left) (c .price .ensures)
 
 loop-less-3 : tie.Need-loop-less-3 Inv-loop μ-loop
 loop-less-3 c = search needs
 
 loop-again-3 : tie.Need-loop-again-3 Inv-loop μ-loop
-loop-again-3 c = pinned-lacks _ _ _ _ _ _ _ _ _ (c .before .before .before .before .before .before .pre .1 .1) (c .before .before .before .loop .inv) (left-over (c .before .before .loop-test .taken)) (c .before .power .ensures) (c .if1 .left)
+loop-again-3 c = pinned-lacks _ _ _ _ _ _ _ _ _ (c .before .before .before .before .before .before .pre .1 .1 .1 .1) (c .before .before .before .loop .inv) (left-over (c .before .before .loop-test .taken)) (c .before .power .ensures) (c .if1 .left)
 
 returns : tie.Need-returns Inv-loop μ-loop
-returns c = pinned-all _ _ _ _ _ _ _ _ (c .loop-test .left) (c .before .before .before .before .pre .1 .1) (c .before .loop .inv)
+returns c = pinned-all _ _ _ _ _ _ _ _ (c .loop-test .left) (c .before .before .before .before .pre .1 .1 .1 .1) (c .before .loop .inv)
 
 pub first-spec : {M : Type 1} → statement M
 first-spec =
