@@ -11,11 +11,11 @@ use lib.Bits.{bitAnd, bitOr}
 use lib.Pow.{split, high}
 use Rattle.search.specs.declared.lister.Found.{Found}
 use Rattle.search.specs.declared.lister.Found.the-variants.{At, Nothing}
-use Rattle.search.specs.declared.pruning.Tight.{Tight}
+use Rattle.pruning.specs.declared.Tight.{Tight}
 use Rattle.bits.specs.Bits.{digit, Minus}
 use Rattle.rows.specs.Covers.{Irredundant, Between, Node}
 use Rattle.search.specs.Lister.{Among, LeastIn, Narrowed}
-use Rattle.search.specs.Pruning.{IrredundantBetween, Tightened}
+use Rattle.pruning.specs.Pruning.{IrredundantBetween, Tightened}
 use Rattle.bits.proofs.Digits.{eq?, digit-lt, digit-of-zero, digit-and, digit-or, a-member, pow-here, pow-only}
 use Rattle.bits.proofs.Decide.{true-is-not-false}
 use Rattle.bits.proofs.Members.{and-left, and-right, above, within}

@@ -1,3 +1,1 @@
-pub mod Pruning
-pub mod Extension
 pub mod Lister

@@ -11,7 +11,7 @@ use Rattle.search.specs.declared.lister.Found.{Found}
 use Rattle.search.specs.declared.lister.Found.the-variants.{At, Nothing}
 use Rattle.search.specs.declared.lister.Cursor.{Cursor}
 use Rattle.search.specs.declared.lister.Filled.{Filled}
-use Rattle.search.specs.declared.pruning.Tight.{Tight}
+use Rattle.pruning.specs.declared.Tight.{Tight}
 use Rattle.rows.specs.Covers.{Irredundant, Between}
 
 -- ---- the search

@@ -1,7 +1,5 @@
 // The lister: the irredundant covers of rows in rising order, as crate `rows` has them.
 //
-// `lister` goes through the ranges of numbers and leaves out those that hold no irredundant cover: `pruning` is the quick test, which also
-// narrows what is left to decide, and `extension` the exact one.
-pub mod extension;
+// `lister` goes through the ranges of numbers and leaves out those that hold no irredundant cover: crate `pruning` is the quick test, which
+// also narrows what is left to decide, and crate `extension` the exact one.
 pub mod lister;
-pub mod pruning;

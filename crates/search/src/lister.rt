@@ -4,10 +4,8 @@ ghost use mathlib.Core.Bool.{false};
 ghost use Prim.Native.Nat.{_+_, _^_, _≤_};
 ghost use Rattle.rows.specs.Covers.{Node};
 ghost use Rattle.search.specs.Lister.{LeastIn, Narrowed, rowCovers, sought, advanced, Paged};
-use crate::extension;
-use crate::pruning;
-use crate::pruning::Tight;
 use bits::set;
+use pruning::Tight;
 use rows::covering;
 
 // A set, or that there is none.

@@ -13,8 +13,8 @@ use Rattle.search.proofs.lister.least.Kinds as least-kinds
 use Rattle.search.proofs.lister.+least.Lts-least as least-lts
 use Rattle.bits.proofs.set.minus.Reads as minus-reads
 use Rattle.bits.proofs.set.power.Reads as power-reads
-use Rattle.search.proofs.extension.settle.Reads as settle-reads
-use Rattle.search.proofs.pruning.narrow.Reads as narrow-reads
+use Rattle.extension.proofs.settle.Reads as settle-reads
+use Rattle.pruning.proofs.narrow.Reads as narrow-reads
 use Rattle.rows.proofs.covering.irredundant.Reads as irredundant-reads
 use Rattle.search.proofs.lister.+least.{statement}
 use Rattle.search.proofs.lister.+least.Tie.{close}
