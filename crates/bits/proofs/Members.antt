@@ -1,13 +1,13 @@
 -- Sets by their members: of an `and`, a part, a set without one member, and the numbers between s and s with all its low bits.
 use mathlib.Core.Path.{_≡_, refl, sym, ap, _∙_, subst}
-use mathlib.Core.Logic.{_↔_, ⊎-elim}
+use mathlib.Core.Logic.{⊎-elim}
 use Prim.Native.Nat.{ℕ, zero, suc, _+_, _-_, _*_, _/_, _%_, _^_, _≤_, _<_}
 use native.Mathlib.Nat.{mod-eq-of-lt}
 use native.Mathlib.Omega.{arith}
 use lib.Pow.{split}
 use lib.Bits.{bitAnd, bitOr, bitXor, differ, and-mask, or-shifted}
 use Rattle.bits.specs.Bits.{digit}
-use Rattle.bits.proofs.Digits.{eq?, digit-lt, digit-of-zero, digit-and, digit-or, digit-xor, member-ext, a-member, pow-here, pow-only}
+use Rattle.bits.proofs.Digits.{eq?, digit-lt, digit-of-zero, digit-and, digit-or, digit-xor, member-ext, pow-here, pow-only}
 
 -- ---- members of an `and`
 

@@ -6,15 +6,14 @@ use mathlib.Core.Bool.{Bool, true, false, not, cond, _&&_, _||_}
 use mathlib.Core.List.{List, [], _∷_, _++_}
 use borrow.Author.Tests.{lt-ltb, le-ltb, leb-false}
 use lib.Dec.{T, ltb, leb, eqb}
-use lib.ListN.{getD, length, drop, take, length-take}
+use lib.ListN.{length, drop, take, length-take}
 use Rattle.model.specs.Base.{some}
 use Rattle.model.specs.declared.Term.{Term}
 use Rattle.model.specs.Primes.{primes}
 use Rattle.model.specs.Commands as model
-use Rattle.model.specs.Commands.{Context, operand, operandTerm, problemAfter}
+use Rattle.model.specs.Commands.{Context, operand, problemAfter}
 use Rattle.model.specs.Answers.{Answer, bytesOf, answerFor}
 use Rattle.model.specs.Refusals.{refuse, firstOf, refusalsOf, size, badRow}
-use Rattle.model.specs.Invariants.{Valid}
 use Rattle.model.proofs.Runs.{refusalsOf-no, first-before, first-behind}
 use Rattle.table.specs.declared.prime_list.PrimeList.{PrimeList}
 use Rattle.table.specs.Lists.{Filled}
@@ -30,7 +29,7 @@ use Rattle.problem.specs.Tests.{RowRefusal, TermRefusal}
 use Rattle.problem.proofs.Testing.{held-bytes}
 use Rattle.problem.proofs.Keeping.{after-I, after-R, after-T, after-P}
 use Rattle.commands.specs.declared.Effect.{Effect}
-use Rattle.commands.specs.Effects.{refusedAs, answerBytes, lateRefusal, Answered, Handled, Found, HandlesI, HandlesR, HandlesT, HandlesP, HandlesE}
+use Rattle.commands.specs.Effects.{refusedAs, answerBytes, lateRefusal, Handled, Found, HandlesI, HandlesR, HandlesT, HandlesP, HandlesE}
 
 -- ---- 14 stands behind the command's own refusals
 

@@ -1,29 +1,27 @@
 -- The laws behind a step: the context of the command at a place of the job, its early refusals, and each kind's own.
 use Prim.Native.Nat.{ℕ, _+_, _-_, _≤_, _<_}
 use native.Mathlib.Omega.{arith}
-use mathlib.Core.Path.{_≡_, refl, sym, ap, ap₂, _∙_, subst, subst⁻¹}
-use mathlib.Core.Bool.{Bool, true, false, not, cond}
+use mathlib.Core.Path.{_≡_, refl, sym, ap, _∙_, subst, subst⁻¹}
+use mathlib.Core.Bool.{Bool, true, false, not}
 use mathlib.Core.List.{List, [], _∷_, _++_}
 use borrow.Author.Tests.{ltb-false}
 use lib.Dec.{T, ltb}
 use lib.ListN.{getD, length, take, drop, length-drop}
-use lib.Seq.{getD-drop, drop-drop}
+use lib.Seq.{getD-drop}
 use Rattle.model.specs.Base.{All}
 use Rattle.model.specs.declared.Term.{Term}
 use Rattle.model.specs.Table.{term}
 use Rattle.model.specs.Commands as model
-use Rattle.model.specs.Commands.{Context, basisOf, kindOf, is, width, allowed, number, operand, operandTerm, start, count}
+use Rattle.model.specs.Commands.{Context, kindOf, is, width, allowed, number}
 use Rattle.model.specs.Answers.{bytesOf, answer}
 use Rattle.model.specs.Refusals.{Refusal, refuse, firstOf, refusalsOf, refusals, refusal}
 use Rattle.model.specs.Invariants.{Valid}
-use Rattle.model.proofs.Lists.{T-true, T-false}
 use Rattle.model.proofs.Runs.{Numbered, first-before, first-behind}
 use Rattle.model.proofs.Valid.{place-one}
 use Rattle.codec.specs.declared.kinds.Kind.{Kind}
 use Rattle.codec.specs.Kinds.{kindIs, isQueryKind, earlyRefusal}
 use Rattle.problem.specs.declared.Problem.{Problem}
 use Rattle.problem.specs.Problems.{Holds}
-use Rattle.problem.specs.Matrix.{RowsOf}
 use Rattle.commands.specs.declared.Effect.{Effect}
 use Rattle.commands.specs.Effects.{refusedAs, lateRefusal, Handled, Found, HandlesI, HandlesR, HandlesT, HandlesP, HandlesL, HandlesC, HandlesE}
 use Rattle.engine.specs.Steps.{Stepped, Steps, contextAt}

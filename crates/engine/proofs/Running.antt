@@ -3,33 +3,32 @@ use Prim.Native.Nat.{ℕ, zero, suc, _+_, _-_, _*_, _^_, _≤_, _<_}
 use native.Mathlib.Omega.{arith}
 use native.Mathlib.Numerals.{add-one}
 use mathlib.Core.Path.{_≡_, refl, sym, ap, ap₂, _∙_, subst, subst⁻¹}
-use mathlib.Core.Bool.{Bool, true, false, not, cond, _||_}
+use mathlib.Core.Bool.{Bool, true, false}
 use mathlib.Core.List.{List, [], _∷_, _++_, append-assoc, append-nil, map}
 use borrow.Author.Tests.{lt-ltb, le-ltb, ne-eqb}
 use borrow.Rule.Slice.PartAt.{part-to-end}
-use borrow.Rule.Slice.PartMut.{putMid, postOf, post-is, same-len-mid}
-use lib.Dec.{T, eqb, ltb}
-use lib.ListN.{getD, length, take, drop, length-take, length-append, length-drop, take-append-drop}
-use lib.Seq.{take-append-seam, drop-append-seam, drop-length, drop-drop, drop-cons, take-all}
+use borrow.Rule.Slice.PartMut.{putMid, postOf, post-is}
+use lib.Dec.{T}
+use lib.ListN.{getD, length, take, drop, length-append, length-drop, take-append-drop}
+use lib.Seq.{take-append-seam, drop-append-seam, drop-length, drop-drop, drop-cons}
 use Rattle.model.specs.Base.{join}
 use Rattle.model.specs.Commands as model
 use Rattle.model.specs.Commands.{Kind, Context, basisOf, kindOf, is, width, problemAfter}
-use Rattle.model.specs.Answers.{bytesOf, answer, answerFor}
+use Rattle.model.specs.Answers.{bytesOf, answer}
 use Rattle.model.specs.Refusals.{refusal}
 use Rattle.model.specs.Job.{Run, stop, answerThen, commands, run, written, packed, bufferAfter}
-use Rattle.model.specs.Calls.{Call, Met}
+use Rattle.model.specs.Calls.{Met}
 use Rattle.model.specs.Invariants.{Valid}
-use Rattle.model.proofs.Lists.{T-true, T-false, or-cases}
 use Rattle.model.proofs.Runs.{Passed, passed}
 use Rattle.model.proofs.Valid.{after-valid, valid-empty}
 use Rattle.codec.specs.Kinds.{isQueryKind}
 use Rattle.problem.specs.declared.Problem.{Problem}
-use Rattle.problem.specs.Problems.{noProblem, Holds, Reached, Sized}
-use Rattle.problem.specs.Matrix.{RowsOf, Refreshed}
+use Rattle.problem.specs.Problems.{noProblem, Holds, Reached}
+use Rattle.problem.specs.Matrix.{RowsOf}
 use Rattle.problem.proofs.Keeping.{holds-empty}
 use Rattle.commands.specs.declared.Effect.{Effect}
 use Rattle.commands.specs.Effects.{Answered}
-use Rattle.engine.specs.Steps.{Stepped, Steps, contextAt}
+use Rattle.engine.specs.Steps.{Stepped, contextAt}
 use Rattle.engine.specs.Jobs.{called}
 
 -- ---- one command of the definitions' run

@@ -6,7 +6,7 @@ use mathlib.Core.List.{List}
 use Prim.Native.Nat.{ℕ, _+_, _^_, _≤_, _<_}
 use native.Mathlib.Omega.{arith}
 use lib.ListN.{length, getD}
-use lib.Bits.{bitAnd, bitOr, and-le-l}
+use lib.Bits.{bitAnd, and-le-l}
 use Rattle.pruning.specs.declared.Tight.{Tight}
 use Rattle.bits.specs.Bits.{digit, Part, Minus, Member}
 use Rattle.rows.specs.Covers.{Own, Between}

@@ -21,7 +21,7 @@ use Rattle.model.specs.Answers.{Answer, answerFor, answer}
 use Rattle.model.specs.Refusals.{size, Refusal, refuse, firstOf, refusalsOf}
 use Rattle.model.specs.Job.{Run, run}
 use Rattle.model.specs.Library.{unpack, badVertex, refusalsOfWord, callRefusals, listCovers, setsOf}
-use Rattle.model.specs.Invariants.{Small, Sound, Valid}
+use Rattle.model.specs.Invariants.{Small, Valid}
 use Rattle.model.proofs.Lists.{twice, and-l, and-r, and-i, some-e, all-append, all-of}
 use Rattle.model.proofs.Cubes.{prime-e, primes-e}
 use Rattle.model.proofs.Runs.{context, Passed, run-ind}

@@ -6,7 +6,7 @@ use lib.Dec.{leb, ltb, eqb}
 use lib.Bits.{bitAnd}
 use lib.ListN.{length}
 use Rattle.model.specs.Base.{some}
-use Rattle.model.specs.Table.{Table, formed, holdsNoOff}
+use Rattle.model.specs.Table.{formed, holdsNoOff}
 use Rattle.model.specs.Primes.{primes}
 use Rattle.model.specs.Sets.{coverable}
 use Rattle.model.specs.Commands.{Kind, is, allowed, width, Context, operand, operandTerm, coveringOf}

@@ -1,5 +1,5 @@
 -- The laws behind the covering matrix: the rows of a problem, reduced, have its covers and its cheapest.
-use Prim.Native.Nat.{ℕ, zero, suc, _+_, _^_, _≤_, _<_}
+use Prim.Native.Nat.{ℕ, _+_, _≤_, _<_}
 use native.Mathlib.Omega.{arith}
 use native.Mathlib.Numerals.{add-one}
 use mathlib.Core.Path.{_≡_, refl, sym, ap, ap₂, _∙_, subst, subst⁻¹}
@@ -28,7 +28,7 @@ use Rattle.table.proofs.Uses.{put-front, some-on-table}
 use Rattle.codec.specs.Kinds.{isQueryKind}
 use Rattle.problem.specs.declared.Problem.{Problem}
 use Rattle.problem.specs.Problems.{Sized, Holds}
-use Rattle.problem.specs.Matrix.{TellsCovered, RowsOf, Prepares, Refreshed, Costs}
+use Rattle.problem.specs.Matrix.{TellsCovered, RowsOf, Prepares, Refreshed}
 
 -- the on bytes of the table that p holds
 pub held-on : (p : Problem) (q : model.Problem) → Sized p → Holds p q → OnBytes (q .table) (p .n) (p .m) (p .on)

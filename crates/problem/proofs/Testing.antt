@@ -1,27 +1,24 @@
 -- The laws behind the tests of operands.
-use Prim.Native.Nat.{ℕ, _+_, _^_, _≤_, _<_}
+use Prim.Native.Nat.{ℕ, _^_, _≤_, _<_}
 use native.Mathlib.Omega.{arith}
 use mathlib.Core.Path.{_≡_, refl, sym, ap, _∙_, subst, subst⁻¹}
-use mathlib.Core.Bool.{Bool, true, false, not, cond, _&&_, _||_}
+use mathlib.Core.Bool.{Bool, true, false, not, _&&_, _||_}
 use mathlib.Core.List.{List, [], _∷_}
 use borrow.Author.Tests.{lt-ltb, le-ltb, le-leb, lt-leb}
 use lib.Bits.{bitAnd}
-use lib.Dec.{T, leb, ltb, eqb}
-use lib.ListN.{getD, length, take}
+use lib.Dec.{T, leb, ltb}
+use lib.ListN.{getD, length}
 use lib.Pow.{pow-mono}
-use Rattle.model.specs.Base.{some}
 use Rattle.model.specs.declared.Term.{Term}
-use Rattle.model.specs.Table.{Table, formed, holdsNoOff}
+use Rattle.model.specs.Table.{formed, holdsNoOff}
 use Rattle.model.specs.Commands as model
-use Rattle.model.specs.Commands.{Context, operand, operandTerm}
+use Rattle.model.specs.Commands.{Context}
 use Rattle.model.specs.Refusals.{refuse, firstOf, size, badRow, refusalsOf}
 use Rattle.model.specs.Invariants.{Valid}
 use Rattle.model.specs.Library.{badVertex}
-use Rattle.model.proofs.Lists.{T-true}
 use Rattle.model.proofs.Cubes.{formed-e}
-use Rattle.table.specs.Cubes.{Allowed, TableBytes, MayOf, TellsFormed, TellsNoOff, Cube}
+use Rattle.table.specs.Cubes.{TableBytes, MayOf, TellsFormed, TellsNoOff}
 use Rattle.table.proofs.Uses.{small-bytes}
-use Rattle.table.proofs.Legality.{formed-cube}
 use Rattle.problem.specs.declared.Problem.{Problem}
 use Rattle.problem.specs.Problems.{Sized, Holds}
 use Rattle.problem.specs.Tests.{TellsTaken, RowRefusal, TermRefusal}

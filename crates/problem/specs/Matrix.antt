@@ -10,7 +10,6 @@ use Rattle.model.specs.Sets.{coverable, irredundants, cheapest, ofRows}
 use Rattle.model.specs.Candidates.{Basis, covering, termCost}
 use Rattle.model.specs.Commands as model
 use Rattle.model.specs.Commands.{basisOf}
-use Rattle.model.specs.Invariants.{Valid}
 use Rattle.codec.specs.Kinds.{isQueryKind}
 use Rattle.problem.specs.declared.Problem.{Problem}
 use Rattle.problem.specs.Problems.{Holds}

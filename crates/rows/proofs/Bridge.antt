@@ -1,21 +1,19 @@
 -- The covers of rows are those of crate model's covering problem by rows.
-use Prim.Native.Nat.{ℕ, zero, suc, _+_, _/_, _^_, _≤_, _<_}
+use Prim.Native.Nat.{ℕ, zero, suc, _+_, _/_, _^_, _<_}
 use native.Mathlib.Omega.{arith}
-use native.Mathlib.Numerals.{add-one}
-use mathlib.Core.Path.{_≡_, ap₂, subst, subst⁻¹}
-use mathlib.Core.Logic.{_↔_, _⊎_, inl, inr, ⊎-elim}
-use mathlib.Core.Bool.{Bool, true, false, not, cond, _&&_}
+use mathlib.Core.Path.{_≡_, subst, subst⁻¹}
+use mathlib.Core.Logic.{_⊎_, inl, inr, ⊎-elim}
+use mathlib.Core.Bool.{Bool, true, false, not, cond}
 use mathlib.Core.List.{List, [], _∷_, List·Memᴰ, List·Memᴰ·head, List·Memᴰ·tail}
 use lib.Dec.{T}
 use lib.Bits.{bitAnd}
 use lib.ListN.{getD, length}
-use Rattle.model.specs.Base.{bit, from, below, every, some}
+use Rattle.model.specs.Base.{bit, from, below, every}
 use Rattle.model.specs.Sets.{members, covers, cover, ofRows}
 use Rattle.model.specs.Sets as model
 use Rattle.model.proofs.Lists.{and-l, and-r, and-i, some-e, some-i, yes-or-no, T-true, T-false}
 use Rattle.model.proofs.Bits.{bit-lt, within-le}
 use Rattle.model.proofs.Matrix.{from-length}
-use Rattle.bits.specs.Bits.{digit}
 use Rattle.bits.proofs.Digits.{eq?, digit-bit, a-member}
 use Rattle.bits.proofs.Members.{and-left, and-right, and-both, not-zero, part-of, to-part}
 use Rattle.rows.specs.Covers.{Cover, Irredundant}

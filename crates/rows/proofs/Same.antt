@@ -3,7 +3,6 @@ use Prim.Native.Nat.{ℕ, _-_, _^_, _<_}
 use native.Mathlib.Omega.{arith}
 use mathlib.Core.Path.{_≡_, refl, sym, _∙_}
 use mathlib.Core.List.{List}
-use lib.Dec.{T}
 use lib.ListN.{length, take}
 use lib.Pow.{pow-pos}
 use Rattle.model.specs.Sets.{cover, coverable, ofRows, irredundants, cost, cheapest}

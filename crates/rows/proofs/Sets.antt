@@ -2,39 +2,14 @@
 use mathlib.Core.Path.{_≡_, refl, sym, ap, _∙_, subst}
 use mathlib.Core.Logic.{_⊎_, inl, inr, ⊎-elim}
 use mathlib.Core.List.{List}
-use Prim.Native.Nat.{ℕ, zero, suc, _+_, _-_, _*_, _/_, _%_, _^_, _≤_, _<_}
-use native.Mathlib.Nat.{mod-eq-of-lt}
+use Prim.Native.Nat.{ℕ, zero, suc, _+_, _-_, _^_, _<_}
 use native.Mathlib.Omega.{arith}
 use lib.ListN.{length, getD}
-use lib.Pow.{split}
-use lib.Bits.{bitAnd, bitOr, bitXor, differ, and-mask, or-shifted}
+use lib.Bits.{bitAnd, bitOr, bitXor}
 use Rattle.bits.specs.Bits.{digit, Single}
 use Rattle.rows.specs.Covers.{Cover, Irredundant, Own, PrivatesOf, Privates, Between}
-use Rattle.bits.proofs.Digits.{eq?, digit-lt, digit-of-zero, digit-and, digit-or, digit-xor, member-ext, a-member, pow-here, pow-only}
-
--- ---- members of an `and`
-
-pub and-left : (b x y : ℕ) → digit b (bitAnd x y) ≡ 1 → digit b x ≡ 1
-and-left b x y h = omega (arith, digit-and b x y, digit-lt b x)
-
-pub and-right : (b x y : ℕ) → digit b (bitAnd x y) ≡ 1 → digit b y ≡ 1
-and-right b x y h = omega (arith, digit-and b x y, digit-lt b y)
-
-pub and-both : (b x y : ℕ) → digit b x ≡ 1 → digit b y ≡ 1 → digit b (bitAnd x y) ≡ 1
-and-both b x y hx hy = omega (arith, digit-and b x y)
-
--- what has a member is not 0
-pub not-zero : (b x : ℕ) → digit b x ≡ 1 → x ≡ 0 → ⊥
-not-zero b x h e =
-    let f : digit b x ≡ 0 = ap (digit b) e ∙ digit-of-zero b in
-    omega arith
-
--- a part t of s, by members
-pub part-of : (t s : ℕ) → bitAnd t s ≡ t → (b : ℕ) → digit b t ≡ 1 → digit b s ≡ 1
-part-of t s h b m = and-right b t s (ap (digit b) h ∙ m)
-
-pub to-part : (t s : ℕ) → ((b : ℕ) → digit b t ≡ 1 → digit b s ≡ 1) → bitAnd t s ≡ t
-to-part t s f = member-ext (bitAnd t s) t (λ b m. and-left b t s m) (λ b m. and-both b t s m (f b m))
+use Rattle.bits.proofs.Members.{and-left, and-right, and-both, not-zero, part-of, to-part, without-here, without-other, without-part}
+use Rattle.bits.proofs.Digits.{eq?, digit-lt, digit-of-zero, digit-and, digit-or, member-ext, a-member, pow-here, pow-only}
 
 -- what covers still covers with more members
 pub cover-more : (rows : List ℕ) (s t : ℕ) → ((b : ℕ) → digit b s ≡ 1 → digit b t ≡ 1) → Cover rows s → Cover rows t
@@ -45,30 +20,6 @@ cover-more rows s t f c k lt z =
     (and-both (m .0) (getD rows k 0) t
     (and-left (m .0) (getD rows k 0) s (m .1))
     (f (m .0) (and-right (m .0) (getD rows k 0) s (m .1)))) z
-
--- ---- s without its member b
-
-differ-zero : (x : ℕ) → differ x 0 ≡ x
-differ-zero zero = refl
-differ-zero (suc x) = refl
-
-without-here : (s b : ℕ) → digit b s ≡ 1 → digit b (bitXor s (2 ^ b)) ≡ 1 → ⊥
-without-here s b h g =
-    let e : digit b (bitXor s (2 ^ b)) ≡ differ (digit b s) (digit b (2 ^ b)) = digit-xor b s (2 ^ b) in
-    let f : differ (digit b s) (digit b (2 ^ b)) ≡ 0
-    = ap (λ (x : ℕ). differ x (digit b (2 ^ b))) h ∙ ap (differ 1) (pow-here b) in
-    omega arith
-
-pow-other : (c b : ℕ) → (c ≡ b → ⊥) → digit c (2 ^ b) ≡ 0
-pow-other c b n =
-    ⊎-elim (λ e. absurd (n (pow-only c b e))) (λ m. omega (arith, digit-lt c (2 ^ b))) (eq? (digit c (2 ^ b)) 1)
-
-without-other : (s b c : ℕ) → (c ≡ b → ⊥) → digit c (bitXor s (2 ^ b)) ≡ digit c s
-without-other s b c n = digit-xor c s (2 ^ b) ∙ ap (differ (digit c s)) (pow-other c b n) ∙ differ-zero (digit c s)
-
-without-part : (s b c : ℕ) → digit b s ≡ 1 → digit c (bitXor s (2 ^ b)) ≡ 1 → digit c s ≡ 1
-without-part s b c h m =
-    ⊎-elim (λ e. subst (λ (j : ℕ). digit j s ≡ 1) (sym e) h) (λ n. sym (without-other s b c n) ∙ m) (eq? c b)
 
 -- ---- which row t misses, or none
 
@@ -196,31 +147,6 @@ privates-take rows n s a p one = (into, back)
 pub privates-done : (rows : List ℕ) (n s a : ℕ) → n ≡ length rows → PrivatesOf rows n s a → Privates rows s a
 unfolding Privates
 privates-done rows n s a e p = subst (λ (m : ℕ). PrivatesOf rows m s a) e p
-
--- ---- the subtree: x is s with some of the i low bits, which are 0 in s
-
-module _ (i s x : ℕ) (z : s % 2 ^ i ≡ 0) (lo : s ≤ x) (hi : x < s + 2 ^ i) where
-  low-bits : bitOr s (x - s) ≡ x
-  low-bits =
-      let e : s / 2 ^ i * 2 ^ i + s % 2 ^ i ≡ s = split s i in
-      let f : s / 2 ^ i * 2 ^ i ≡ s = omega arith in
-      subst (λ (j : ℕ). bitOr j (x - s) ≡ j + (x - s)) f (or-shifted (s / 2 ^ i) i (x - s) (omega arith)) ∙ omega arith
-
-  pub above : (b : ℕ) → digit b s ≡ 1 → digit b x ≡ 1
-  above b m =
-      let e : digit b (bitOr s (x - s)) ≡ digit b x = ap (digit b) low-bits in
-      omega (arith, digit-or b s (x - s), digit-lt b x)
-
-  pub within : (b : ℕ) → digit b x ≡ 1 → digit b (bitOr s (2 ^ i - 1)) ≡ 1
-  within b m =
-      let e : digit b (bitOr s (x - s)) ≡ digit b x = ap (digit b) low-bits in
-      let p : bitAnd (x - s) (2 ^ i - 1) ≡ x - s = and-mask (x - s) i ∙ mod-eq-of-lt (omega arith) in
-      ⊎-elim
-      (λ q.
-      let q' : digit b (2 ^ i - 1) ≡ 1 = part-of (x - s) (2 ^ i - 1) p b q in
-      omega (arith, digit-or b s (2 ^ i - 1), digit-lt b s))
-      (λ n. omega (arith, digit-or b s (x - s), digit-or b s (2 ^ i - 1), digit-lt b (x - s), digit-lt b (2 ^ i - 1), digit-lt b s))
-      (eq? (digit b (x - s)) 1)
 
 -- fewer members, the same row of one's own
 pub own-row-fewer : (h s x b : ℕ) → ((c : ℕ) → digit c s ≡ 1 → digit c x ≡ 1) → digit b s ≡ 1 → bitAnd h x ≡ 2 ^ b → bitAnd h s ≡ 2 ^ b
