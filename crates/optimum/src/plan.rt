@@ -55,14 +55,36 @@ pub fn decide(rows: &[u64], costs: &[u16], s: u64, free: u64, cost: u64, limit: 
     }
 }
 
-// The same for any rows: only what is free of those that s does not meet is looked at.
+// The same for any rows: what is free of those that s does not meet is put in front of out, and only that is looked at.
+pub fn look(
+    rows: &[u64],
+    costs: &[u16],
+    s: u64,
+    free: u64,
+    cost: u64,
+    limit: u64,
+    out: &mut [u64],
+) -> Next
+    requires { ⌜ length (now rows) ≤ length (now out) ⌝ }
+    requires { ⌜ length (now costs) ≤ 64 ⌝ }
+    requires { ⌜ cost ≡ costOf (now costs) s ⌝ }
+    ensures { λ r. ⌜ Planned (now (rows .entry)) (now (costs .entry)) s free cost limit r ⌝ }
+{
+    let n = residue::unmet(rows, s, free, out);
+    decide(&out[..n], costs, s, free, cost, limit)
+}
+
+// The same with room for the rows: most tables have few, and it is made anew at each node.
 pub fn plan(rows: &[u64], costs: &[u16], s: u64, free: u64, cost: u64, limit: u64) -> Next
     requires { ⌜ length (now rows) ≤ 2048 ⌝ }
     requires { ⌜ length (now costs) ≤ 64 ⌝ }
     requires { ⌜ cost ≡ costOf (now costs) s ⌝ }
     ensures { λ r. ⌜ Planned (now (rows .entry)) (now (costs .entry)) s free cost limit r ⌝ }
 {
-    let mut left: [u64; 2048] = [0; 2048];
-    let n = residue::unmet(rows, s, free, &mut left);
-    decide(&left[..n], costs, s, free, cost, limit)
+    if rows.len() <= 64 {
+        let mut few: [u64; 64] = [0; 64];
+        return look(rows, costs, s, free, cost, limit, &mut few);
+    }
+    let mut many: [u64; 2048] = [0; 2048];
+    look(rows, costs, s, free, cost, limit, &mut many)
 }
