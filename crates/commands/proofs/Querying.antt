@@ -3,19 +3,18 @@ use Prim.Native.Nat.{ℕ, _/_, _≤_}
 use native.Mathlib.Omega.{arith}
 use mathlib.Core.Path.{_≡_, refl, sym, ap, ap₂, _∙_, subst, subst⁻¹}
 use mathlib.Core.Bool.{Bool, true, false, not, cond}
-use mathlib.Core.List.{List, [], _∷_, _++_, map, List·Memᴰ, List·Memᴰ·head, List·Memᴰ·tail}
+use mathlib.Core.List.{List, [], _∷_, map, List·Memᴰ, List·Memᴰ·head, List·Memᴰ·tail}
 use lib.Dec.{T}
-use lib.ListN.{length, take, drop, replicate, length-take, length-append}
+use lib.ListN.{length, take, drop, length-take, length-append}
 use lib.Seq.{take-at}
 use Rattle.model.specs.Base.{bit}
-use Rattle.model.specs.declared.Term.{Term}
-use Rattle.model.specs.Sets.{Covering, members, Best, cover, coverable, irredundants, cheapest, cost, ofRows}
+use Rattle.model.specs.Sets.{Covering, members, Best, cover, coverable, cheapest, cost, ofRows}
 use Rattle.model.specs.Pages.{page, more, atOrAbove}
 use Rattle.model.specs.Candidates.{termCost, covering}
 use Rattle.model.specs.Commands as model
-use Rattle.model.specs.Commands.{Context, basisOf, coveringOf, start, count, problemAfter}
+use Rattle.model.specs.Commands.{Context, coveringOf, start, count, problemAfter}
 use Rattle.model.specs.Answers.{Answer, bytesOf, answerFor}
-use Rattle.model.specs.Refusals.{refuse, firstOf, refusalsOf}
+use Rattle.model.specs.Refusals.{firstOf, refusalsOf}
 use Rattle.model.proofs.Lists.{T-true, T-false}
 use Rattle.model.proofs.Sets.{covers-more}
 use Rattle.model.proofs.Cheapest.{best-cheapest}
@@ -24,17 +23,17 @@ use Rattle.optimum.specs.declared.cheapest.Optimum.{Optimum}
 use Rattle.optimum.specs.declared.cheapest.Optimum.the-variants.{Cover as AtCover, Nothing}
 use Rattle.search.specs.declared.lister.Filled.{Filled}
 use Rattle.search.specs.Lister.{rowCovers, Paged}
-use Rattle.optimum.specs.Costs.{Optimal}
+use Rattle.optimum.specs.Optimum.{Optimal}
 use Rattle.codec.specs.declared.writers.Reply.{Reply}
 use Rattle.codec.specs.declared.writers.Reply.the-variants.{Written, TooLong}
 use Rattle.codec.specs.Writers.{Replied}
 use Rattle.problem.specs.declared.Problem.{Problem}
-use Rattle.problem.specs.Problems.{queried, Sized, Holds, Reached}
-use Rattle.problem.specs.Matrix.{TellsCovered, RowsOf}
+use Rattle.problem.specs.Problems.{queried, Holds}
+use Rattle.problem.specs.Matrix.{TellsCovered}
 use Rattle.problem.proofs.Keeping.{after-L, after-C}
 use Rattle.problem.proofs.Preparing.{rows-listed}
 use Rattle.commands.specs.declared.Effect.{Effect}
-use Rattle.commands.specs.Effects.{refusedAs, repliedAs, answerBytes, pageBytes, lateRefusal, Handled, Found, HandlesL, HandlesC}
+use Rattle.commands.specs.Effects.{refusedAs, repliedAs, answerBytes, pageBytes, Handled, Found, HandlesL, HandlesC}
 use Rattle.commands.proofs.Handling.{late-own, handled-refused, handled-written, handled-long}
 
 -- ---- covers by all candidates, and costs without rows
