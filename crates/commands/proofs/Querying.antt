@@ -23,7 +23,7 @@ use Rattle.optimum.specs.declared.cheapest.Optimum.{Optimum}
 use Rattle.optimum.specs.declared.cheapest.Optimum.the-variants.{Cover as AtCover, Nothing}
 use Rattle.search.specs.declared.lister.Filled.{Filled}
 use Rattle.search.specs.Lister.{rowCovers, Paged}
-use Rattle.optimum.specs.Costs.{Optimal}
+use Rattle.optimum.specs.Optimum.{Optimal}
 use Rattle.codec.specs.declared.writers.Reply.{Reply}
 use Rattle.codec.specs.declared.writers.Reply.the-variants.{Written, TooLong}
 use Rattle.codec.specs.Writers.{Replied}

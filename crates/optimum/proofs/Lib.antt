@@ -1,11 +1,8 @@
-pub mod Costing
-pub mod Bounding
 pub mod Valuing
 pub mod Thinning
 pub mod Narrowing
 pub mod Parting
 pub mod Pinning
 pub mod Optimality
-pub mod Ascending
 pub mod Planning
-pub mod Measuring
+pub mod Following

@@ -8,7 +8,8 @@ use lib.ListN.{length, getD, set, length-set}
 use lib.Seq.{getD-set-same, getD-set-other}
 use lib.Bits.{bitAnd, bitOr}
 use Rattle.bits.specs.Bits.{digit, Part, Minus, Member}
-use Rattle.optimum.specs.Costs.{Numbered, Wanted, Dominators, Narrowed, Shared}
+use Rattle.bounds.specs.Costs.{Numbered}
+use Rattle.optimum.specs.Optimum.{Wanted, Dominators, Narrowed, Shared}
 use Rattle.bits.proofs.Digits.{eq?, digit-lt, digit-or, a-member, pow-here, pow-only}
 use Rattle.bits.proofs.Members.{and-left, and-right, and-both, not-zero}
 use Rattle.bits.proofs.Parts.{members, by-members, part-self, part-trans, part-and-left, part-and-less}

@@ -19,8 +19,9 @@ use Rattle.model.proofs.Matrix.{sum-index, from-length}
 use Rattle.optimum.specs.declared.cheapest.Optimum.the-variants.{Nothing}
 use Rattle.optimum.specs.declared.cheapest.Optimum.the-variants as found
 use Rattle.rows.specs.Covers.{Cover}
-use Rattle.optimum.specs.Costs.{costOf, Cheapest, Optimal}
-use Rattle.optimum.proofs.Costing.{cost-small}
+use Rattle.bounds.specs.Costs.{costOf}
+use Rattle.optimum.specs.Optimum.{Cheapest, Optimal}
+use Rattle.bounds.proofs.Costing.{cost-small}
 use Rattle.rows.proofs.Bridge.{cover-to, cover-from}
 
 -- ---- costs

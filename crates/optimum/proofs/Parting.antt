@@ -2,19 +2,20 @@
 use mathlib.Core.Path.{_≡_, refl, sym, ap, _∙_, subst}
 use mathlib.Core.Logic.{_⊎_, inl, inr, ⊎-elim}
 use mathlib.Core.List.{List}
-use Prim.Native.Nat.{ℕ, _+_, _-_, _≤_, _<_, min, max}
+use Prim.Native.Nat.{ℕ, _+_, _≤_, _<_, min, max}
 use native.Mathlib.Omega.{arith}
 use lib.ListN.{length, getD}
 use lib.Bits.{bitAnd, bitOr}
-use Rattle.optimum.specs.declared.costs.Best.{Best}
+use Rattle.bounds.specs.declared.costs.Best.{Best}
 use Rattle.bits.specs.Bits.{digit, Part, Minus}
 use Rattle.rows.specs.Covers.{Cover, Between}
-use Rattle.optimum.specs.Costs.{costOf, CoverBetween, Closed, Component, Priced, Attained, Valued}
+use Rattle.bounds.specs.Costs.{costOf, CoverBetween}
+use Rattle.optimum.specs.Optimum.{Closed, Component, Priced, Attained, Valued}
 use Rattle.bits.proofs.Digits.{eq?, digit-lt, digit-and, digit-or, digit-ext, digit-of-zero, a-member}
 use Rattle.bits.proofs.Members.{and-left, and-right, and-both}
 use Rattle.rows.proofs.Sets.{cover-more}
 use Rattle.bits.proofs.Parts.{members, by-members, part-self, apart-by, no-common}
-use Rattle.optimum.proofs.Costing.{cost-join, cost-either, cost-modular}
+use Rattle.bounds.proofs.Costing.{cost-join, cost-either, cost-modular}
 
 -- ---- closed parts
 

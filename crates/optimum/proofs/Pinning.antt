@@ -9,14 +9,15 @@ use native.Mathlib.Omega.{arith}
 use lib.ListN.{length, getD}
 use lib.Pow.{pow-pos, pow-mono, split}
 use lib.Bits.{bitAnd, bitOr, and-shifted, or-shifted, or-disjoint}
-use Rattle.optimum.specs.declared.costs.Best.{Best}
+use Rattle.bounds.specs.declared.costs.Best.{Best}
 use Rattle.bits.specs.Bits.{digit, Single}
 use Rattle.rows.specs.Covers.{Cover, Between, Node}
-use Rattle.optimum.specs.Costs.{costOf, Price, CoverBetween, Priced, Attained, Known, Valued, LeastCost, Cheapest}
+use Rattle.bounds.specs.Costs.{costOf, Price, CoverBetween}
+use Rattle.optimum.specs.Optimum.{Priced, Attained, Known, Valued, LeastCost, Cheapest}
 use Rattle.bits.proofs.Digits.{digit-lt, digit-or, pow-here}
 use Rattle.bits.proofs.Members.{and-left, not-zero, above, within}
 use Rattle.bits.proofs.Parts.{part-le, by-members, no-common}
-use Rattle.optimum.proofs.Costing.{cost-none, cost-join, cost-small}
+use Rattle.bounds.proofs.Costing.{cost-none, cost-join, cost-small}
 use Rattle.rows.proofs.Nodes.{halves, low-node, high-node}
 
 pub reached-cover : (rows : List ℕ) (s free t : ℕ) → CoverBetween rows s free t → Cover rows t

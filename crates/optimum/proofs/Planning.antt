@@ -8,21 +8,21 @@ use native.Mathlib.Omega.{arith}
 use lib.ListN.{length, getD, set, take}
 use lib.Seq.{getD-set-same, getD-set-other, getD-take, length-take-le}
 use lib.Bits.{bitAnd, bitXor}
-use Rattle.optimum.specs.declared.ascent.Duals.{Duals}
+use Rattle.bounds.specs.declared.ascent.Duals.{Duals}
 use Rattle.optimum.specs.declared.branching.Choice.{Choice}
 use Rattle.optimum.specs.declared.branching.Choice.the-variants.{Done as IsDone, Lost, Try}
 use Rattle.optimum.specs.declared.plan.Next.{Next}
 use Rattle.optimum.specs.declared.plan.Next.the-variants.{Cut, Done, Split, Branch}
 use Rattle.bits.specs.Bits.{digit, Part, Minus}
-use Rattle.rows.specs.Covers.{Cover}
-use Rattle.rows.specs.Covers.{Between}
-use Rattle.optimum.specs.Costs.{costOf, CoverBetween, Bound, Chosen, Closed, Component, Thinned}
-use Rattle.optimum.specs.Ascent.{Meets, Dual, Trimmed}
+use Rattle.rows.specs.Covers.{Cover, Between}
+use Rattle.bounds.specs.Costs.{costOf, CoverBetween, Bound}
+use Rattle.optimum.specs.Optimum.{Chosen, Closed, Component, Thinned}
+use Rattle.bounds.specs.Ascent.{Meets, Dual, Trimmed}
 use Rattle.optimum.specs.Plan.{Residue, Filled, Open, Worth, Planned}
 use Rattle.bits.proofs.Digits.{eq?, digit-lt, digit-and, digit-or, digit-ext, a-member, pow-only}
 use Rattle.bits.proofs.Members.{and-left, and-right, and-both}
 use Rattle.bits.proofs.Parts.{members, by-members, part-self, part-trans, part-and-left, minus-bits, apart-by, no-common}
-use Rattle.optimum.proofs.Costing.{cost-part, cost-apart}
+use Rattle.bounds.proofs.Costing.{cost-part, cost-apart}
 use Rattle.rows.proofs.Sets.{meets}
 use Rattle.optimum.proofs.Valuing.{tried}
 

@@ -1,20 +1,19 @@
 -- A free candidate that meets no unmet row, or for which another one stands in at no greater cost, is not needed.
 use mathlib.Core.Path.{_≡_, refl, sym, ap, _∙_, subst}
-use mathlib.Core.Logic.{inl, inr, ⊎-elim}
+use mathlib.Core.Logic.{⊎-elim}
 use mathlib.Core.List.{List}
 use Prim.Native.Nat.{ℕ, _-_, _≤_, _<_}
 use native.Mathlib.Omega.{arith}
 use lib.ListN.{length, getD}
 use lib.Bits.{bitAnd, bitOr, bitXor}
-use Rattle.optimum.specs.declared.costs.Best.{Best}
 use Rattle.bits.specs.Bits.{digit, Single, Part, Minus, Member}
 use Rattle.rows.specs.Covers.{Cover, Between}
-use Rattle.optimum.specs.Costs.{costOf, Price, CoverBetween, Wanted, Dominators, Cheaper, Thinned, Attained, Valued}
+use Rattle.bounds.specs.Costs.{costOf, Price, CoverBetween}
+use Rattle.optimum.specs.Optimum.{Wanted, Dominators, Cheaper, Thinned}
 use Rattle.bits.proofs.Digits.{eq?, digit-lt, digit-or, a-member, pow-only}
 use Rattle.bits.proofs.Members.{not-zero, and-left, and-right, and-both}
-use Rattle.bits.proofs.Parts.{members, by-members, part-trans, minus-bits, minus-part, member-of-more}
-use Rattle.optimum.proofs.Costing.{cost-part, cost-either, cost-apart}
-use Rattle.bits.proofs.Parts.{no-common}
+use Rattle.bits.proofs.Parts.{members, by-members, part-trans, minus-bits, minus-part, member-of-more, no-common}
+use Rattle.bounds.proofs.Costing.{cost-part, cost-either, cost-apart}
 
 pub cheaper-one : (costs : List ℕ) (x rest d m p q : ℕ) → Part rest x → Member rest d → Price costs d q → Price costs m p → q ≤ p → Cheaper costs x m d
 unfolding Cheaper

@@ -8,14 +8,15 @@ use lib.ListN.{length, getD}
 use lib.Bits.{bitAnd, bitOr}
 use Rattle.optimum.specs.declared.branching.Choice.{Choice}
 use Rattle.optimum.specs.declared.branching.Choice.the-variants.{Done, Lost, Try}
-use Rattle.optimum.specs.declared.costs.Best.{Best}
+use Rattle.bounds.specs.declared.costs.Best.{Best}
 use Rattle.bits.specs.Bits.{digit, Single, Part, Minus, Member}
 use Rattle.rows.specs.Covers.{Cover, Between}
-use Rattle.optimum.specs.Costs.{costOf, Price, CoverBetween, Bound, Chosen, Priced, Attained, Valued}
+use Rattle.bounds.specs.Costs.{costOf, Price, CoverBetween}
+use Rattle.optimum.specs.Optimum.{Chosen, Priced, Attained, Valued}
 use Rattle.bits.proofs.Digits.{eq?, digit-lt, digit-or, pow-only}
 use Rattle.bits.proofs.Members.{not-zero, and-left, and-right}
 use Rattle.bits.proofs.Parts.{members, by-members, member-of-more, apart-by, no-common}
-use Rattle.optimum.proofs.Costing.{cost-join, cost-part, cost-small}
+use Rattle.bounds.proofs.Costing.{cost-join, cost-small}
 use Rattle.rows.proofs.Sets.{meets}
 
 -- ---- the choice

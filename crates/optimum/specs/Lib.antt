@@ -1,4 +1,2 @@
-pub mod Costs
-pub mod Ascent
-pub mod Units
+pub mod Optimum
 pub mod Plan

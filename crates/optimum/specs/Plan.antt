@@ -8,7 +8,8 @@ use Rattle.optimum.specs.declared.plan.Next.{Next}
 use Rattle.optimum.specs.declared.plan.Next.the-variants.{Cut, Done, Split, Branch}
 use Rattle.bits.specs.Bits.{Part, Minus, Member}
 use Rattle.rows.specs.Covers.{Cover}
-use Rattle.optimum.specs.Costs.{costOf, CoverBetween, Component}
+use Rattle.bounds.specs.Costs.{costOf, CoverBetween}
+use Rattle.optimum.specs.Optimum.{Component}
 
 -- xs is what is free of the rows that s does not meet
 pub record Residue (rows : List ℕ) (s free : ℕ) (xs : List ℕ) : Type 0 where

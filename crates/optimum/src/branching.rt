@@ -3,9 +3,9 @@ ghost use mathlib.Core.Path.{_≡_};
 ghost use mathlib.Core.Logic.{_⊎_};
 ghost use Prim.Native.Nat.{_<_};
 ghost use Rattle.bits.specs.Bits.{Member};
-ghost use Rattle.optimum.specs.Costs.{Chosen};
-use crate::costs;
+ghost use Rattle.optimum.specs.Optimum.{Chosen};
 use bits::set;
+use bounds::costs;
 
 // How a search for a cover goes on from a set: it is done, no cover is left, or this candidate is tried.
 pub enum Choice {

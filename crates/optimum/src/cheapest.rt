@@ -1,15 +1,15 @@
 // The cheapest cover: the least cost, then the least number.
 ghost use Prim.Native.Nat.{_≤_};
 ghost use lib.ListN.{length};
-ghost use Rattle.optimum.specs.Costs.{Priced, Valued, LeastCost, Cheapest, Optimal};
-ghost use Rattle.optimum.specs.Units.{Unit};
-use crate::costs;
-use crate::costs::Best;
+ghost use Rattle.bounds.specs.Units.{Unit};
+ghost use Rattle.optimum.specs.Optimum.{Priced, Valued, LeastCost, Cheapest, Optimal};
 use crate::greedy;
 use crate::plan;
 use crate::plan::Next;
-use crate::units;
 use bits::set;
+use bounds::costs;
+use bounds::costs::Best;
+use bounds::units;
 
 // The cheapest cover and its cost, or that there is no cover.
 pub enum Optimum {

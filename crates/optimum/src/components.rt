@@ -6,7 +6,7 @@ ghost use Prim.Native.Nat.{_<_};
 ghost use lib.ListN.{length};
 ghost use lib.Bits.{bitAnd};
 ghost use Rattle.bits.specs.Bits.{Part};
-ghost use Rattle.optimum.specs.Costs.{Closed, Component};
+ghost use Rattle.optimum.specs.Optimum.{Closed, Component};
 
 // Whether x is partly in a: it has members in a and others.
 pub fn straddles(x: u64, a: u64) -> bool

@@ -2,9 +2,9 @@
 ghost use mathlib.Core.Path.{_≡_};
 ghost use lib.ListN.{length};
 ghost use Rattle.bits.specs.Bits.{Single};
-ghost use Rattle.optimum.specs.Costs.{Wanted, Narrowed, Shared, Cheaper, Thinned};
-use crate::costs;
+ghost use Rattle.optimum.specs.Optimum.{Wanted, Narrowed, Shared, Cheaper, Thinned};
 use bits::set;
+use bounds::costs;
 
 // The candidates in the rows that s does not meet.
 pub fn wanted(rows: &[u64], s: u64) -> u64

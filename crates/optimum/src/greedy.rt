@@ -1,11 +1,11 @@
 // A first cover to beat.
 ghost use Prim.Native.Nat.{_≤_};
 ghost use lib.ListN.{length};
-ghost use Rattle.optimum.specs.Costs.{Known};
+ghost use Rattle.optimum.specs.Optimum.{Known};
 use crate::branching;
-use crate::costs;
-use crate::costs::Best;
 use bits::set;
+use bounds::costs;
+use bounds::costs::Best;
 use rows::covering;
 
 // Candidates of free, the one of most gain per cost at each step, until every row is met or none is left.

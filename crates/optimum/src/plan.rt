@@ -2,16 +2,16 @@
 ghost use mathlib.Core.Path.{_≡_};
 ghost use Prim.Native.Nat.{_≤_};
 ghost use lib.ListN.{length};
-ghost use Rattle.optimum.specs.Costs.{costOf};
+ghost use Rattle.bounds.specs.Costs.{costOf};
 ghost use Rattle.optimum.specs.Plan.{Open, Planned};
-use crate::ascent;
-use crate::bounds;
 use crate::branching;
 use crate::branching::Choice;
 use crate::components;
 use crate::dominance;
 use crate::residue;
 use bits::set;
+use bounds::ascent;
+use bounds::disjoint;
 
 // Nothing is left to find; the set is a cover; the first candidates fall into the second ones and the rest; or, of the first, this one
 // is tried.
@@ -29,7 +29,7 @@ pub fn decide(rows: &[u64], costs: &[u16], s: u64, free: u64, cost: u64, limit: 
     requires { ⌜ Open (now rows) s free ⌝ }
     ensures { λ r. ⌜ Planned (now (rows .entry)) (now (costs .entry)) s free cost limit r ⌝ }
 {
-    if limit <= cost + bounds::bound(rows, costs, s, free) {
+    if limit <= cost + disjoint::bound(rows, costs, s, free) {
         return Next::Cut;
     }
     let duals = ascent::ascent(rows, costs);

@@ -1,8 +1,7 @@
 // What is left of the rows when some candidates are taken and others given up.
-ghost use mathlib.Core.Path.{_≡_};
 ghost use Prim.Native.Nat.{_≤_};
-ghost use lib.ListN.{length, take};
-ghost use Rattle.optimum.specs.Plan.{Residue, Filled};
+ghost use lib.ListN.{length};
+ghost use Rattle.optimum.specs.Plan.{Filled};
 
 // Puts what is free of each row that s does not meet in front of out; returns how many.
 pub fn unmet(rows: &[u64], s: u64, free: u64, out: &mut [u64]) -> usize

@@ -3,7 +3,7 @@ use borrow.Author.Needs.{needs}
 use native.Mathlib.Omega.{arith}
 use Rattle.bits.specs.Bits.{Part, Member}
 use Rattle.bits.proofs.Parts.{part-trans, minus-part, minus-member-less, member-of-more}
-use Rattle.optimum.proofs.Costing.{product-fits}
+use Rattle.bounds.proofs.Costing.{product-fits}
 use Rattle.optimum.proofs.branching.richest.Statement.{statement}
 use Rattle.optimum.proofs.branching.richest.Tie as tie
 

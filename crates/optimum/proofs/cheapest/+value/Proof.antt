@@ -4,7 +4,7 @@ use native.Mathlib.Omega.{arith}
 use Rattle.bits.proofs.Parts.{part-le, minus-member-less}
 use Rattle.optimum.proofs.Parting.{priced-other, priced-this, valued-over, valued-parts}
 use Rattle.optimum.proofs.Valuing.{valued-both, priced-with, priced-less, cost-fits, priced-fits}
-use Rattle.optimum.proofs.Measuring.{valued-cut, valued-met, valued-worth, planned-split, planned-branch}
+use Rattle.optimum.proofs.Following.{valued-cut, valued-met, valued-worth, planned-split, planned-branch}
 use Prim.Native.Nat.{ℕ, _<_}
 use borrow.Fn.Kinds.{In}
 use borrow.Fn.PlainCycle.{Measures, is, falls, and}
@@ -12,10 +12,10 @@ use Rattle.optimum.proofs.cheapest.value.Reads as value
 use Rattle.optimum.proofs.cheapest.value.Kinds as value-kinds
 use Rattle.optimum.proofs.cheapest.+value.Lts-value as value-lts
 use Rattle.bits.proofs.set.minus.Reads as minus-reads
-use Rattle.optimum.proofs.costs.price.Reads as price-reads
-use Rattle.optimum.proofs.costs.total.Reads as total-reads
+use Rattle.bounds.proofs.costs.price.Reads as price-reads
+use Rattle.bounds.proofs.costs.total.Reads as total-reads
 use Rattle.optimum.proofs.plan.plan.Reads as plan-reads
-use Rattle.optimum.proofs.units.goal.Reads as goal-reads
+use Rattle.bounds.proofs.units.goal.Reads as goal-reads
 use Rattle.optimum.proofs.cheapest.+value.{statement}
 use Rattle.optimum.proofs.cheapest.+value.Tie.{close}
 

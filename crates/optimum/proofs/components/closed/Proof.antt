@@ -6,7 +6,7 @@ use native.Mathlib.Omega.{arith}
 use Prim.Native.Nat.{_≤_, _-_}
 use lib.ListN.{length}
 use Rattle.bits.proofs.Decide.{true-is-not-false}
-use Rattle.optimum.specs.Costs.{Closed}
+use Rattle.optimum.specs.Optimum.{Closed}
 use Rattle.optimum.proofs.Parting.{closed-none, closed-met, closed-more, closed-all}
 use Rattle.optimum.proofs.components.closed.Statement.{statement}
 use Rattle.optimum.proofs.components.closed.Tie as tie

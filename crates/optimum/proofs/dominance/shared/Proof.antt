@@ -5,7 +5,7 @@ use mathlib.Core.Logic.{⊎-elim}
 use Prim.Native.Nat.{_-_, _≤_}
 use native.Mathlib.Omega.{arith}
 use lib.ListN.{length}
-use Rattle.optimum.specs.Costs.{Shared}
+use Rattle.optimum.specs.Optimum.{Shared}
 use Rattle.optimum.proofs.Narrowing.{shared-none, shared-met, shared-more, shared-all}
 use Rattle.optimum.proofs.dominance.shared.Statement.{statement}
 use Rattle.optimum.proofs.dominance.shared.Tie as tie

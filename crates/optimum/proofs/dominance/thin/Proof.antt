@@ -4,7 +4,7 @@ use Rattle.optimum.proofs.Thinning.{free-part, thinned-wanted, thinned-
 use borrow.Author.Needs.{needs}
 use native.Mathlib.Omega.{arith}
 use Rattle.bits.specs.Bits.{Part}
-use Rattle.optimum.specs.Costs.{Thinned}
+use Rattle.optimum.specs.Optimum.{Thinned}
 use Rattle.optimum.proofs.Narrowing.{shared-one}
 use Rattle.optimum.proofs.dominance.thin.Statement.{statement}
 use Rattle.optimum.proofs.dominance.thin.Tie as tie

@@ -5,7 +5,7 @@ use mathlib.Core.Logic.{⊎-elim}
 use Prim.Native.Nat.{_-_, _≤_}
 use native.Mathlib.Omega.{arith}
 use lib.ListN.{length}
-use Rattle.optimum.specs.Costs.{Wanted}
+use Rattle.optimum.specs.Optimum.{Wanted}
 use Rattle.optimum.proofs.Narrowing.{wanted-none, wanted-met, wanted-more, wanted-all}
 use Rattle.optimum.proofs.dominance.wanted.Statement.{statement}
 use Rattle.optimum.proofs.dominance.wanted.Tie as tie

@@ -1,0 +1,4 @@
+pub mod Costing
+pub mod Bounding
+pub mod Ascending
+pub mod Measuring
