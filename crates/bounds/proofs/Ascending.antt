@@ -10,13 +10,13 @@ use lib.ListN.{length, getD, set, replicate, length-set, length-replicate}
 use lib.Seq.{getD-set-same, getD-set-other}
 use lib.Bits.{bitAnd, and-mask}
 use Rattle.bounds.specs.declared.ascent.Duals.{Duals}
-use Rattle.bits.specs.Bits.{digit, Single, Minus, Member}
+use Rattle.bits.specs.Bits.{digit, Single, Part, Minus, Member}
 use Rattle.bounds.specs.Costs.{costOf, Numbered, Price, Floor}
-use Rattle.bounds.specs.Ascent.{Charged, Paid, Meets, Raised, Padded, Dual, Trimmed}
+use Rattle.bounds.specs.Ascent.{Charged, Paid, Meets, Raised, Padded, Dual, Trimmed, Worthy}
 use Rattle.bits.proofs.Digits.{eq?, digit-first, digit-next, digit-lt, a-member, pow-here, pow-only}
 use Rattle.bits.proofs.Members.{and-left, and-right, not-zero}
-use Rattle.bits.proofs.Parts.{members, part-self, part-trans, minus-part}
-use Rattle.bounds.proofs.Costing.{cost-one, cost-small}
+use Rattle.bits.proofs.Parts.{members, by-members, part-self, part-trans, minus-part}
+use Rattle.bounds.proofs.Costing.{cost-part, cost-one, cost-small}
 
 -- ---- one entry
 
@@ -253,4 +253,27 @@ trimmed-drop left free spare kept m p kept' h one q le d = record {
       omega (arith, q .is, ap (costOf left) (one .1 ∙ ap (λ (j : ℕ). 2 ^ j) (sym same))))
       (λ (e : digit b kept ≡ 1 → ⊥). h .dear b f e)
       (eq? (digit b kept) 1);
+}
+
+-- ---- what a cheap set can have
+
+pub worthy-all : (rows costs : List ℕ) (free spare : ℕ) → Worthy rows costs free spare free
+worthy-all rows costs free spare = record { part = part-self free; keeps = λ t m p lt. p }
+
+pub worthy-none : (rows costs : List ℕ) (free spare : ℕ) (d : Duals) → Dual rows costs d → spare ≤ d .sum → Worthy rows costs free spare 0
+worthy-none rows costs free spare d h le = record {
+  part = by-members 0 free (λ b m. absurd (not-zero b 0 m refl));
+  keeps = λ t m p lt. absurd (omega (arith, h .under t m));
+}
+
+pub worthy-trimmed : (rows costs : List ℕ) (free spare r : ℕ) (d : Duals) → Dual rows costs d → d .sum < spare → Trimmed (d .left) free (spare - d .sum) r
+    → Worthy rows costs free spare r
+worthy-trimmed rows costs free spare r d h more w = record {
+  part = w .part;
+  keeps = λ t m p lt. by-members t r (λ b q. ⊎-elim
+      (λ (e : digit b r ≡ 1). e)
+      (λ (e : digit b r ≡ 1 → ⊥).
+      let one : Part (2 ^ b) t = by-members (2 ^ b) t (λ c g. subst (λ (j : ℕ). digit j t ≡ 1) (sym (pow-only c b g)) q) in
+      absurd (omega (arith, w .dear b (members t free p b q) e, cost-part (d .left) (2 ^ b) t one, h .under t m)))
+      (eq? (digit b r) 1));
 }

@@ -41,3 +41,8 @@ pub record Dual (rows costs : List ℕ) (d : Duals) : Type 0 where
 pub record Trimmed (left : List ℕ) (free spare r : ℕ) : Type 0 where
   pub part : Part r free
   pub dear : (b : ℕ) → digit b free ≡ 1 → (digit b r ≡ 1 → ⊥) → spare ≤ costOf left (2 ^ b)
+
+-- r is a part of free, and has all of each part of free that meets the rows and costs less than spare
+pub record Worthy (rows costs : List ℕ) (free spare r : ℕ) : Type 0 where
+  pub part : Part r free
+  pub keeps : (t : ℕ) → Meets rows (length rows) t → Part t free → costOf costs t < spare → Part t r

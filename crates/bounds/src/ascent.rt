@@ -4,7 +4,7 @@ ghost use mathlib.Core.Path.{_≡_};
 ghost use Prim.Native.Nat.{_≤_};
 ghost use lib.ListN.{length};
 ghost use Rattle.bounds.specs.Costs.{Floor};
-ghost use Rattle.bounds.specs.Ascent.{Charged, Paid, Raised, Padded, Dual, Trimmed};
+ghost use Rattle.bounds.specs.Ascent.{Charged, Paid, Raised, Padded, Dual, Trimmed, Worthy};
 use crate::costs;
 use bits::set;
 
@@ -43,6 +43,9 @@ pub fn pay(x: u64, most: u32, half: bool, left: &mut [u16]) -> u64
         return 0;
     }
     let all = costs::floor(left, x);
+    if all == 0 {
+        return 0;
+    }
     let y = if half { all - all / 2 } else { all };
     charge(left, x, y);
     y
@@ -109,4 +112,22 @@ pub fn trim(left: &[u16], free: u64, spare: u64) -> u64
         }
     }
     kept
+}
+
+// The members of free that a set can have which meets the rows and costs less than spare. With few rows all are kept: charging them
+// costs more time than it saves.
+pub fn worthy(rows: &[u64], costs: &[u16], free: u64, spare: u64) -> u64
+    requires { ⌜ length (now costs) ≤ 64 ⌝ }
+    ensures { λ r. ⌜ Worthy (now (rows .entry)) (now (costs .entry)) free spare r ⌝ }
+{
+    if rows.len() <= 16 {
+        return free;
+    }
+    let duals = ascent(rows, costs);
+    let sum = duals.sum;
+    if spare <= sum {
+        return 0;
+    }
+    let left = duals.left;
+    trim(&left, free, spare - sum)
 }

@@ -41,6 +41,9 @@ pub fn floor(costs: &[u16], x: u64) -> u64
     while rest != 0 {
         let m = set::lowest(rest);
         let p = price(costs, m);
+        if p == 0 {
+            return 0;
+        }
         if p < low {
             low = p;
         }

@@ -2,13 +2,12 @@
 use mathlib.Core.Path.{_≡_, refl, sym, ap, _∙_, subst}
 use mathlib.Core.Logic.{_⊎_, ⊎-elim}
 use mathlib.Core.List.{List}
-use Prim.Native.Nat.{ℕ, _+_, _-_, _^_, _≤_, _<_}
+use Prim.Native.Nat.{ℕ, _+_, _-_, _≤_, _<_}
 use native.Mathlib.Decide.{decLt}
 use native.Mathlib.Omega.{arith}
 use lib.ListN.{length, getD, set, take}
 use lib.Seq.{getD-set-same, getD-set-other, getD-take, length-take-le}
 use lib.Bits.{bitAnd, bitXor}
-use Rattle.bounds.specs.declared.ascent.Duals.{Duals}
 use Rattle.optimum.specs.declared.branching.Choice.{Choice}
 use Rattle.optimum.specs.declared.branching.Choice.the-variants.{Done as IsDone, Lost, Try}
 use Rattle.optimum.specs.declared.plan.Next.{Next}
@@ -17,12 +16,12 @@ use Rattle.bits.specs.Bits.{digit, Part, Minus}
 use Rattle.rows.specs.Covers.{Cover, Between}
 use Rattle.bounds.specs.Costs.{costOf, CoverBetween, Bound}
 use Rattle.optimum.specs.Optimum.{Chosen, Closed, Component, Thinned}
-use Rattle.bounds.specs.Ascent.{Meets, Dual, Trimmed}
+use Rattle.bounds.specs.Ascent.{Worthy, Meets}
 use Rattle.optimum.specs.Plan.{Residue, Filled, Open, Worth, Planned}
-use Rattle.bits.proofs.Digits.{eq?, digit-lt, digit-and, digit-or, digit-ext, a-member, pow-only}
+use Rattle.bits.proofs.Digits.{eq?, digit-lt, digit-and, digit-or, digit-ext, a-member}
 use Rattle.bits.proofs.Members.{and-left, and-right, and-both}
 use Rattle.bits.proofs.Parts.{members, by-members, part-self, part-trans, part-and-left, minus-bits, apart-by, no-common}
-use Rattle.bounds.proofs.Costing.{cost-part, cost-apart}
+use Rattle.bounds.proofs.Costing.{cost-apart}
 use Rattle.rows.proofs.Sets.{meets}
 use Rattle.optimum.proofs.Valuing.{tried}
 
@@ -119,53 +118,45 @@ module _ (rows costs : List ℕ) (s free : ℕ) (unmet : Open rows s free) where
       let not-s : digit b s ≡ 1 → ⊥ = no-common x s b (unmet k lt .0) in-x in
       no-common x u b z in-x (omega (arith, d b, digit-lt b s))
 
-  module _ (cost : ℕ) (is : cost ≡ costOf costs s) (d : Duals) (h : Dual rows costs d) where
-    dear-beyond : (t u : ℕ) → CoverBetween rows s free t → Minus t s u → cost + d .sum + costOf (d .left) u ≤ costOf costs t
-    unfolding CoverBetween Between
-    dear-beyond t u r m =
-        omega (arith, cost-apart costs t s u (by-members s t (r .1 .0)) m, h .under u (meets-beyond t u r m))
+  -- a cover that costs less than limit has beyond s only what is worthy
+  keeps-cheap : (cost limit kept : ℕ) → cost ≡ costOf costs s → Worthy rows costs free (limit - cost) kept → (t : ℕ) → CoverBetween rows s free t
+      → costOf costs t < limit → CoverBetween rows s kept t
+  unfolding CoverBetween Between Minus
+  keeps-cheap cost limit kept is w t r lt = (
+    r .0,
+    (
+      r .1 .0,
+      λ b q. ⊎-elim
+          (λ (e : digit b s ≡ 1). omega (arith, digit-or b s kept, digit-lt b kept))
+          (λ (e : digit b s ≡ 1 → ⊥). omega (arith, members u kept inside b (beyond-s b q e), digit-or b s kept, digit-lt b s))
+          (eq? (digit b s) 1),
+    ),
+  )
+    where
+      u : ℕ
+      u = bitXor t (bitAnd t s)
 
-    pub cut-dual : (limit : ℕ) → limit ≤ cost + d .sum → Planned rows costs s free cost limit Cut
-    unfolding Planned
-    cut-dual limit le t r = omega (arith, dear-beyond t (bitXor t (bitAnd t s)) r (minus-bits t s))
+      beyond : (c : ℕ) → digit c u ≡ digit c t - digit c s
+      beyond = minus-bits t s
 
-    -- a cover that costs less than limit has only members that have less than the rest left
-    keeps-cheap : (limit kept : ℕ) → Trimmed (d .left) free (limit - (cost + d .sum)) kept → (t : ℕ) → CoverBetween rows s free t
-        → costOf costs t < limit → CoverBetween rows s kept t
-    unfolding CoverBetween Between Minus
-    keeps-cheap limit kept w t r lt = (
-      r .0,
-      (
-        r .1 .0,
-        λ b q. ⊎-elim
-            (λ (e : digit b s ≡ 1). omega (arith, digit-or b s kept, digit-lt b kept))
-            (λ (e : digit b s ≡ 1 → ⊥). ⊎-elim
-            (λ (f : digit b kept ≡ 1). omega (arith, digit-or b s kept, digit-lt b s))
-            (λ (f : digit b kept ≡ 1 → ⊥). absurd (too-dear b q e f))
-            (eq? (digit b kept) 1))
-            (eq? (digit b s) 1),
-      ),
-    )
-      where
-        u : ℕ
-        u = bitXor t (bitAnd t s)
+      beyond-s : (b : ℕ) → digit b t ≡ 1 → (digit b s ≡ 1 → ⊥) → digit b u ≡ 1
+      beyond-s b q e = omega (arith, beyond b, digit-lt b s)
 
-        beyond : (c : ℕ) → digit c u ≡ digit c t - digit c s
-        beyond = minus-bits t s
+      in-free : Part u free
+      in-free = by-members u free (λ b q. omega (arith, beyond b, r .1 .1 b (omega (arith, beyond b, digit-lt b t)), digit-or b s free, digit-lt b s, digit-lt b free, digit-lt b t))
 
-        too-dear : (b : ℕ) → digit b t ≡ 1 → (digit b s ≡ 1 → ⊥) → (digit b kept ≡ 1 → ⊥) → ⊥
-        too-dear b q e f =
-            let in-free : digit b free ≡ 1 = omega (arith, r .1 .1 b q, digit-or b s free, digit-lt b s, digit-lt b free) in
-            let in-u : digit b u ≡ 1 = omega (arith, beyond b, digit-lt b s) in
-            let one : Part (2 ^ b) u = by-members (2 ^ b) u (λ c m. subst (λ (j : ℕ). digit j u ≡ 1) (sym (pow-only c b m)) in-u) in
-            omega (arith, w .dear b in-free f, cost-part (d .left) (2 ^ b) u one, dear-beyond t u r (minus-bits t s))
+      cheap : costOf costs u < limit - cost
+      cheap = omega (arith, cost-apart costs t s u (by-members s t (r .1 .0)) (minus-bits t s))
 
-    pub worth-thinned : (limit kept useful : ℕ) → Trimmed (d .left) free (limit - (cost + d .sum)) kept → Thinned rows costs s kept useful
-        → Worth rows costs s free limit useful
-    worth-thinned limit kept useful w v = record {
-      part = part-trans useful kept free (v .part) (w .part);
-      swap = λ t r lt. v .swap t (keeps-cheap limit kept w t r lt);
-    }
+      inside : Part u kept
+      inside = w .keeps u (meets-beyond t u r (minus-bits t s)) in-free cheap
+
+  pub worth-thinned : (cost limit kept useful : ℕ) → cost ≡ costOf costs s → Worthy rows costs free (limit - cost) kept → Thinned rows costs s kept useful
+      → Worth rows costs s free limit useful
+  worth-thinned cost limit kept useful is w v = record {
+    part = part-trans useful kept free (v .part) (w .part);
+    swap = λ t r lt. v .swap t (keeps-cheap cost limit kept is w t r lt);
+  }
 
 -- ---- what is done next
 

@@ -32,13 +32,7 @@ pub fn decide(rows: &[u64], costs: &[u16], s: u64, free: u64, cost: u64, limit: 
     if limit <= cost + disjoint::bound(rows, costs, s, free) {
         return Next::Cut;
     }
-    let duals = ascent::ascent(rows, costs);
-    let sum = cost + duals.sum;
-    if limit <= sum {
-        return Next::Cut;
-    }
-    let left = duals.left;
-    let kept = ascent::trim(&left, free, limit - sum);
+    let kept = ascent::worthy(rows, costs, free, limit - cost);
     let useful = dominance::thin(rows, costs, s, kept);
     let choice = branching::choose(rows, costs, s, useful);
     match choice {

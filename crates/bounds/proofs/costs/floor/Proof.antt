@@ -26,16 +26,19 @@ minus-requires : tie.Need-minus-requires Inv-loop μ-loop
 minus-requires c κs = search needs
 
 loop-less : tie.Need-loop-less Inv-loop μ-loop
-loop-less c = minus-member-less _ _ _ (c .before .before .before .lowest .ensures) (c .minus .ensures)
+loop-less c = minus-member-less _ _ _ (c .before .before .before .before .lowest .ensures) (c .minus .ensures)
 
 loop-again : tie.Need-loop-again Inv-loop μ-loop
 loop-again c =
-    floored-more _ _ _ _ _ _ _ _ (c .before .before .before .before .before .loop .inv) (c .before .before .before .lowest .ensures) (c .before .before .price .ensures) (c .minus .ensures)
-    (⊎-elim (λ w. omega (arith, w .0 .taken, w .1)) (λ w. omega (arith, w .1)) (c .before .if1 .came))
-    (⊎-elim (λ w. omega (arith, w .1)) (λ w. omega (arith, w .0 .left, w .1)) (c .before .if1 .came))
+    floored-more _ _ _ _ _ _ _ _ (c .before .before .before .before .before .before .loop .inv) (c .before .before .before .before .lowest .ensures) (c .before .before .before .price .ensures) (c .minus .ensures)
+    (⊎-elim (λ w. omega (arith, w .0 .taken, w .1)) (λ w. omega (arith, w .1)) (c .before .if2 .came))
+    (⊎-elim (λ w. omega (arith, w .1)) (λ w. omega (arith, w .0 .left, w .1)) (c .before .if2 .came))
 
 returns : tie.Need-returns Inv-loop μ-loop
-returns c = floored-all _ _ _ _ (c .loop-test .left) (c .before .loop .inv)
+returns c = record { under = λ b m. omega arith; small = omega arith }
+
+returns-2 : tie.Need-returns-2 Inv-loop μ-loop
+returns-2 c = floored-all _ _ _ _ (c .loop-test .left) (c .before .loop .inv)
 
 pub floor-spec : {M : Type 1} → statement M
 floor-spec =
@@ -46,7 +49,8 @@ floor-spec =
     loop-holds
     lowest-requires
     price-requires
+    returns
     minus-requires
     loop-less
     loop-again
-    returns)
+    returns-2)
