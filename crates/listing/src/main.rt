@@ -121,7 +121,8 @@ fn show_parity() {
     }
 }
 
-fn main() {
+// Case a, from the start and from a set on.
+fn show_pages() {
     show(
         b"case a: ",
         2,
@@ -154,6 +155,10 @@ fn main() {
         ],
         23,
     );
+}
+
+// Cases c and d: the same terms in another order, and another table.
+fn show_others() {
     show(
         b"case c: ",
         2,
@@ -186,6 +191,10 @@ fn main() {
         ],
         0,
     );
+}
+
+// Cases e to h, of one input and one output.
+fn show_small() {
     show(b"case e: ", 1, 1, &[0u8, 0], &[0u8, 0], &[], 0);
     show(b"case f: ", 1, 1, &[1u8, 1], &[0u8, 0], &[0x010000u32], 0);
     show(
@@ -198,6 +207,10 @@ fn main() {
         0,
     );
     show(b"case h: ", 1, 1, &[1u8, 1], &[0u8, 0], &[], 0);
+}
+
+// Calls that are refused before a term is looked at, and for a word's top byte.
+fn show_refused() {
     show(
         b"a row too short: ",
         2,
@@ -223,5 +236,12 @@ fn main() {
         &[0x1010001u32],
         0,
     );
+}
+
+fn main() {
+    show_pages();
+    show_others();
+    show_small();
+    show_refused();
     show_parity();
 }
