@@ -1,7 +1,7 @@
 /*
  * Times the proved engine (cover_job) against the plain C one (baseline_job), and compares the answers.
  *
- *   bench [-t SECONDS] [-r ROUNDS] [-m] FOLDER
+ *   bench [-t SECONDS] [-r ROUNDS] [-m] [-c FILE] FOLDER
  *
  * For every *.job of the folder: the whole job, then each of its L and C commands. A command is timed by
  * a job of its own, the commands before the first query, the one query and E, less the time of that job
@@ -11,7 +11,8 @@
  * The search nodes of a page and of C are counted in the plain C engine, which searches as the proved one.
  *
  * Then the stack that a call of cover_job uses, over all jobs, and the time of a job of 32,768 bytes that
- * asks L with count 0 all along. -m prints the jobs as a markdown table.
+ * asks L with count 0 all along. -m prints the jobs as a markdown table, -c writes the times to a file as CSV.
+ * The last line sums up.
  *
  * The exit status is 1 where answers differ or the stack use reaches 256 KiB, 2 where nothing was run.
  */
@@ -61,6 +62,7 @@ typedef struct {
 
 static int limit = 20, rounds = 3;
 static bool markdown = false;
+static FILE *csv = NULL;
 static Run *shared[2];
 static uint8_t *stack;
 
@@ -158,7 +160,7 @@ static void measure(int which, const Job *job, const Job *bare)
     Run *run = shared[which];
     run->ended = false;
     run->best = run->bare = 1e30;
-    fflush(stdout);
+    fflush(NULL);
     pid_t child = fork();
     if (child == 0) {
         alarm((unsigned)limit);
@@ -264,7 +266,7 @@ static size_t stack_use(Job *job, bool *ended)
     size_t deepest = 0;
     memset(stack, PAINT, STACK);
     stack_job = job;
-    fflush(stdout);
+    fflush(NULL);
     pid_t child = fork();
     if (child == 0) {
         pthread_attr_t attr;
@@ -475,6 +477,18 @@ static void print_row(const char *name, const Pair *whole, const Pair *page, con
            nodes(least));
 }
 
+/* Two lines of CSV; no seconds where the engine did not end, no nodes where the plain C engine did not. */
+static void write_csv(const char *name, const char *what, const Pair *p)
+{
+    static const char *const programs[2] = {"engine", "plain C"};
+    for (int e = 0; e < 2 && csv; e++) {
+        fprintf(csv, "%s,%s,%s,", name, what, programs[e]);
+        if (p->ended[e])
+            fprintf(csv, "%.9f", p->time[e]);
+        fprintf(csv, ",%d,%s\n", limit, p->ended[1] ? nodes(p) : "");
+    }
+}
+
 /* Keeps the longest time of each engine and the most nodes. */
 static void keep_most(Pair *most, const Pair *p)
 {
@@ -522,6 +536,9 @@ static void run_job(Job *job, const char *name)
     run_queries(job, name, &page, &least);
     if (markdown)
         print_row(name, &whole, &page, &least);
+    write_csv(name, "job", &whole);
+    write_csv(name, "page", &page);
+    write_csv(name, "C", &least);
 }
 
 static void run_stack(Job *job, const char *name)
@@ -560,24 +577,25 @@ static double median_ratio(void)
     return both % 2 ? ratios[both / 2] : (ratios[both / 2 - 1] + ratios[both / 2]) / 2;
 }
 
+/* The longest page or C of the engine, and by which job, and how many did not end. */
+static void print_worst(const char *what, const Worst *w, int open)
+{
+    printf("%s %s (%s)", what, shown(w->time, w->name != NULL), w->name ? w->name : "none");
+    if (open)
+        printf(", %d did not end", open);
+}
+
 static void print_longest(int other)
 {
-    printf("%s tables, engine:", other ? "other" : "natural");
-    for (int kind = 0; kind < 2; kind++) {
-        const Worst *w = &worst[other][kind];
-        printf("%s longest %s %s (%s)", kind ? ";" : "", kind ? "C" : "page", shown(w->time, w->name != NULL),
-               w->name ? w->name : "none");
-        if (open_queries[other][kind])
-            printf(", %d did not end", open_queries[other][kind]);
-    }
+    printf("%s tables, engine: ", other ? "other" : "natural");
+    print_worst("longest page", &worst[other][0], open_queries[other][0]);
+    print_worst("; longest C", &worst[other][1], open_queries[other][1]);
     printf("\n");
 }
 
-static void print_summary(int lists, const Pair *slowest)
+static void print_details(int lists, const Pair *slowest)
 {
-    printf("\nsummary: ratio engine/baseline worst %.2f (%s), median %.2f; %d jobs, %d ended within %d s; answers %s\n",
-           worst_ratio.time, worst_ratio.name ? worst_ratio.name : "none", median_ratio(), (int)count, ended, limit,
-           differ ? "DIFFER" : "are the same");
+    printf("\n");
     print_longest(0);
     print_longest(1);
     printf("stack: %d bytes at most (%s), limit %d", (int)deepest, deepest_name, STACK_LIMIT);
@@ -587,14 +605,42 @@ static void print_summary(int lists, const Pair *slowest)
            shown(slowest->time[0], slowest->ended[0]), shown(slowest->time[1], slowest->ended[1]));
 }
 
+static void print_summary(void)
+{
+    printf("summary: %d jobs, %d ended within %d s, answers %s; ratio engine/baseline worst %.2f (%s), median %.2f; ",
+           (int)count, ended, limit, differ ? "DIFFER" : "are the same", worst_ratio.time,
+           worst_ratio.name ? worst_ratio.name : "none", median_ratio());
+    for (int kind = 0; kind < 2; kind++) {
+        const Worst *a = &worst[0][kind], *b = &worst[1][kind];
+        bool first = b->name == NULL || (a->name != NULL && a->time > b->time);
+        print_worst(kind ? "; slowest C" : "slowest page", first ? a : b, open_queries[0][kind] + open_queries[1][kind]);
+    }
+    printf("\n");
+}
+
+static bool open_csv(const char *path)
+{
+    csv = fopen(path, "w");
+    if (!csv) {
+        perror(path);
+        return false;
+    }
+    fprintf(csv, "job,query,program,seconds,limit,nodes\n");
+    return true;
+}
+
 static bool read_options(int argc, char **argv)
 {
     int option;
-    while ((option = getopt(argc, argv, "t:r:m")) != -1)
+    while ((option = getopt(argc, argv, "t:r:mc:")) != -1)
         switch (option) {
         case 't': limit = atoi(optarg); break;
         case 'r': rounds = atoi(optarg); break;
         case 'm': markdown = true; break;
+        case 'c':
+            if (open_csv(optarg))
+                break;
+            exit(2);
         default: return false;
         }
     return optind + 1 == argc && limit > 0 && rounds > 0;
@@ -612,7 +658,7 @@ static void run_folder(const char *folder, void (*run)(Job *, const char *))
 int main(int argc, char **argv)
 {
     if (!read_options(argc, argv)) {
-        fprintf(stderr, "usage: bench [-t SECONDS] [-r ROUNDS] [-m] FOLDER\n");
+        fprintf(stderr, "usage: bench [-t SECONDS] [-r ROUNDS] [-m] [-c FILE] FOLDER\n");
         return 2;
     }
     if (!read_names(argv[optind]))
@@ -627,6 +673,9 @@ int main(int argc, char **argv)
     run_folder(argv[optind], run_job);
     run_folder(argv[optind], run_stack);
     int lists = run_long_jobs(&slowest);
-    print_summary(lists, &slowest);
+    print_details(lists, &slowest);
+    print_summary();
+    if (csv && fclose(csv) != 0)
+        perror("bench");
     return differ || deepest >= STACK_LIMIT ? 1 : 0;
 }
