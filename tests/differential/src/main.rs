@@ -1,13 +1,15 @@
-//! Compares the engine with a brute-force reference on generated jobs.
+//! Compares the engine with a brute-force reference on generated jobs, and checks the stored ones.
 //!
 //! Arguments, all optional: seed, count of jobs, and the word `trace` to print each job before
 //! the engine gets it (for an engine that does not come back).
 
 mod engine;
+mod exact;
 mod generate;
 mod reference;
 mod rng;
 mod selftest;
+mod stored;
 
 use generate::Case;
 use reference::Outcome;
@@ -48,7 +50,8 @@ fn main() -> ExitCode {
         trace: words.iter().any(|word| word == "trace"),
     };
     println!("seed {seed}, {count} jobs");
-    let failed = self_tests(&mut rng, &mut run) || jobs(&mut rng, &mut run, count);
+    let failed =
+        self_tests(&mut rng, &mut run) || jobs(&mut rng, &mut run, count) || stored_jobs(&mut run);
     let failures = if failed { 1 } else { after_jobs(&run) };
     println!("{} passed, {failures} failed", run.passed);
     ExitCode::from(u8::from(failures > 0))
@@ -95,6 +98,29 @@ fn jobs(rng: &mut Rng, run: &mut Run, count: usize) -> bool {
         run.skipped
     );
     !same
+}
+
+/// The stored jobs; true when an answer is wrong or there is no job.
+fn stored_jobs(run: &mut Run) -> bool {
+    let start = Instant::now();
+    let tally = match stored::run() {
+        Ok(tally) => tally,
+        Err(wrong) => {
+            println!("MISMATCH: {wrong}");
+            return true;
+        }
+    };
+    println!(
+        "{} stored jobs in {:.1} s: {} checked fully, {} more with pages of few sets, {} in part: {}",
+        tally.jobs(),
+        start.elapsed().as_secs_f64(),
+        tally.full,
+        tally.few_sets,
+        tally.part.len(),
+        tally.part.join(", ")
+    );
+    run.passed += tally.jobs();
+    false
 }
 
 /// One comparison; false when the engine differs.

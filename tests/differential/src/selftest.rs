@@ -1,5 +1,6 @@
 //! The paper's example and marked cases, held against the reference before any engine is asked.
 
+use crate::exact::Search;
 use crate::generate::{draft, page, row, term, Draft};
 use crate::reference::{self, Covers, Table, Term, LONGEST};
 use crate::rng::Rng;
@@ -242,7 +243,36 @@ fn two_ways(checks: &mut Checks, rng: &mut Rng) {
             "covers two ways",
             reference::covers_by_products(&sums) == Some(by_subsets.clone()),
         );
+        second_search(checks, rng, &candidates, &sums, &by_subsets);
         let all = reference::irredundant_covers(&table, &candidates);
         checks.check("covers", all == Covers::All(by_subsets));
     }
+}
+
+/// The search for the stored jobs finds the same covers, from any start, and the same cheapest.
+fn second_search(
+    checks: &mut Checks,
+    rng: &mut Rng,
+    candidates: &[Term],
+    sums: &[u64],
+    covers: &[u64],
+) {
+    let costs: Vec<u64> = candidates.iter().map(|t| t.cost()).collect();
+    let mut search = Search::new(sums, &costs);
+    let start = rng.below(1 << candidates.len()) as u64;
+    let most = rng.below(6);
+    let above = covers.iter().copied().filter(|&set| set >= start);
+    let expected: Vec<u64> = above.take(most).collect();
+    let found = [
+        search.covers_from(0, usize::MAX),
+        search.covers_from(start, most),
+    ];
+    let [Ok(all), Ok(some)] = found else {
+        return checks.check("the second search is given up", false);
+    };
+    checks.check("covers by the second search", all == covers);
+    checks.check("a page by the second search", some == expected);
+    let (_, first) = reference::cheapest(candidates, covers);
+    let right = |&set: &u64| matches!(search.is_cheapest(set), Ok(yes) if yes == (set == first));
+    checks.check("cheapest by the second search", covers.iter().all(right));
 }

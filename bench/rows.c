@@ -1,0 +1,128 @@
+/*
+ * What a job asks, for other solvers, and what the proved engine says to it.
+ *
+ *   rows matrix JOB      the costs of the candidates, then the reduced rows, each as the candidates that it has
+ *   rows page JOB        the time of a first page of 255 sets, whether more stand above, then the sets
+ *   rows cheapest JOB    the time of C, its cost and its set
+ *
+ * A time is the best of many runs of a job with the one query, less the best of that job without it. Sets are
+ * printed as numbers. The exit status is 2 where the job is refused before its queries.
+ */
+#define _GNU_SOURCE
+#include <inttypes.h>
+#include <stdio.h>
+#include <string.h>
+#include <time.h>
+
+#include "baseline.h"
+#include "covers.h"
+
+enum { LONGEST = 32768 };
+
+static uint8_t job[LONGEST], answers[LONGEST];
+static size_t job_len;
+
+static double now(void)
+{
+    struct timespec t;
+    clock_gettime(CLOCK_MONOTONIC, &t);
+    return (double)t.tv_sec + 1e-9 * (double)t.tv_nsec;
+}
+
+static size_t width(uint8_t command)
+{
+    switch (command) {
+    case 'I': return 2;
+    case 'R': case 'T': return 3;
+    default: return 0;
+    }
+}
+
+/* The job up to its first L, C or E. */
+static size_t head_of(void)
+{
+    size_t at = 0;
+    while (at < job_len && !strchr("LCE", job[at]))
+        at += 1 + width(job[at]);
+    return at < job_len ? at : job_len;
+}
+
+static uint64_t number_at(const uint8_t *bytes, size_t count)
+{
+    uint64_t x = 0;
+    while (count > 0)
+        x = x << 8 | bytes[--count];
+    return x;
+}
+
+static double timed(size_t len, uint64_t *outcome)
+{
+    double start = now();
+    *outcome = cover_job(job, len, answers, LONGEST);
+    return now() - start;
+}
+
+/* Puts the query and E behind the job's head and runs it; the answer to the query stands at *at. */
+static double ask(const uint8_t *query, size_t len, size_t *at)
+{
+    uint64_t outcome;
+    double best = 1e30, bare = 1e30, spent = 0;
+    size_t head = head_of();
+    for (int i = 0; i < 1000 && spent < 0.1; i++) {
+        job[head] = 'E';
+        double took = timed(head + 1, &outcome);
+        bare = took < bare ? took : bare;
+        *at = (outcome & 0xffff) - 1;
+        memcpy(job + head, query, len);
+        job[head + len] = 'E';
+        took = timed(head + len + 1, &outcome);
+        best = took < best ? took : best;
+        spent += took;
+    }
+    return best > bare ? best - bare : 0;
+}
+
+static int print_matrix(void)
+{
+    static BaselineMatrix m;
+    if (baseline_matrix(job, job_len, &m) != 0)
+        return 2;
+    for (size_t i = 0; i < m.candidate_count; i++)
+        printf("%s%d", i ? " " : "", m.costs[i]);
+    printf("\n");
+    for (size_t i = 0; i < m.row_count; i++)
+        printf("%" PRIu64 "\n", m.rows[i]);
+    return 0;
+}
+
+static int print_page(void)
+{
+    size_t at;
+    double time = ask((const uint8_t[10]){'L', [9] = 255}, 10, &at);
+    printf("%.9f\n%d\n", time, answers[at + 2]);
+    for (size_t i = 0; i < answers[at + 1]; i++)
+        printf("%" PRIu64 "\n", number_at(answers + at + 3 + 8 * i, 8));
+    return 0;
+}
+
+static int print_cheapest(void)
+{
+    size_t at;
+    double time = ask((const uint8_t[]){'C'}, 1, &at);
+    printf("%.9f\n%" PRIu64 "\n%" PRIu64 "\n", time, number_at(answers + at + 1, 2), number_at(answers + at + 3, 8));
+    return 0;
+}
+
+int main(int argc, char **argv)
+{
+    FILE *f = argc == 3 ? fopen(argv[2], "rb") : NULL;
+    if (!f) {
+        fprintf(stderr, "usage: rows matrix|page|cheapest JOB\n");
+        return 2;
+    }
+    job_len = fread(job, 1, LONGEST - 16, f);
+    fclose(f);
+    if (strcmp(argv[1], "matrix") == 0)
+        return print_matrix();
+    return strcmp(argv[1], "page") == 0 ? print_page() : print_cheapest();
+}
