@@ -1,11 +1,11 @@
--- `table::presence::vertex_held` meets its contract. The invariant: each on cell passed is held. Assumes nothing.
+-- `incidence::presence::vertex_held` meets its contract. The invariant: each on cell passed is held. Assumes nothing.
 use Prim.Native.Nat.{_-_}
 use mathlib.Core.Logic.{⊎-elim}
 use borrow.Author.Needs.{needs}
-use Rattle.table.specs.Rows.{cellHeld}
-use Rattle.table.proofs.Coverage.{Passed, passed-none, passed-next, all-pass, one-fails, cell-held, cell-not-on, cell-not-held}
-use Rattle.table.proofs.presence.vertex_held.Statement.{statement}
-use Rattle.table.proofs.presence.vertex_held.Tie as tie
+use Rattle.incidence.specs.Rows.{cellHeld}
+use Rattle.incidence.proofs.Coverage.{Passed, passed-none, passed-next, all-pass, one-fails, cell-held, cell-not-on, cell-not-held}
+use Rattle.incidence.proofs.presence.vertex_held.Statement.{statement}
+use Rattle.incidence.proofs.presence.vertex_held.Tie as tie
 
 abbrev Inv-loop : tie.InvT-loop
 Inv-loop on cubes m driving j₀ j = Passed (cellHeld on cubes driving) j

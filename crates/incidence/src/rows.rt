@@ -8,7 +8,7 @@ ghost use mathlib.Core.Bool.{cond};
 ghost use Prim.Native.Nat.{_≤_, _<_};
 ghost use lib.ListN.{length, take};
 ghost use Rattle.model.specs.Sets.{rowOf};
-ghost use Rattle.table.specs.Rows.{hasVertex, drivesOutput, Driving, Appends, cellRow, vertexRows, AllRows};
+ghost use Rattle.incidence.specs.Rows.{hasVertex, drivesOutput, Driving, Appends, cellRow, vertexRows, AllRows};
 use bits::byte;
 use model::Term;
 

@@ -12,10 +12,10 @@ use Rattle.model.specs.Base.{bit, below, filter, join}
 use Rattle.model.specs.Table.{Table, Cell, cell, cells, isOn, onCells, holds}
 use Rattle.model.specs.Sets.{rowOf}
 use Rattle.model.proofs.Lists.{below-e}
 use Rattle.table.specs.Lists.{parts}
-use Rattle.table.specs.Rows.{hasVertex, Driving, Put, Appends, cellRow, vertexRows, AllRows}
+use Rattle.incidence.specs.Rows.{hasVertex, Driving, Put, Appends, cellRow, vertexRows, AllRows}
 use Rattle.table.proofs.Lists.{map-append, filter-append, parts-next}
-use Rattle.table.proofs.Candidates.{cell-row}
+use Rattle.incidence.proofs.Candidates.{cell-row}
 
 -- ---- one row more
 

@@ -1,13 +1,13 @@
--- `table::rows::driving_all` meets its contract. The invariant: the outputs passed have their sets. Assumes nothing.
+-- `incidence::rows::driving_all` meets its contract. The invariant: the outputs passed have their sets. Assumes nothing.
 use Prim.Native.Nat.{_-_, _≤_}
 use native.Mathlib.Omega.{arith}
 use mathlib.Core.Path.{refl}
 use borrow.Author.Needs.{needs}
 use lib.ListN.{take}
-use Rattle.table.specs.Rows.{Driving}
-use Rattle.table.proofs.Candidates.{driving-none, driving-next, driving-end}
-use Rattle.table.proofs.rows.driving_all.Statement.{statement}
-use Rattle.table.proofs.rows.driving_all.Tie as tie
+use Rattle.incidence.specs.Rows.{Driving}
+use Rattle.incidence.proofs.Candidates.{driving-none, driving-next, driving-end}
+use Rattle.incidence.proofs.rows.driving_all.Statement.{statement}
+use Rattle.incidence.proofs.rows.driving_all.Tie as tie
 
 abbrev Inv-loop : tie.InvT-loop
 Inv-loop terms count m sets₀ j₀ sets j = (j ≤ m) × Driving (take count terms) j sets

@@ -1,14 +1,14 @@
--- `table::rows::driving` meets its contract. The invariant: the set has the candidates passed, from k on. Assumes nothing.
+-- `incidence::rows::driving` meets its contract. The invariant: the set has the candidates passed, from k on. Assumes nothing.
 use Prim.Native.Nat.{_≤_}
 use native.Mathlib.Omega.{arith}
 use mathlib.Core.Path.{_≡_}
 use borrow.Author.Needs.{needs}
 use lib.ListN.{take, drop}
 use Rattle.model.specs.Sets.{rowOf}
-use Rattle.table.specs.Rows.{drivesOutput}
-use Rattle.table.proofs.Candidates.{row-none, row-room, row-next, row-done, digit-le}
-use Rattle.table.proofs.rows.driving.Statement.{statement}
-use Rattle.table.proofs.rows.driving.Tie as tie
+use Rattle.incidence.specs.Rows.{drivesOutput}
+use Rattle.incidence.proofs.Candidates.{row-none, row-room, row-next, row-done, digit-le}
+use Rattle.incidence.proofs.rows.driving.Statement.{statement}
+use Rattle.incidence.proofs.rows.driving.Tie as tie
 
 abbrev Inv-loop : tie.InvT-loop
 Inv-loop count j terms set₀ k₀ set k = (k ≤ count) × (set ≡ rowOf drivesOutput (drop k (take count terms)) j)

@@ -14,9 +14,9 @@ use Rattle.model.specs.Base.{bit, below, every, some, filter, join, implies}
 use Rattle.model.specs.Table.{Table, Cell, cell, cells, isOn, onCells, holds}
 use Rattle.model.specs.Sets.{rowOf, covers, coverable}
 use Rattle.model.proofs.Lists.{every-e, every-i, below-e, below-i, T-true, T-false}
-use Rattle.table.specs.Rows.{hasVertex, Driving, cellHeld, vertexHeld, TellsCoverable}
+use Rattle.incidence.specs.Rows.{hasVertex, Driving, cellHeld, vertexHeld, TellsCoverable}
 use Rattle.table.proofs.Lists.{filter-append}
-use Rattle.table.proofs.Candidates.{cell-row, held-row}
+use Rattle.incidence.proofs.Candidates.{cell-row, held-row}
 
 -- ---- a test of the numbers below k, one by one
 

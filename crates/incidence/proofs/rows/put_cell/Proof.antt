@@ -1,8 +1,8 @@
--- `table::rows::put_cell` meets its contract. Assumes nothing.
+-- `incidence::rows::put_cell` meets its contract. Assumes nothing.
 use borrow.Author.Needs.{needs}
-use Rattle.table.proofs.Matrix.{cell-on, cell-not-on}
-use Rattle.table.proofs.rows.put_cell.Statement.{statement}
-use Rattle.table.proofs.rows.put_cell.Tie as tie
+use Rattle.incidence.proofs.Matrix.{cell-on, cell-not-on}
+use Rattle.incidence.proofs.rows.put_cell.Statement.{statement}
+use Rattle.incidence.proofs.rows.put_cell.Tie as tie
 
 has-requires : tie.Need-has-requires
 has-requires c κs = search needs

@@ -1,12 +1,12 @@
--- `table::rows::put_vertex` meets its contract. The invariant: the rows of the outputs passed are put. Assumes nothing.
+-- `incidence::rows::put_vertex` meets its contract. The invariant: the rows of the outputs passed are put. Assumes nothing.
 use Prim.Native.Nat.{_-_, _≤_}
 use native.Mathlib.Omega.{arith}
 use mathlib.Core.Path.{refl}
 use borrow.Author.Needs.{needs}
-use Rattle.table.specs.Rows.{Appends, vertexRows}
-use Rattle.table.proofs.Matrix.{vertex-none, vertex-next, vertex-all}
-use Rattle.table.proofs.rows.put_vertex.Statement.{statement}
-use Rattle.table.proofs.rows.put_vertex.Tie as tie
+use Rattle.incidence.specs.Rows.{Appends, vertexRows}
+use Rattle.incidence.proofs.Matrix.{vertex-none, vertex-next, vertex-all}
+use Rattle.incidence.proofs.rows.put_vertex.Statement.{statement}
+use Rattle.incidence.proofs.rows.put_vertex.Tie as tie
 
 abbrev Inv-loop : tie.InvT-loop
 Inv-loop on cubes m at out₀ driving end₀ j₀ out end j = (j ≤ m) × Appends out₀ at (vertexRows on cubes driving j) j out end

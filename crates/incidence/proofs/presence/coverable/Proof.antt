@@ -1,12 +1,12 @@
--- `table::presence::coverable` meets its contract. The invariant: each on cell of the vertices passed is held. Assumes nothing.
+-- `incidence::presence::coverable` meets its contract. The invariant: each on cell of the vertices passed is held. Assumes nothing.
 use Prim.Native.Nat.{_-_}
 use native.Mathlib.Omega.{arith}
 use borrow.Author.Needs.{needs}
 use lib.ListN.{take}
 use Rattle.bits.proofs.Shifts.{power-le}
-use Rattle.table.proofs.Coverage.{VerticesHeld, held-none, held-next, all-held, one-not-held}
-use Rattle.table.proofs.presence.coverable.Statement.{statement}
-use Rattle.table.proofs.presence.coverable.Tie as tie
+use Rattle.incidence.proofs.Coverage.{VerticesHeld, held-none, held-next, all-held, one-not-held}
+use Rattle.incidence.proofs.presence.coverable.Statement.{statement}
+use Rattle.incidence.proofs.presence.coverable.Tie as tie
 
 abbrev Inv-loop : tie.InvT-loop
 Inv-loop on terms count n m size driving v₀ v = VerticesHeld on (take count terms) driving m v

@@ -1,14 +1,14 @@
--- `table::rows::cubes_at` meets its contract. The invariant: the set has the candidates passed, from k on. Assumes nothing.
+-- `incidence::rows::cubes_at` meets its contract. The invariant: the set has the candidates passed, from k on. Assumes nothing.
 use Prim.Native.Nat.{_≤_}
 use native.Mathlib.Omega.{arith}
 use mathlib.Core.Path.{_≡_}
 use borrow.Author.Needs.{needs}
 use lib.ListN.{take, drop}
 use Rattle.model.specs.Sets.{rowOf}
-use Rattle.table.specs.Rows.{hasVertex}
-use Rattle.table.proofs.Candidates.{row-none, row-room, row-next, row-done, digit-le}
-use Rattle.table.proofs.rows.cubes_at.Statement.{statement}
-use Rattle.table.proofs.rows.cubes_at.Tie as tie
+use Rattle.incidence.specs.Rows.{hasVertex}
+use Rattle.incidence.proofs.Candidates.{row-none, row-room, row-next, row-done, digit-le}
+use Rattle.incidence.proofs.rows.cubes_at.Statement.{statement}
+use Rattle.incidence.proofs.rows.cubes_at.Tie as tie
 
 abbrev Inv-loop : tie.InvT-loop
 Inv-loop count v terms set₀ k₀ set k = (k ≤ count) × (set ≡ rowOf hasVertex (drop k (take count terms)) v)

@@ -1,12 +1,12 @@
--- `table::rows::rows` meets its contract. The invariant: the rows of the vertices passed are put. Assumes nothing.
+-- `incidence::rows::rows` meets its contract. The invariant: the rows of the vertices passed are put. Assumes nothing.
 use Prim.Native.Nat.{_-_, _≤_}
 use native.Mathlib.Omega.{arith}
 use borrow.Author.Needs.{needs}
 use lib.ListN.{take}
 use Rattle.bits.proofs.Shifts.{power-le}
-use Rattle.table.proofs.Matrix.{Upto, upto-none, upto-next, rows-all}
-use Rattle.table.proofs.rows.rows.Statement.{statement}
-use Rattle.table.proofs.rows.rows.Tie as tie
+use Rattle.incidence.proofs.Matrix.{Upto, upto-none, upto-next, rows-all}
+use Rattle.incidence.proofs.rows.rows.Statement.{statement}
+use Rattle.incidence.proofs.rows.rows.Tie as tie
 
 abbrev Inv-loop : tie.InvT-loop
 Inv-loop on terms count n m out₀ size driving end₀ v₀ out end v = (v ≤ size) × Upto on (take count terms) driving m v out₀ out end

@@ -16,7 +16,7 @@ use Rattle.model.specs.Base.{some}
 use Rattle.model.specs.Table.{cell, holds}
 use Rattle.model.specs.Sets.{rowOf}
 use Rattle.model.proofs.Matrix.{rowOf-lt}
-use Rattle.table.specs.Rows.{hasVertex, drivesOutput, Driving}
+use Rattle.incidence.specs.Rows.{hasVertex, drivesOutput, Driving}
 
 -- ---- one digit for each candidate, from the last one down
 

@@ -5,7 +5,7 @@
 ghost use mathlib.Core.Path.{_≡_};
 ghost use Prim.Native.Nat.{_≤_};
 ghost use lib.ListN.{take};
-ghost use Rattle.table.specs.Rows.{vertexHeld, TellsCoverable};
+ghost use Rattle.incidence.specs.Rows.{vertexHeld, TellsCoverable};
 use crate::rows;
 use bits::byte;
 use model::Term;
