@@ -3,13 +3,10 @@ use Prim.Native.Nat.{ℕ, zero, suc, _+_, _*_, _/_, _%_, _^_, _≤_, _<_}
 use native.Mathlib.Omega.{arith}
 use native.Mathlib.Nat.{one-mul, div-one, pow-suc, pow-succ', div-div-eq-div-mul}
 use mathlib.Core.Path.{_≡_, sym, ap, _∙_}
-use mathlib.Core.Bool.{not}
 use lib.Bits.{bitAnd, bitOr, and-mask, or-step, or-zero-r}
-use lib.Count.{ones, ones-step}
-use lib.Dec.{T, eqb, lit<}
+use lib.Dec.{eqb, lit<}
 use lib.Pow.{pow-mono, shl-exact}
 use Rattle.model.specs.Base.{bit}
-use Rattle.model.proofs.Bits.{bit0-n}
 use Rattle.model.proofs.Cubes.{setBit}
 
 -- ---- powers
@@ -41,15 +38,3 @@ set-is-or (suc i) s =
     let l : 2 ^ suc i % 2 ≡ 0 = omega (arith, pow-suc 2 i) in
     let r : bitOr (s / 2) (2 ^ suc i / 2) ≡ setBit i (s / 2) = ap (bitOr (s / 2)) h ∙ set-is-or i (s / 2) in
     or-step s (2 ^ suc i) ∙ omega arith
-
--- a new bit is one more
-pub ones-set : (i s : ℕ) → T (not (bit i s)) → ones (setBit i s) ≡ suc (ones s)
-unfolding setBit
-ones-set zero s n =
-    let h : (s / 2 * 2 + 1) / 2 ≡ s / 2 = omega arith in
-    let e : ones ((s / 2 * 2 + 1) / 2) ≡ ones (s / 2) = ap ones h in
-    omega (arith, ones-step (s / 2 * 2 + 1), ones-step s, bit0-n s n)
-ones-set (suc i) s n =
-    let h : (setBit i (s / 2) * 2 + s % 2) / 2 ≡ setBit i (s / 2) = omega arith in
-    let e : ones ((setBit i (s / 2) * 2 + s % 2) / 2) ≡ ones (setBit i (s / 2)) = ap ones h in
-    omega (arith, ones-step (setBit i (s / 2) * 2 + s % 2), ones-step s, ones-set i (s / 2) n)

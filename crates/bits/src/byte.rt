@@ -1,7 +1,7 @@
 // Bits of a byte.
 ghost use mathlib.Core.Path.{_≡_};
 ghost use Prim.Native.Nat.{_^_, _≤_, _<_};
-ghost use lib.Bits.{bitAnd, bitOr};
+ghost use lib.Bits.{bitAnd};
 ghost use lib.Dec.{eqb};
 ghost use Rattle.model.specs.Base.{bit};
 
@@ -34,14 +34,6 @@ pub fn has(s: u8, i: u8) -> bool
     ensures { λ r. ⌜ r ≡ bit i s ⌝ }
 {
     (s >> i) & 1 == 1
-}
-
-// s with bit i.
-pub fn with_bit(s: u8, i: u8) -> u8
-    requires { ⌜ i < 8 ⌝ }
-    ensures { λ r. ⌜ r ≡ bitOr s (2 ^ i) ⌝ }
-{
-    s | power(i)
 }
 
 // Whether each bit of a is one of b.

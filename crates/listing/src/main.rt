@@ -1,5 +1,6 @@
 // Runs the library call on the paper's cases and on odd parity of 7 inputs, and prints what it finds.
 ghost use Prim.Native.Nat.{_≤_};
+use incidence::rows;
 use libc::STDOUT_FILENO;
 use library::Listed;
 use model::Term;
@@ -7,7 +8,6 @@ use optimum::cheapest;
 use optimum::cheapest::Optimum;
 use table::cells;
 use table::prime_list;
-use table::rows;
 
 // A number and a space.
 fn print_number(x: u64) {

@@ -23,8 +23,8 @@ use Rattle.rows.specs.Order.{SameRows}
 use Rattle.search.specs.Lister.{rowCovers}
 use Rattle.rows.proofs.Ordering.{ordered-irredundants, ordered-cheapest, ordered-coverable}
 use Rattle.table.specs.Lists.{Filled}
-use Rattle.table.specs.Rows.{OnBytes, Put, AllRows, TellsCoverable}
-use Rattle.table.proofs.Uses.{put-front, some-on-table}
+use Rattle.incidence.specs.Rows.{OnBytes, Put, AllRows, TellsCoverable}
+use Rattle.incidence.proofs.Uses.{put-front, some-on-table}
 use Rattle.codec.specs.Kinds.{isQueryKind}
 use Rattle.problem.specs.declared.Problem.{Problem}
 use Rattle.problem.specs.Problems.{Sized, Holds}

@@ -11,10 +11,10 @@ ghost use Rattle.problem.specs.Matrix.{TellsCovered, Prepares, Refreshed
 use crate::Problem;
 use codec::kinds;
 use codec::kinds::Kind;
+use incidence::presence;
 use model::Term;
 use rows::order;
 use rows::reduction;
-use table::presence;
 
 // Whether each on cell is held by a candidate: 12 does not apply.
 pub fn is_covered(p: Problem) -> bool
@@ -37,7 +37,7 @@ pub fn prepare(p: Problem, out: &mut [u64]) -> usize
     let terms = p.terms;
     let count = p.count;
     let mut all = [0u64; 2048];
-    let n = table::rows::rows(&on, terms, count, p.n, p.m, &mut all);
+    let n = incidence::rows::rows(&on, terms, count, p.n, p.m, &mut all);
     let r = reduction::reduce(&all[..n], out);
     order::by_size(&mut out[..r]);
     r

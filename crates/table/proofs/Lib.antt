@@ -3,7 +3,4 @@ pub mod Halves
 pub mod Legality
 pub mod Literals
 pub mod PrimeLists
-pub mod Candidates
-pub mod Matrix
-pub mod Coverage
 pub mod Uses

@@ -1,24 +1,21 @@
--- The list of primes as it grows; the laws behind `PrimeList::with`, `with_cube`, `with_care` and `primes`.
+-- The list of primes as it grows; the laws behind `PrimeList::with`, `with_care` and `primes`.
 use Prim.Native.Nat.{ℕ, _+_, _^_, _≤_, _<_, min}
 use native.Mathlib.Omega.{arith}
 use mathlib.Core.Path.{_≡_, sym, _∙_, subst, subst⁻¹}
-use mathlib.Core.Bool.{Bool, true, false, and-true, and-false}
+use mathlib.Core.Bool.{Bool, true, and-true, and-false}
 use mathlib.Core.List.{List, [], _∷_, _++_, append-nil, append-assoc}
 use borrow.Author.Tests.{lt-ltb, le-ltb, ltb-true}
-use lib.Bits.{bitAnd}
-use lib.Dec.{T, eqb, eqb-refl, not-T}
+use lib.Dec.{T, eqb, eqb-refl}
 use lib.ListN.{length, set, length-append}
 use Rattle.model.specs.declared.Term.{Term}
 use Rattle.model.specs.Base.{below, filter}
 use Rattle.model.specs.Table.{Table, term}
 use Rattle.model.specs.Primes.{prime, primes, terms}
-use Rattle.model.proofs.Lists.{T-false}
 use Rattle.model.proofs.Cubes.{Formed, legal-formed, prime-e}
 use Rattle.table.specs.declared.prime_list.PrimeList.{PrimeList}
 use Rattle.table.specs.Cubes.{Allowed, PrimeOutputs}
 use Rattle.table.specs.Lists.{upTo}
 use Rattle.table.specs.Primes.{Listed, Extends, ofCube, ofCare, ExtendsByCube, ExtendsByCare, ExtendsByCares, AllPrimes}
-use Rattle.table.proofs.Legality.{within-test}
 use Rattle.table.proofs.Lists.{upTo-split, upTo-next, rest, passes-none, passes-one, first-next, first-full, counts}
 
 -- ---- one term more
@@ -66,14 +63,10 @@ module _ (may : List ℕ) (n care value : ℕ) (a : PrimeList) where
   formed-of : (p : Table) (o : ℕ) → T (prime p (term care value o)) → Formed p (term care value o)
   formed-of p o t = legal-formed p (term care value o) (prime-e p (term care value o) t .0)
 
-  pub cube-outside : (r : Bool) → r ≡ eqb (bitAnd value care) value → r ≡ false → ExtendsByCube may n care value a a
-  cube-outside r e f p h = extends-none a _ (passes-none (prime p) (term care value) (below (2 ^ p .m)) (λ o. T-false {b = prime p (term care value o)} (not-T (prime p (term care value o)) (λ t.
-      subst (λ (b : Bool). T b) (sym e ∙ f) (within-test value care (formed-of p o t .value-in))))))
-
-  pub cube-none : (r : ℕ) → PrimeOutputs may n care value r → r ≡ 0 → ExtendsByCube may n care value a a
+  cube-none : (r : ℕ) → PrimeOutputs may n care value r → r ≡ 0 → ExtendsByCube may n care value a a
   cube-none r k e p h = extends-none a _ (passes-none (prime p) (term care value) (below (2 ^ p .m)) (λ o. k p h o ∙ rw (le-ltb 0 r (omega arith)) (and-false (eqb o r))))
 
-  pub cube-one : (r : ℕ) (b : PrimeList) → PrimeOutputs may n care value r → (r ≡ 0 → ⊥) → Extends a (term care value r ∷ []) b → ExtendsByCube may n care value a b
+  cube-one : (r : ℕ) (b : PrimeList) → PrimeOutputs may n care value r → (r ≡ 0 → ⊥) → Extends a (term care value r ∷ []) b → ExtendsByCube may n care value a b
   cube-one r b k d x p h = subst⁻¹ (λ (l : List Term). Extends a l b) (passes-one (prime p) (term care value) r only (2 ^ p .m) small) x
     where
       only : (o : ℕ) → prime p (term care value o) ≡ eqb o r
@@ -94,11 +87,18 @@ module _ (f : Term → Bool) (part : ℕ → List Term) (k : ℕ) (a b c : Prime
 -- ---- value by value
 
 module _ (may : List ℕ) (n care : ℕ) (a : PrimeList) where
-  pub care-next : (k : ℕ) (b c : PrimeList) → ExtendsByCare may n care k a b → ExtendsByCube may n care k b c → ExtendsByCare may n care (k + 1) a c
+  care-next : (k : ℕ) (b c : PrimeList) → ExtendsByCare may n care k a b → ExtendsByCube may n care k b c → ExtendsByCare may n care (k + 1) a c
   care-next k b c x y p h = part-next (prime p) (ofCube p care) k a b c (x p h) (y p h)
 
-  pub care-full : (k s : ℕ) (b c : PrimeList) → s ≡ 2 ^ n → k < s → ExtendsByCare may n care k a b → ExtendsByCube may n care k b c → c .full ≡ true → ExtendsByCare may n care (2 ^ n) a c
-  care-full k s b c e l x y f p h = part-full (prime p) (ofCube p care) k a b c (x p h) (y p h) (2 ^ n) f (omega arith)
+  -- a value without a prime, and one with
+  pub care-none : (k r : ℕ) (b c : PrimeList) → ExtendsByCare may n care k a b → PrimeOutputs may n care k r → r ≡ 0 → c ≡ b → ExtendsByCare may n care (k + 1) a c
+  care-none k r b c x o z e = subst⁻¹ (ExtendsByCare may n care (k + 1) a) e (care-next k b b x (cube-none may n care k b r o z))
+
+  pub care-one : (k r : ℕ) (b c d : PrimeList) → ExtendsByCare may n care k a b → PrimeOutputs may n care k r → (r ≡ 0 → ⊥) → Extends b (term care k r ∷ []) c → d ≡ c → ExtendsByCare may n care (k + 1) a d
+  care-one k r b c d x o z y e = subst⁻¹ (ExtendsByCare may n care (k + 1) a) e (care-next k b c x (cube-one may n care k b r c o z y))
+
+  pub care-full : (k s r : ℕ) (b c : PrimeList) → s ≡ 2 ^ n → k < s → ExtendsByCare may n care k a b → PrimeOutputs may n care k r → (r ≡ 0 → ⊥) → Extends b (term care k r ∷ []) c → c .full ≡ true → ExtendsByCare may n care (2 ^ n) a c
+  care-full k s r b c e l x o z y f p h = part-full (prime p) (ofCube p care) k a b c (x p h) (cube-one may n care k b r c o z y p h) (2 ^ n) f (omega arith)
 
   pub care-all : (k s : ℕ) (b : PrimeList) → s ≡ 2 ^ n → s ≤ k → k ≤ s → ExtendsByCare may n care k a b → ExtendsByCare may n care (2 ^ n) a b
   care-all k s b e l g x =

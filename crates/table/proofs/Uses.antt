@@ -1,41 +1,32 @@
 -- What a caller has of the contracts.
 --
---     table-bytes, on-bytes     the bytes of table p, as the arrays of a problem hold them, meet what the contracts ask
+--     table-bytes               the bytes of table p, as the arrays of a problem hold them, meet what the contracts ask
 --     whole-list, whole-primes  a list that is not full has all the terms
---     put-front, put-rest       a buffer after `rows`: its first entries are the rows, the others are as before
---     matrix-rows               they are the rows of the covering problem
---     some-table, some-on-table the contracts say something of every array of bytes: a table that it comes from is there
-use Prim.Native.Nat.{ℕ, _^_, _≤_, _<_}
-use native.Mathlib.Omega.{arith}
+--     some-table                the contracts say something of every array of bytes: a table that it comes from is there
+use Prim.Native.Nat.{ℕ, _^_, _<_}
 use mathlib.Core.Path.{_≡_, refl, sym, ap, _∙_, subst, subst⁻¹}
 use mathlib.Core.Bool.{Bool, false, not, _||_}
-use mathlib.Core.List.{List, [], map}
+use mathlib.Core.List.{List, []}
 use borrow.Author.Tests.{ltb-false}
 use lib.Bits.{bitAnd, or-zero-r}
 use lib.Dec.{T, leb, ltb, T-not, not-T, nleb→lt}
-use lib.ListN.{length, take, drop, getD, length-append, length-drop}
-use lib.Seq.{take-all, take-at, drop-at, getD-take}
+use lib.ListN.{length, take, getD}
+use lib.Seq.{take-all, getD-take}
 use Rattle.model.specs.declared.Term.{Term}
 use Rattle.model.specs.Table.{Table}
 use Rattle.model.specs.Primes.{primes}
-use Rattle.model.specs.Sets.{rowOf}
-use Rattle.model.specs.Candidates.{basis, covering}
 use Rattle.model.specs.Library.{badVertex}
 use Rattle.model.proofs.Lists.{or-l, or-r}
 use Rattle.table.specs.declared.prime_list.PrimeList.{PrimeList}
 use Rattle.table.specs.Cubes.{Allowed, TableBytes}
 use Rattle.table.specs.Lists.{Filled}
 use Rattle.table.specs.Primes.{Listed, AllPrimes}
-use Rattle.table.specs.Rows.{OnBytes, Put, AllRows}
 
 -- ---- the bytes of a table
 
 -- the rows of p are the first 2^n entries of an array
-same-byte : (k : ℕ) (xs array : List ℕ) → xs ≡ take k array → (v : ℕ) → v < k → getD array v 0 ≡ getD xs v 0
+pub same-byte : (k : ℕ) (xs array : List ℕ) → xs ≡ take k array → (v : ℕ) → v < k → getD array v 0 ≡ getD xs v 0
 same-byte k xs array e v l = sym (ap (λ (ys : List ℕ). getD ys v 0) e ∙ getD-take k array v 0 l)
-
-pub on-bytes : (p : Table) (n m : ℕ) (on : List ℕ) → p .n ≡ n → p .m ≡ m → p .on ≡ take (2 ^ n) on → OnBytes p n m on
-on-bytes p n m on i j e = record { inputs = i; outputs = j; bytes = same-byte (2 ^ n) (p .on) on e }
 
 -- a row that refusal 8 lets pass has no bit above the outputs
 pub small-bytes : (p : Table) (v : ℕ) → T (not (badVertex p v)) → (getD (p .on) v 0 < 2 ^ p .m) × (getD (p .dc) v 0 < 2 ^ p .m)
@@ -79,27 +70,7 @@ whole-list ts r l e = subst (λ (xs : List Term). Filled 64 xs (r .terms) (r .co
 pub whole-primes : (may : List ℕ) (n : ℕ) (r : PrimeList) → AllPrimes may n r → r .full ≡ false → (p : Table) → Allowed p n may → Filled 64 (primes p) (r .terms) (r .count)
 whole-primes may n r h e p a = whole-list (primes p) r (h p a) e
 
--- ---- rows
-
-module _ (xs old new : List ℕ) (r : ℕ) (p : Put xs old new r) where
-  pub put-front : take r new ≡ xs
-  put-front = ap (take r) (p .same) ∙ take-at xs (drop (length xs) old) r (sym (p .counted))
-
-  pub put-rest : drop r new ≡ drop r old
-  put-rest = ap (drop r) (p .same) ∙ drop-at xs (drop (length xs) old) r (sym (p .counted)) ∙ ap (λ (k : ℕ). drop k old) (sym (p .counted))
-
-  pub put-size : 2048 ≤ length old → length new ≡ length old
-  put-size l = omega (arith, p .counted, p .most, ap length (p .same), length-append xs (drop (length xs) old), length-drop (length xs) old)
-
--- the rows of crate model's `byRows`
-pub matrix-rows : (on : List ℕ) (n m : ℕ) (ts : List Term) (old new : List ℕ) (r : ℕ) → AllRows on n m ts old new r → (p : Table) → OnBytes p n m on
-    → take r new ≡ map (rowOf (covering (basis p ts) .holds) (covering (basis p ts) .cands)) (covering (basis p ts) .points)
-matrix-rows on n m ts old new r h p o = put-front _ old new r (h p o)
-
 -- ---- a table for every array
 
 pub some-table : (may : List ℕ) (n : ℕ) → ((v : ℕ) → v < 2 ^ n → getD may v 0 < 2 ^ 8) → Allowed (record { n = n; m = 8; on = may; dc = [] }) n may
 some-table may n h = record { inputs = refl; on-or-dc = λ v l. sym (or-zero-r (getD may v 0)); outputs = h }
-
-pub some-on-table : (on : List ℕ) (n m : ℕ) → OnBytes (record { n = n; m = m; on = on; dc = [] }) n m on
-some-on-table on n m = record { inputs = refl; outputs = refl; bytes = λ v l. refl }

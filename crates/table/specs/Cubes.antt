@@ -1,5 +1,5 @@
 -- What the contracts on cubes cite.
-use Prim.Native.Nat.{ℕ, _-_, _^_, _≤_, _<_}
+use Prim.Native.Nat.{ℕ, _+_, _-_, _^_, _≤_, _<_}
 use mathlib.Core.Path.{_≡_}
 use mathlib.Core.Bool.{Bool, true, false, not, _&&_}
 use mathlib.Core.List.{List}
@@ -36,15 +36,17 @@ pub record Cube (n care value : ℕ) : Type 0 where
   pub care-lt : care < 2 ^ n
   pub value-in : Within value care
 
--- r is the first of n inputs that care leaves free; n where there is none
-pub record FirstFree (n care r : ℕ) : Type 0 where
-  pub within : r ≤ n
-  pub before : (i : ℕ) → i < r → T (bit i care)
-  pub here : r < n → T (not (bit r care))
+-- free has the inputs of n that care leaves free: together they are all n, each once
+abbrev pub Free : ℕ → ℕ → ℕ → Type 0
+Free n care free = care + free + 1 ≡ 2 ^ n
 
 -- r is what the cube may drive, by every table that may comes from
 abbrev pub Drives : List ℕ → ℕ → ℕ → ℕ → ℕ → Type 0
 Drives may n care value r = (p : Table) → Allowed p n may → r ≡ drives p care value
+
+-- the same of a cube by its free inputs, whatever the inputs of the table are
+abbrev pub DrivesFree : List ℕ → ℕ → ℕ → ℕ → Type 0
+DrivesFree may free value r = (n care : ℕ) → Cube n care value → Free n care free → Drives may n care value r
 
 -- r tells whether t is well-formed (refusal 9 does not apply) in a table of n inputs and m outputs
 abbrev pub TellsFormed : ℕ → ℕ → Term → Bool → Type 0

@@ -1,12 +1,10 @@
-// Cells, cubes and terms of a table, its primes, the rows of its covering matrix, and the cover test.
+// Cells, cubes and terms of a table, and its primes.
 //
 // A table comes as bytes: `on` for each vertex, or `may`, the outputs that are on or don't-care there (`Allowed` of specs/Cubes).
 // Each contract speaks of every table that these bytes come from, and names the definition of crate `model` that the function
 // computes. proofs/Uses has what a caller needs of the contracts.
 pub mod cells;
 pub mod cubes;
-pub mod presence;
 pub mod prime_list;
 pub mod primes;
-pub mod rows;
 pub mod terms;

@@ -1,7 +1,7 @@
 // All primes of a table, by care, then value.
 ghost use mathlib.Core.List.{[], _∷_};
 ghost use Prim.Native.Nat.{_^_, _≤_, _<_};
-ghost use Rattle.table.specs.Primes.{Listed, Extends, ExtendsByCube, ExtendsByCare, AllPrimes};
+ghost use Rattle.table.specs.Primes.{Listed, Extends, ExtendsByCare, AllPrimes};
 use crate::primes;
 use bits::byte;
 use model::Term;
@@ -45,26 +45,6 @@ impl PrimeList {
     }
 }
 
-// The list with the cube's prime behind it, where the cube has one.
-pub fn with_cube(may: &[u8; 256], n: u8, care: u8, value: u8, list: PrimeList) -> PrimeList
-    requires { ⌜ (n ≤ 8) × (care < 2 ^ n) ⌝ }
-    ensures { λ r. ⌜ ExtendsByCube (now (may .entry)) n care value list r ⌝ }
-{
-    if byte::within(value, care) {
-        let outputs = primes::prime_outputs(may, n, care, value);
-        if outputs == 0 {
-            return list;
-        }
-        list.with(Term {
-            care: care,
-            value: value,
-            outputs: outputs,
-        })
-    } else {
-        list
-    }
-}
-
 // The list with the primes of one care behind it, by rising value. It stops where a 65th comes.
 pub fn with_care(may: &[u8; 256], n: u8, care: u8, list: PrimeList) -> PrimeList
     requires { ⌜ (n ≤ 8) × (care < 2 ^ n) ⌝ }
@@ -74,9 +54,16 @@ pub fn with_care(may: &[u8; 256], n: u8, care: u8, list: PrimeList) -> PrimeList
     let mut next = list;
     let mut value: usize = 0;
     while value < size {
-        next = with_cube(may, n, care, value as u8, next);
-        if next.full {
-            return next;
+        let outputs = primes::outputs_at(may, n, care, value as u8);
+        if outputs != 0 {
+            next = next.with(Term {
+                care: care,
+                value: value as u8,
+                outputs: outputs,
+            });
+            if next.full {
+                return next;
+            }
         }
         value += 1;
     }

@@ -1,18 +1,20 @@
 // Which cubes are primes: a prime drives all that its cube may drive, and can drop no literal.
-ghost use Prim.Native.Nat.{_<_};
-ghost use Rattle.table.specs.Cubes.{Cube, TellsDroppable, SomeDroppable, PrimeOutputs};
+ghost use Prim.Native.Nat.{_^_, _≤_, _<_};
+ghost use Rattle.table.specs.Cubes.{Cube, Drives, TellsDroppable, SomeDroppable, PrimeOutputs};
 use crate::cubes;
 use bits::byte;
 
-// Whether input i is a literal of the cube, and the cube without it may still drive the outputs.
+// Whether input i is a literal of the cube, and the cube without it may still drive the outputs. The cube itself may drive them,
+// so only its neighbour across the literal is looked at.
 pub fn droppable(may: &[u8; 256], n: u8, care: u8, value: u8, outputs: u8, i: u8) -> bool
     requires { ⌜ Cube n care value ⌝ }
+    requires { ⌜ Drives (now may) n care value outputs ⌝ }
     requires { ⌜ i < n ⌝ }
     ensures { λ r. ⌜ TellsDroppable (now (may .entry)) n care value outputs i r ⌝ }
 {
     if byte::has(care, i) {
-        let wider = care - byte::power(i);
-        byte::within(outputs, cubes::drives(may, n, wider, value & wider))
+        let across = value ^ byte::power(i);
+        byte::within(outputs, cubes::drives(may, n, care, across))
     } else {
         false
     }
@@ -21,6 +23,7 @@ pub fn droppable(may: &[u8; 256], n: u8, care: u8, value: u8, outputs: u8, i: u8
 // Whether some literal of the cube is droppable. One at a time is enough: a cube with fewer literals may drive less.
 pub fn some_droppable(may: &[u8; 256], n: u8, care: u8, value: u8, outputs: u8) -> bool
     requires { ⌜ Cube n care value ⌝ }
+    requires { ⌜ Drives (now may) n care value outputs ⌝ }
     ensures { λ r. ⌜ SomeDroppable (now (may .entry)) n care value outputs r ⌝ }
 {
     let mut i: u8 = 0;
@@ -46,5 +49,17 @@ pub fn prime_outputs(may: &[u8; 256], n: u8, care: u8, value: u8) -> u8
         0
     } else {
         outputs
+    }
+}
+
+// The same for any value: 0 too where the value has a bit that care has not.
+pub fn outputs_at(may: &[u8; 256], n: u8, care: u8, value: u8) -> u8
+    requires { ⌜ (n ≤ 8) × (care < 2 ^ n) ⌝ }
+    ensures { λ r. ⌜ PrimeOutputs (now (may .entry)) n care value r ⌝ }
+{
+    if byte::within(value, care) {
+        prime_outputs(may, n, care, value)
+    } else {
+        0
     }
 }

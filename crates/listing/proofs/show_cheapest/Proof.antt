@@ -11,7 +11,7 @@ use Rattle.problem.proofs.matrix.costs.Reads as costs-reads
 use Rattle.io.proofs.write_all.Reads as write-all-reads
 use Rattle.listing.proofs.print_number.Reads as print-number-reads
 use Rattle.optimum.proofs.cheapest.cheapest.Reads as cheapest-reads
-use Rattle.table.proofs.rows.rows.Reads as rows-reads
+use Rattle.incidence.proofs.rows.rows.Reads as rows-reads
 
 -- src/main.rt:86:48
 slice-aggregate-rows : tie.Need-slice-aggregate-rows

@@ -5,7 +5,7 @@ use Rattle.problem.proofs.matrix.is_covered.Statement.{statement}
 use Rattle.problem.proofs.matrix.is_covered.Tie as tie
 use Rattle.problem.proofs.matrix.is_covered.Reads as reads
 use Rattle.problem.proofs.matrix.is_covered.Lts as lts
-use Rattle.table.proofs.presence.coverable.Reads as coverable-reads
+use Rattle.incidence.proofs.presence.coverable.Reads as coverable-reads
 
 -- src/matrix.rt:28:5
 coverable-requires : tie.Need-coverable-requires

@@ -11,7 +11,7 @@ use Rattle.problem.proofs.matrix.prepare.Reads as reads
 use Rattle.problem.proofs.matrix.prepare.Lts as lts
 use Rattle.rows.proofs.order.by_size.Reads as by-size-reads
 use Rattle.rows.proofs.reduction.reduce.Reads as reduce-reads
-use Rattle.table.proofs.rows.rows.Reads as rows-reads
+use Rattle.incidence.proofs.rows.rows.Reads as rows-reads
 
 -- src/matrix.rt:41:53
 slice-aggregate-rows : tie.Need-slice-aggregate-rows

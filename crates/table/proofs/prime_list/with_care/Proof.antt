@@ -2,11 +2,12 @@
 use Prim.Native.Nat.{_-_, _≤_}
 use native.Mathlib.Omega.{arith}
 use mathlib.Core.Path.{refl}
+use mathlib.Core.Logic.{⊎-elim}
 use mathlib.Core.List.{[]}
 use borrow.Author.Needs.{needs}
 use Rattle.bits.proofs.Shifts.{power-le}
 use Rattle.table.specs.Primes.{ExtendsByCare}
-use Rattle.table.proofs.PrimeLists.{extends-none, care-next, care-full, care-all}
+use Rattle.table.proofs.PrimeLists.{extends-none, care-none, care-one, care-full, care-all}
 use Rattle.table.proofs.prime_list.with_care.Statement.{statement}
 use Rattle.table.proofs.prime_list.with_care.Tie as tie
 
@@ -22,14 +23,20 @@ bound-requires c κs = c .pre .0
 loop-holds : tie.Need-loop-holds Inv-loop μ-loop
 loop-holds c = (search needs, λ p h. extends-none _ [] refl)
 
-cast-with-cube : tie.Need-cast-with-cube Inv-loop μ-loop
-cast-with-cube c = omega (arith, power-le _ _ (c .before .before .before .pre .0) (c .before .before .bound .ensures))
+cast-outputs-at : tie.Need-cast-outputs-at Inv-loop μ-loop
+cast-outputs-at c = omega (arith, power-le _ _ (c .before .before .before .pre .0) (c .before .before .bound .ensures))
 
-with-cube-requires : tie.Need-with-cube-requires Inv-loop μ-loop
-with-cube-requires c κs = c .before .before .before .pre
+outputs-at-requires : tie.Need-outputs-at-requires Inv-loop μ-loop
+outputs-at-requires c κs = c .before .before .before .pre
+
+cast-t11 : tie.Need-cast-t11 Inv-loop μ-loop
+cast-t11 c = record { fits = omega (arith, power-le _ _ (c .before .before .before .before .before .pre .0) (c .before .before .before .before .bound .ensures)) }
+
+with-requires : tie.Need-with-requires Inv-loop μ-loop
+with-requires c κs = search needs
 
 returns : tie.Need-returns Inv-loop μ-loop
-returns c = care-full _ _ _ _ _ _ _ _ (c .before .before .before .before .bound .ensures) (c .before .before .loop-test .taken) (c .before .before .before .loop .inv .1) (c .before .with-cube .ensures) (c .if1 .taken)
+returns c = care-full _ _ _ _ _ _ _ _ _ (c .before .before .before .before .before .before .bound .ensures) (c .before .before .before .before .loop-test .taken) (c .before .before .before .before .before .loop .inv .1) (c .before .before .before .outputs-at .ensures) (c .before .before .if1 .taken) (c .before .with .ensures) (c .if2 .taken)
 
 add-value : tie.Need-add-value Inv-loop μ-loop
 add-value c = search needs
@@ -38,7 +45,13 @@ loop-less : tie.Need-loop-less Inv-loop μ-loop
 loop-less c = search needs
 
 loop-again : tie.Need-loop-again Inv-loop μ-loop
-loop-again c = (search needs, care-next _ _ _ _ _ _ _ (c .before .before .before .loop .inv .1) (c .before .with-cube .ensures))
+loop-again c = (
+  search needs,
+  ⊎-elim
+      (λ w. care-one _ _ _ _ _ _ _ _ _ (c .before .before .before .loop .inv .1) (c .before .outputs-at .ensures) (w .0 .taken) (w .1 .ensures) (w .3))
+      (λ w. care-none _ _ _ _ _ _ _ _ (c .before .before .before .loop .inv .1) (c .before .outputs-at .ensures) (w .0 .left) (w .1))
+      (c .if1 .came),
+)
 
 returns-2 : tie.Need-returns-2 Inv-loop μ-loop
 returns-2 c = care-all _ _ _ _ _ _ _ (c .before .before .bound .ensures) (c .loop-test .left) (c .before .loop .inv .0) (c .before .loop .inv .1)
@@ -51,8 +64,10 @@ with-care-spec =
     μ-loop
     bound-requires
     loop-holds
-    cast-with-cube
-    with-cube-requires
+    cast-outputs-at
+    outputs-at-requires
+    cast-t11
+    with-requires
     returns
     add-value
     loop-less

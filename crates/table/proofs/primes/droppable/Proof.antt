@@ -1,6 +1,6 @@
 -- `table::primes::droppable` meets its contract. Assumes nothing.
 use borrow.Author.Needs.{needs}
-use Rattle.table.proofs.Literals.{literal-le, wider-cube, droppable-literal, droppable-free}
+use Rattle.table.proofs.Literals.{across-cube, droppable-literal, droppable-free}
 use Rattle.table.proofs.primes.droppable.Statement.{statement}
 use Rattle.table.proofs.primes.droppable.Tie as tie
 
@@ -10,17 +10,14 @@ has-requires c κs = search needs
 power-requires : tie.Need-power-requires
 power-requires c κs = search needs
 
-sub-wider : tie.Need-sub-wider
-sub-wider c = literal-le _ _ _ _ (c .before .before .before .pre .0) _ (c .before .before .has .ensures) _ (c .before .if1 .taken) (c .power .ensures)
-
 drives-requires : tie.Need-drives-requires
-drives-requires c κs = wider-cube _ _ _ _ (c .before .before .before .pre .0) _ (c .before .before .has .ensures) _ (c .before .if1 .taken) (c .power .ensures)
+drives-requires c κs = across-cube _ _ _ _ (c .before .before .before .pre .0) _ (c .before .before .has .ensures) _ (c .before .if1 .taken) (c .power .ensures)
 
 within-requires : tie.Need-within-requires
 within-requires c κs = search needs
 
 returns : tie.Need-returns
-returns c = droppable-literal _ _ _ _ (c .before .before .before .before .before .pre .0) _ (c .before .before .before .before .has .ensures) _ _ _ _ _ (c .before .before .before .if1 .taken) (c .before .before .power .ensures) (c .before .drives .ensures) (c .within .ensures)
+returns c = droppable-literal _ _ _ _ (c .before .before .before .before .before .pre .0) _ (c .before .before .before .before .has .ensures) _ _ _ _ _ (c .before .before .before .if1 .taken) (c .before .before .power .ensures) (c .before .before .before .before .before .pre .1 .0) (c .before .drives .ensures) (c .within .ensures)
 
 returns-2 : tie.Need-returns-2
 returns-2 c = droppable-free _ _ _ _ (c .before .before .pre .0) _ (c .before .has .ensures) _ _ (c .if1 .left)
@@ -28,11 +25,4 @@ returns-2 c = droppable-free _ _ _ _ (c .before .before .pre .0) _ (c .before .h
 pub droppable-spec : {M : Type 1} → statement M
 droppable-spec =
     tie.close
-    (tie.spec
-    has-requires
-    power-requires
-    sub-wider
-    drives-requires
-    within-requires
-    returns
-    returns-2)
+    (tie.spec has-requires power-requires drives-requires within-requires returns returns-2)

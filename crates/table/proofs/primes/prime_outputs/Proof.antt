@@ -11,7 +11,7 @@ returns : tie.Need-returns
 returns c = prime-nothing _ _ _ _ _ (c .before .before .pre) (c .before .drives .ensures) (c .if1 .taken)
 
 some-droppable-requires : tie.Need-some-droppable-requires
-some-droppable-requires c κs = search needs
+some-droppable-requires c κs = (c .before .before .pre, c .before .drives .ensures)
 
 returns-2 : tie.Need-returns-2
 returns-2 c = prime-droppable _ _ _ _ _ (c .before .before .before .before .pre) (c .before .before .before .drives .ensures) _ (c .before .some-droppable .ensures) (c .if2 .taken)

@@ -15,7 +15,7 @@ loop-holds : tie.Need-loop-holds Inv-loop μ-loop
 loop-holds c = none-yet _ _ _ _ _
 
 droppable-requires : tie.Need-droppable-requires Inv-loop μ-loop
-droppable-requires c κs = (c .before .before .pre, c .loop-test .taken)
+droppable-requires c κs = (c .before .before .pre .0, (c .before .before .pre .1, c .loop-test .taken))
 
 returns : tie.Need-returns Inv-loop μ-loop
 returns c = one-droppable _ _ _ _ _ _ _ (c .before .droppable .ensures) (c .if1 .taken)

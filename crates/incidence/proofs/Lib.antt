@@ -1,0 +1,4 @@
+pub mod Candidates
+pub mod Matrix
+pub mod Coverage
+pub mod Uses

@@ -1,0 +1,143 @@
+-- The rows of the covering matrix in a buffer; the laws behind `put_cell`, `put_vertex` and `rows`.
+use Prim.Native.Nat.{ℕ, suc, _+_, _*_, _^_, _≤_, _<_}
+use native.Mathlib.Omega.{arith}
+use mathlib.Core.Path.{_≡_, refl, sym, ap, ap₂, _∙_, subst, subst⁻¹}
+use mathlib.Core.Bool.{Bool, true, false, cond}
+use mathlib.Core.List.{List, [], _∷_, _++_, map, append-nil, append-assoc, List·Memᴰ, List·Memᴰ·head, List·Memᴰ·tail}
+use lib.Bits.{bitAnd}
+use lib.ListN.{length, drop, getD, set, length-append, length-drop, length-set}
+use lib.Seq.{drop-cons, set-at}
+use Rattle.model.specs.declared.Term.{Term}
+use Rattle.model.specs.Base.{bit, below, filter, join}
+use Rattle.model.specs.Table.{Table, Cell, cell, cells, isOn, onCells, holds}
+use Rattle.model.specs.Sets.{rowOf}
+use Rattle.model.proofs.Lists.{below-e}
+use Rattle.table.specs.Lists.{parts}
+use Rattle.incidence.specs.Rows.{hasVertex, Driving, Put, Appends, cellRow, vertexRows, AllRows}
+use Rattle.table.proofs.Lists.{map-append, filter-append, parts-next}
+use Rattle.incidence.proofs.Candidates.{cell-row}
+
+-- ---- one row more
+
+put-next : (xs old a : List ℕ) (at x : ℕ) → at < 2048 → at < length a → Put xs old a at → Put (xs ++ (x ∷ [])) old (set a at x) (at + 1)
+put-next xs old a at x l g p = record { counted = omega (arith, p .counted, n); most = omega arith; same = same }
+  where
+    n : length (xs ++ (x ∷ [])) ≡ length xs + 1
+    n = length-append xs (x ∷ [])
+
+    room : length xs < length old
+    room = omega (arith, p .counted, ap length (p .same), length-append xs (drop (length xs) old), length-drop (length xs) old)
+
+    rest : drop (suc (length xs)) old ≡ drop (length (xs ++ (x ∷ []))) old
+    rest =
+        let e : suc (length xs) ≡ length (xs ++ (x ∷ [])) = omega (arith, n) in
+        ap (λ (k : ℕ). drop k old) e
+
+    same : set a at x ≡ (xs ++ (x ∷ [])) ++ drop (length (xs ++ (x ∷ []))) old
+    same =
+        ap (λ (l : List ℕ). set l at x) (p .same ∙ ap (λ (l : List ℕ). xs ++ l) (drop-cons old (length xs) 0 room))
+        ∙ set-at xs (getD old (length xs) 0) (drop (suc (length xs)) old) x at (sym (p .counted))
+        ∙ ap (λ (l : List ℕ). xs ++ (x ∷ l)) rest
+        ∙ sym (append-assoc xs (x ∷ []) (drop (length (xs ++ (x ∷ []))) old))
+
+-- ---- cell by cell
+
+module _ (on row j : ℕ) (a : List ℕ) (at : ℕ) (b : Bool) (e : b ≡ bit j on) where
+  pub cell-on : at < 2048 → 2048 ≤ length a → b ≡ true → Appends a at (cellRow on row j) 1 (set a at row) (at + 1)
+  unfolding cellRow
+  cell-on l g t = rw (sym e ∙ t) (record { size = length-set a at row; within = omega arith; put = λ ys old p. put-next ys old a at row l (omega arith) p })
+
+  pub cell-not-on : b ≡ false → Appends a at (cellRow on row j) 1 a at
+  unfolding cellRow
+  cell-not-on t = rw (sym e ∙ t) (record { size = refl; within = omega arith; put = λ ys old p. rw append-nil p })
+
+module _ (on cubes : ℕ) (driving : List ℕ) (a : List ℕ) (at : ℕ) where
+  pub vertex-none : Appends a at (vertexRows on cubes driving 0) 0 a at
+  unfolding vertexRows
+  vertex-none = record { size = refl; within = omega arith; put = λ ys old p. rw append-nil p }
+
+  pub vertex-next : (j : ℕ) (b c : List ℕ) (end r x row : ℕ) → x ≡ j → row ≡ bitAnd cubes (getD driving x 0) → Appends a at (vertexRows on cubes driving j) j b end → Appends b end (cellRow on row j) 1 c r → Appends a at (vertexRows on cubes driving (j + 1)) (j + 1) c r
+  unfolding vertexRows
+  vertex-next j b c end r x row e q f g = record {
+    size = g .size ∙ f .size;
+    within = omega (arith, f .within, g .within);
+    put = λ ys old p. subst (λ (l : List ℕ). Put l old c r) (together ys) (g .put (ys ++ vertexRows on cubes driving j) old (f .put ys old p));
+  }
+    where
+      here : cellRow on row j ≡ cellRow on (bitAnd cubes (getD driving j 0)) j
+      here = ap (λ (y : ℕ). cellRow on y j) (q ∙ ap (λ (k : ℕ). bitAnd cubes (getD driving k 0)) e)
+
+      together : (ys : List ℕ) → (ys ++ vertexRows on cubes driving j) ++ cellRow on row j ≡ ys ++ vertexRows on cubes driving (j + 1)
+      together ys =
+          append-assoc ys (vertexRows on cubes driving j) (cellRow on row j)
+          ∙ ap (λ (l : List ℕ). ys ++ l) (ap (λ (l : List ℕ). vertexRows on cubes driving j ++ l) here ∙ sym (parts-next (λ k. cellRow on (bitAnd cubes (getD driving k 0)) k) j))
+
+  pub vertex-all : (j m : ℕ) (b : List ℕ) (r : ℕ) → m ≤ j → j ≤ m → Appends a at (vertexRows on cubes driving j) j b r → Appends a at (vertexRows on cubes driving m) m b r
+  vertex-all j m b r l g f =
+      let e : j ≡ m = omega arith in
+      subst (λ (k : ℕ). Appends a at (vertexRows on cubes driving k) k b r) e f
+
+-- ---- vertex by vertex
+
+module _ (on : List ℕ) (ts : List Term) (driving : List ℕ) (m : ℕ) where
+  -- the rows of vertex v
+  abbrev pub rowsAt : ℕ → List ℕ
+  rowsAt v = vertexRows (getD on v 0) (rowOf hasVertex ts v) driving m
+
+  -- the rows of the vertices below k stand in the buffer, eight at most for each
+  pub record Upto (k : ℕ) (old new : List ℕ) (r : ℕ) : Type 0 where
+    pub size : length new ≡ length old
+    pub within : r ≤ 8 * k
+    pub put : Put (parts rowsAt k) old new r
+
+  pub upto-none : (old : List ℕ) → Upto 0 old old 0
+  upto-none old = record { size = refl; within = omega arith; put = record { counted = refl; most = omega arith; same = refl } }
+
+  pub upto-next : (k : ℕ) (old a b : List ℕ) (at r cubes : ℕ) → m ≤ 8 → cubes ≡ rowOf hasVertex ts k → Upto k old a at → Appends a at (vertexRows (getD on k 0) cubes driving m) m b r → Upto (k + 1) old b r
+  upto-next k old a b at r cubes l e u f = record {
+    size = f .size ∙ u .size;
+    within = omega (arith, u .within, f .within);
+    put = subst⁻¹ (λ (xs : List ℕ). Put xs old b r) (parts-next rowsAt k) (subst (λ (x : ℕ). Put (parts rowsAt k ++ vertexRows (getD on k 0) x driving m) old b r) e (f .put (parts rowsAt k) old (u .put)));
+  }
+
+-- ---- the rows so put are those of the on cells
+
+-- parts that are made of other parts by a filter and a map
+fused : (h : Cell → ℕ) (f : Cell → Bool) (part : ℕ → List Cell) (row : ℕ → List ℕ) (xs : List ℕ) → ((x : ℕ) → List·Memᴰ x xs → row x ≡ map h (filter f (part x))) → join (map row xs) ≡ map h (filter f (join (map part xs)))
+fused h f part row [] e = refl
+fused h f part row (x ∷ xs) e =
+    ap₂ (λ (a b : List ℕ). a ++ b) (e x (List·Memᴰ·head refl)) (fused h f part row xs (λ y m. e y (List·Memᴰ·tail m)))
+    ∙ sym (map-append h (filter f (part x)) (filter f (join (map part xs))))
+    ∙ ap (map h) (sym (filter-append f (part x) (join (map part xs))))
+
+-- the rows of one vertex
+vertex-is : (p : Table) (ts : List Term) (driving : List ℕ) (v : ℕ) (js : List ℕ) → ((j : ℕ) → List·Memᴰ j js → bitAnd (rowOf hasVertex ts v) (getD driving j 0) ≡ rowOf holds ts (cell v j))
+    → join (map (λ j. cellRow (getD (p .on) v 0) (bitAnd (rowOf hasVertex ts v) (getD driving j 0)) j) js) ≡ map (rowOf holds ts) (filter (isOn p) (map (cell v) js))
+unfolding isOn cellRow
+vertex-is p ts driving v [] e = refl
+vertex-is p ts driving v (j ∷ js) e = go (bit j (getD (p .on) v 0)) (vertex-is p ts driving v js (λ i m. e i (List·Memᴰ·tail m)))
+  where
+    others : List Cell
+    others = filter (isOn p) (map (cell v) js)
+
+    behind : List ℕ
+    behind = join (map (λ j. cellRow (getD (p .on) v 0) (bitAnd (rowOf hasVertex ts v) (getD driving j 0)) j) js)
+
+    go : (b : Bool) → behind ≡ map (rowOf holds ts) others
+        → cond b (bitAnd (rowOf hasVertex ts v) (getD driving j 0) ∷ []) [] ++ behind ≡ map (rowOf holds ts) (cond b (cell v j ∷ others) others)
+    go true h = ap₂ (λ (x : ℕ) (l : List ℕ). x ∷ l) (e j (List·Memᴰ·head refl)) h
+    go false h = h
+
+pub rows-all : (on : List ℕ) (ts : List Term) (driving : List ℕ) (n m k s : ℕ) (old new : List ℕ) (r : ℕ) → s ≡ 2 ^ n → Driving ts m driving → s ≤ k → k ≤ s → Upto on ts driving m k old new r → AllRows on n m ts old new r
+unfolding cells onCells vertexRows
+rows-all on ts driving n m k s old new r e d l g u p o =
+    let i : k ≡ 2 ^ p .n = omega (arith, ap (λ (x : ℕ). 2 ^ x) (o .inputs)) in
+    subst (λ (xs : List ℕ). Put xs old new r)
+    (ap (parts (rowsAt on ts driving m)) i ∙ fused (rowOf holds ts) (isOn p) (λ v. map (cell v) (below (p .m))) (rowsAt on ts driving m) (below (2 ^ p .n)) row)
+    (u .put)
+  where
+    row : (v : ℕ) → List·Memᴰ v (below (2 ^ p .n)) → rowsAt on ts driving m v ≡ map (rowOf holds ts) (filter (isOn p) (map (cell v) (below (p .m))))
+    row v q =
+        let b : v < 2 ^ n = subst (λ (x : ℕ). v < 2 ^ x) (o .inputs) (below-e (2 ^ p .n) q) in
+        ap₂ (λ (x y : ℕ). vertexRows x (rowOf hasVertex ts v) driving y) (o .bytes v b) (sym (o .outputs))
+        ∙ vertex-is p ts driving v (below (p .m)) (λ j w. ap (bitAnd (rowOf hasVertex ts v)) (d .sets j (subst (λ (x : ℕ). j < x) (o .outputs) (below-e (p .m) w))) ∙ cell-row ts v j)

@@ -1,0 +1,70 @@
+-- `incidence::rows::rows` meets its contract. The invariant: the rows of the vertices passed are put. Assumes nothing.
+use Prim.Native.Nat.{_-_, _≤_}
+use native.Mathlib.Omega.{arith}
+use borrow.Author.Needs.{needs}
+use lib.ListN.{take}
+use Rattle.bits.proofs.Shifts.{power-le}
+use Rattle.incidence.proofs.Matrix.{Upto, upto-none, upto-next, rows-all}
+use Rattle.incidence.proofs.rows.rows.Statement.{statement}
+use Rattle.incidence.proofs.rows.rows.Tie as tie
+
+abbrev Inv-loop : tie.InvT-loop
+Inv-loop on terms count n m out₀ size driving end₀ v₀ out end v = (v ≤ size) × Upto on (take count terms) driving m v out₀ out end
+
+abbrev μ-loop : tie.MeasureT-loop
+μ-loop on terms count n m out₀ size driving end₀ v₀ out end v = size - v
+
+bound-requires : tie.Need-bound-requires Inv-loop μ-loop
+bound-requires c κs = c .before .pre .1
+
+driving-all-requires : tie.Need-driving-all-requires Inv-loop μ-loop
+driving-all-requires c κs = (c .before .before .pre .0, c .before .before .pre .2)
+
+loop-holds : tie.Need-loop-holds Inv-loop μ-loop
+loop-holds c = (search needs, upto-none _ _ _ _ _)
+
+cast-cubes-at : tie.Need-cast-cubes-at Inv-loop μ-loop
+cast-cubes-at c = omega (arith, power-le _ _ (c .before .before .before .before .before .pre .1) (c .before .before .before .bound .ensures))
+
+cubes-at-requires : tie.Need-cubes-at-requires Inv-loop μ-loop
+cubes-at-requires c κs = c .before .before .before .before .before .pre .0
+
+element-copy-out-put-vertex : tie.Need-element-copy-out-put-vertex Inv-loop μ-loop
+element-copy-out-put-vertex c = omega (arith, power-le _ _ (c .before .before .before .before .before .before .pre .1) (c .before .before .before .before .bound .ensures))
+
+put-vertex-requires : tie.Need-put-vertex-requires Inv-loop μ-loop
+put-vertex-requires c κs = (c .before .before .before .before .before .before .before .before .pre .2, omega (arith, power-le _ _ (c .before .before .before .before .before .before .before .before .pre .1) (c .before .before .before .before .before .before .bound .ensures), c .before .before .before .before .loop .inv .1 .within), omega (arith, c .before .before .before .before .before .before .before .before .pre .3, c .before .before .before .before .loop .inv .1 .size))
+
+add-v : tie.Need-add-v Inv-loop μ-loop
+add-v c = search needs
+
+loop-less : tie.Need-loop-less Inv-loop μ-loop
+loop-less c = search needs
+
+loop-again : tie.Need-loop-again Inv-loop μ-loop
+loop-again c = (search needs, upto-next _ _ _ _ _ _ _ _ _ _ _ (c .before .before .before .before .before .before .before .before .before .before .before .pre .2) (c .before .before .before .before .before .cubes-at .ensures) (c .before .before .before .before .before .before .before .loop .inv .1) (c .before .before .put-vertex .ensures))
+
+same-length : tie.Need-same-length Inv-loop μ-loop
+same-length c = c .before .loop .inv .1 .size
+
+returns : tie.Need-returns Inv-loop μ-loop
+returns c = rows-all _ _ _ _ _ _ _ _ _ _ (c .before .before .before .bound .ensures) (c .before .before .driving-all .ensures) (c .loop-test .left) (c .before .loop .inv .0) (c .before .loop .inv .1)
+
+pub rows-spec : {M : Type 1} → statement M
+rows-spec =
+    tie.close
+    (tie.spec
+    Inv-loop
+    μ-loop
+    bound-requires
+    driving-all-requires
+    loop-holds
+    cast-cubes-at
+    cubes-at-requires
+    element-copy-out-put-vertex
+    put-vertex-requires
+    add-v
+    loop-less
+    loop-again
+    same-length
+    returns)

@@ -1,0 +1,74 @@
+-- What the contracts on the rows of the covering matrix and on the cover test cite.
+use Prim.Native.Nat.{ℕ, _+_, _^_, _≤_, _<_}
+use mathlib.Core.Path.{_≡_}
+use mathlib.Core.Bool.{Bool, cond}
+use mathlib.Core.List.{List, [], _∷_, _++_, map}
+use lib.Bits.{bitAnd}
+use lib.Dec.{ltb}
+use lib.ListN.{length, drop, getD}
+use Rattle.model.specs.declared.Term.{Term}
+use Rattle.model.specs.Base.{bit, below, every, implies}
+use Rattle.model.specs.Table.{Table, inCube, holds, onCells}
+use Rattle.model.specs.Sets.{rowOf, coverable}
+use Rattle.model.specs.Candidates.{basis, covering}
+use Rattle.table.specs.Lists.{parts}
+
+-- on has the on bytes of table p, of n inputs and m outputs
+pub record OnBytes (p : Table) (n m : ℕ) (on : List ℕ) : Type 0 where
+  pub inputs : p .n ≡ n
+  pub outputs : p .m ≡ m
+  pub bytes : (v : ℕ) → v < 2 ^ n → getD on v 0 ≡ getD (p .on) v 0
+
+-- ---- sets of candidates
+
+-- the cube of t contains vertex v, and t drives output j: together, t holds the cell (law `cell-row`)
+abbrev pub hasVertex : Term → ℕ → Bool
+hasVertex t v = inCube (t .care) (t .value) v
+
+abbrev pub drivesOutput : Term → ℕ → Bool
+drivesOutput t j = bit j (t .outputs)
+
+-- an array of 8 has at each output below m the set of the candidates that drive it
+pub record Driving (ts : List Term) (m : ℕ) (driving : List ℕ) : Type 0 where
+  pub size : length driving ≡ 8
+  pub sets : (j : ℕ) → j < m → getD driving j 0 ≡ rowOf drivesOutput ts j
+
+-- ---- rows into a buffer
+
+-- the first r entries of new are xs, the rest is as in old; r is at most the number of cells of the largest table
+pub record Put (xs old new : List ℕ) (r : ℕ) : Type 0 where
+  pub counted : r ≡ length xs
+  pub most : r ≤ 2048
+  pub same : new ≡ xs ++ drop (length xs) old
+
+-- buffer a with at entries becomes b with r: the new ones are xs, at most k
+pub record Appends (a : List ℕ) (at : ℕ) (xs : List ℕ) (k : ℕ) (b : List ℕ) (r : ℕ) : Type 0 where
+  pub size : length b ≡ length a
+  pub within : r ≤ at + k
+  pub put : (ys old : List ℕ) → Put ys old a at → Put (ys ++ xs) old b r
+
+-- the row of one cell, where the cell is on; on is the byte of its vertex
+unfoldable pub cellRow : ℕ → ℕ → ℕ → List ℕ
+cellRow on row j = cond (bit j on) (row ∷ []) []
+
+-- the rows of one vertex: cubes has the candidates whose cube contains it
+unfoldable pub vertexRows : ℕ → ℕ → List ℕ → ℕ → List ℕ
+vertexRows on cubes driving m = parts (λ j. cellRow on (bitAnd cubes (getD driving j 0)) j) m
+
+-- the rows of all on cells, by vertex, then output
+abbrev pub AllRows : List ℕ → ℕ → ℕ → List Term → List ℕ → List ℕ → ℕ → Type 0
+AllRows on n m ts old new r = (p : Table) → OnBytes p n m on → Put (map (rowOf holds ts) (onCells p)) old new r
+
+-- ---- the cover test
+
+-- the cell of one vertex and output j is held by a candidate, where it is on
+unfoldable pub cellHeld : ℕ → ℕ → List ℕ → ℕ → Bool
+cellHeld on cubes driving j = implies (bit j on) (ltb 0 (bitAnd cubes (getD driving j 0)))
+
+-- each on cell of one vertex is held by a candidate
+abbrev pub vertexHeld : ℕ → ℕ → List ℕ → ℕ → Bool
+vertexHeld on cubes driving m = every (cellHeld on cubes driving) (below m)
+
+-- r tells whether each on cell is held by a candidate: refusal 12 does not apply
+abbrev pub TellsCoverable : List ℕ → ℕ → ℕ → List Term → Bool → Type 0
+TellsCoverable on n m ts r = (p : Table) → OnBytes p n m on → r ≡ coverable (covering (basis p ts))
