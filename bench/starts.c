@@ -1,0 +1,117 @@
+/*
+ * Pages of 255 sets from drawn starts: how long the slowest takes.
+ *
+ *   starts COUNT JOB...
+ *
+ * For each job COUNT starts are drawn, of all sizes; the page from a start, and the page behind it, are asked
+ * for in a job of their own. A time is that of one run, the making of the covering matrix in it.
+ */
+#define _GNU_SOURCE
+#include <inttypes.h>
+#include <stdbool.h>
+#include <stdio.h>
+#include <stdlib.h>
+#include <string.h>
+#include <time.h>
+
+#include "covers.h"
+
+enum { LONGEST = 32768, FULL = 255 };
+
+static uint8_t job[LONGEST], answers[LONGEST];
+
+typedef struct {
+    size_t count; /* of sets in the page */
+    uint64_t last;
+    double time;
+} Page;
+
+static double now(void)
+{
+    struct timespec t;
+    clock_gettime(CLOCK_PROCESS_CPUTIME_ID, &t);
+    return (double)t.tv_sec + 1e-9 * (double)t.tv_nsec;
+}
+
+/* xorshift, from the same seed in each run */
+static uint64_t drawn(void)
+{
+    static uint64_t x = 88172645463325252u;
+    x ^= x << 13;
+    x ^= x >> 7;
+    x ^= x << 17;
+    return x;
+}
+
+/* A number of any size, or one with many high bits. */
+static uint64_t start_drawn(unsigned turn)
+{
+    uint64_t x = drawn(), low = x >> drawn() % 64;
+    return turn % 3 == 0 ? x : turn % 3 == 1 ? low : ~low;
+}
+
+/* The bytes up to the first L, C or E. */
+static size_t head_of(size_t len)
+{
+    size_t at = 0;
+    while (at < len && !strchr("LCE", job[at]))
+        at += job[at] == 'I' ? 3 : job[at] == 'R' || job[at] == 'T' ? 4 : 1;
+    return at < len ? at : len;
+}
+
+/* The page's answer is the last but E's one byte, so it is found from behind. */
+static Page page(size_t head, uint64_t start)
+{
+    size_t len = head;
+    job[len++] = 'L';
+    for (int b = 0; b < 8; b++)
+        job[len++] = (uint8_t)(start >> 8 * b);
+    job[len++] = FULL;
+    size_t before = (size_t)(cover_job(job, head, answers, LONGEST) & 0xffff);
+    double begin = now();
+    uint64_t outcome = cover_job(job, len, answers, LONGEST);
+    Page p = {.time = now() - begin};
+    if ((outcome & 0xffff) >= before + 3)
+        p.count = answers[before + 1];
+    for (size_t b = 8; p.count > 0 && b > 0; b--)
+        p.last = p.last << 8 | answers[before + 3 + 8 * (p.count - 1) + b - 1];
+    return p;
+}
+
+static void measure(const char *name, size_t head, unsigned count)
+{
+    double worst = 0, sum = 0;
+    uint64_t at = 0;
+    unsigned pages = 0;
+    for (unsigned turn = 0; turn < count; turn++) {
+        uint64_t start = start_drawn(turn);
+        for (int k = 0; k < 2; k++) {
+            Page p = page(head, start);
+            sum += p.time;
+            pages++;
+            if (p.time > worst) {
+                worst = p.time;
+                at = start;
+            }
+            if (p.count == 0 || p.last == UINT64_MAX)
+                break;
+            start = p.last + 1;
+        }
+    }
+    printf("%10.3f ms  mean %8.3f ms  %4u pages  slowest from %016" PRIx64 "  %s\n", 1e3 * worst, 1e3 * sum / pages, pages, at, name);
+}
+
+int main(int argc, char **argv)
+{
+    for (int a = 2; a < argc; a++) {
+        FILE *f = fopen(argv[a], "rb");
+        if (!f)
+            return 2;
+        size_t len = fread(job, 1, LONGEST - 32, f);
+        fclose(f);
+        const char *name = strrchr(argv[a], '/');
+        measure(name ? name + 1 : argv[a], head_of(len), (unsigned)atoi(argv[1]));
+        fflush(stdout);
+    }
+    return argc < 3 ? 2 : 0;
+}
