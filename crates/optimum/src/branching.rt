@@ -39,14 +39,15 @@ pub fn richest(rows: &[u64], costs: &[u16], s: u64, x: u64) -> u64
     ensures { λ r. ⌜ Member x r ⌝ }
 {
     let mut pick = set::lowest(x);
+    let mut most = gain(rows, s, pick);
     let mut rest = set::minus(x, pick);
     while rest != 0 {
         let m = set::lowest(rest);
         rest = set::minus(rest, m);
-        if gain(rows, s, pick) * costs::price(costs, m)
-            < gain(rows, s, m) * costs::price(costs, pick)
-        {
+        let more = gain(rows, s, m);
+        if most * costs::price(costs, m) < more * costs::price(costs, pick) {
             pick = m;
+            most = more;
         }
     }
     pick
