@@ -3,3 +3,4 @@ pub mod Digits
 pub mod Decide
 pub mod Members
 pub mod Parts
+pub mod Tops

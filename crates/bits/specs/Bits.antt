@@ -1,7 +1,7 @@
 -- What the contracts on bits cite: a number's bits as numbers, and sets as numbers whose bits are the members.
 use mathlib.Core.Path.{_≡_}
 use mathlib.Core.Bool.{Bool, true, false}
-use Prim.Native.Nat.{ℕ, _-_, _/_, _%_, _^_}
+use Prim.Native.Nat.{ℕ, _-_, _/_, _%_, _^_, _≤_}
 use lib.Bits.{bitAnd}
 
 -- r says whether P holds
@@ -29,3 +29,8 @@ Minus a b r = (c : ℕ) → digit c r ≡ digit c a - digit c b
 pub record Member (x m : ℕ) : Type 0 where
   pub single : Single m
   pub part : Part m x
+
+-- m is the member of x that no other exceeds
+pub record Highest (x m : ℕ) : Type 0 where
+  pub member : Member x m
+  pub greatest : (b : ℕ) → digit b x ≡ 1 → 2 ^ b ≤ m

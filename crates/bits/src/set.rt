@@ -2,7 +2,7 @@
 ghost use mathlib.Core.Path.{_≡_};
 ghost use Prim.Native.Nat.{_-_, _^_, _≤_, _<_};
 ghost use Rattle.model.specs.Base.{bit};
-ghost use Rattle.bits.specs.Bits.{Decides, Single, Minus, Member};
+ghost use Rattle.bits.specs.Bits.{Decides, Single, Minus, Member, Highest};
 
 // The set of the one member i: 2^i.
 pub fn power(i: u64) -> u64
@@ -54,4 +54,12 @@ pub fn lowest(x: u64) -> u64
     ensures { λ r. ⌜ Member x r ⌝ }
 {
     minus(x, x - 1)
+}
+
+// The highest member of x.
+pub fn highest(x: u64) -> u64
+    requires { ⌜ 0 < x ⌝ }
+    ensures { λ r. ⌜ Highest x r ⌝ }
+{
+    power((63 - u64::leading_zeros(x)) as u64)
 }

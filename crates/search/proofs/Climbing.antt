@@ -10,12 +10,10 @@ use Rattle.search.specs.declared.lister.Found.{Found}
 use Rattle.search.specs.declared.lister.Found.the-variants.{At, Nothing}
 use Rattle.bits.specs.Bits.{digit}
 use Rattle.rows.specs.Covers.{Irredundant, Node}
+use Rattle.pruning.specs.Pruning.{NoneBetween}
+use Rattle.search.specs.Levels.{top, Hopeful}
 use Rattle.search.specs.Lister.{Among, LeastIn}
 use Rattle.search.proofs.Tree.{has-bit, lacks-bit, in-first, in-second}
-
--- the first multiple of 2^i above at
-unfoldable pub top : ℕ → ℕ → ℕ
-top at i = at / 2 ^ i * 2 ^ i + 2 ^ i
 
 top-le : (at i n : ℕ) → i ≤ n → at < 2 ^ n → top at i ≤ 2 ^ n
 unfolding top
@@ -102,6 +100,13 @@ module _ (rows : List ℕ) (n at i : ℕ) (c : Climbed rows n at i) (lt : i < n)
       aligned = ap (λ (k : ℕ). k % 2 ^ i) f ∙ add-mod-right (at / 2 ^ i * 2 ^ i) (2 ^ i) ∙ mul-mod-left (at / 2 ^ i) (2 ^ i);
       room = omega (arith, after, pow-mono l);
     }
+
+    -- a range without hope
+    pub no-hope : (hope s : ℕ) → Hopeful rows at hope → s ≡ top at i → bitAnd hope m ≡ 0 → NoneBetween rows s (m - 1)
+    unfolding Hopeful
+    no-hope hope s h f w =
+        let r : NoneBetween rows (top at i) (2 ^ i - 1) = h i (lacks-bit i m e at z) (lacks-bit i m e hope w) in
+        subst (λ (k : ℕ). NoneBetween rows k (m - 1)) (sym f) (subst (λ (k : ℕ). NoneBetween rows (top at i) (k - 1)) (sym e) r)
 
     module _ (s : ℕ) (f : s ≡ top at i) (r : Found) (h : LeastIn rows s (s + 2 ^ i) r) where
       here : LeastIn rows at (top at i + 2 ^ i) r

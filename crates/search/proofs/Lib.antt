@@ -1,3 +1,4 @@
 pub mod Tree
 pub mod Climbing
 pub mod Listing
+pub mod Leveling

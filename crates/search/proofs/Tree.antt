@@ -8,7 +8,7 @@ use native.Mathlib.Nat.{mul-assoc, add-mul}
 use native.Mathlib.Decide.{decLt}
 use native.Mathlib.Omega.{arith}
 use lib.Bits.{bitAnd, bitOr}
-use lib.Pow.{split, high}
+use lib.Pow.{split}
 use Rattle.search.specs.declared.lister.Found.{Found}
 use Rattle.search.specs.declared.lister.Found.the-variants.{At, Nothing}
 use Rattle.pruning.specs.declared.Tight.{Tight}
@@ -19,6 +19,7 @@ use Rattle.pruning.specs.Pruning.{IrredundantBetween, Tightened}
 use Rattle.bits.proofs.Digits.{eq?, digit-lt, digit-of-zero, digit-and, digit-or, a-member, pow-here, pow-only}
 use Rattle.bits.proofs.Decide.{true-is-not-false}
 use Rattle.bits.proofs.Members.{and-left, and-right, above, within}
+use Rattle.bits.proofs.Tops.{digit-in}
 use Rattle.rows.proofs.Nodes.{halves}
 
 pub not-zero-pos : {n : ℕ} → (n ≡ 0 → ⊥) → 0 < n
@@ -46,13 +47,6 @@ module _ (j m : ℕ) (e : m ≡ 2 ^ j) where
       (λ (f : digit b m ≡ 1 → ⊥). omega (arith, digit-lt b m)) (eq? (digit b m) 1)
 
 -- ---- bit j of the numbers in the two halves
-
-digit-in : (j k y : ℕ) → k * 2 ^ j ≤ y → y < k * 2 ^ j + 2 ^ j → digit j y ≡ k % 2
-unfolding digit
-digit-in j k y lo hi =
-    let e : y ≡ k * 2 ^ j + (y - k * 2 ^ j) = omega arith in
-    let l : y - k * 2 ^ j < 2 ^ j = omega arith in
-    ap (λ (x : ℕ). x / 2 ^ j % 2) e ∙ ap (λ (x : ℕ). x % 2) (high k j l)
 
 module _ (i s : ℕ) (n : Node i s) (p : 0 < i) where
   -- s is a multiple of both halves

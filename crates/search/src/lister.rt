@@ -4,6 +4,7 @@ ghost use mathlib.Core.Bool.{false};
 ghost use Prim.Native.Nat.{_+_, _^_, _≤_};
 ghost use Rattle.rows.specs.Covers.{Node};
 ghost use Rattle.search.specs.Lister.{LeastIn, Narrowed, rowCovers, sought, advanced, Paged};
+use crate::levels;
 use bits::set;
 use pruning::Tight;
 use rows::covering;
@@ -48,7 +49,7 @@ pub fn least(rows: &[u64], i: u64, s: u64, t: Tight) -> Found
 }
 
 // The least irredundant cover at or above at and below 2^n. From at, each 0 bit of at starts the next higher range of numbers: those
-// with this bit at 1, the bits above as in at, and the bits below free.
+// with this bit at 1, the bits above as in at, and the bits below free. A range without hope is left at a glance.
 pub fn climb(rows: &[u64], n: u64, at: u64) -> Found
     requires { ⌜ n ≤ 64 ⌝ }
     ensures { λ r. ⌜ LeastIn (now (rows .entry)) at (2 ^ n) r ⌝ }
@@ -59,12 +60,13 @@ pub fn climb(rows: &[u64], n: u64, at: u64) -> Found
     if covering::irredundant(rows, at) {
         return Found::At(at);
     }
+    let hope = levels::hopeful(rows, at);
     let mut i: u64 = 0;
     while i < n {
         let m = set::power(i);
         if at & m == 0 {
             let s = at - (at & (m - 1)) + m;
-            let found = least(rows, i, s, pruning::narrow(rows, s, m - 1));
+            let found = least(rows, i, s, levels::glance(rows, hope & m, s, m - 1));
             if let Found::At(x) = found {
                 return Found::At(x);
             }

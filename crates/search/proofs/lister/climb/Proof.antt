@@ -8,15 +8,15 @@ use lib.Bits.{and-le-l}
 use lib.Pow.{pow-pos}
 use Rattle.bits.proofs.Decide.{decides-true, decides-false}
 use Rattle.search.proofs.Tree.{narrowed-node}
-use Rattle.search.proofs.Climbing.{Climbed, starts, out-of-range, at-once, climbed-none, climbed-one, climbed-zero, climbed-found, climbed-all, climb-node}
+use Rattle.search.proofs.Climbing.{Climbed, starts, out-of-range, at-once, climbed-none, climbed-one, climbed-zero, climbed-found, climbed-all, climb-node, no-hope}
 use Rattle.search.proofs.lister.climb.Statement.{statement}
 use Rattle.search.proofs.lister.climb.Tie as tie
 
 abbrev Inv-loop : tie.InvT-loop
-Inv-loop rows n at i₀ i = Climbed rows n at i
+Inv-loop rows n at hope i₀ i = Climbed rows n at i
 
 abbrev μ-loop : tie.MeasureT-loop
-μ-loop rows n at i₀ i = n - i
+μ-loop rows n at hope i₀ i = n - i
 
 low-mask-requires : tie.Need-low-mask-requires Inv-loop μ-loop
 low-mask-requires c κs = search needs
@@ -30,8 +30,11 @@ irredundant-requires c κs = search needs
 returns-2 : tie.Need-returns-2 Inv-loop μ-loop
 returns-2 c = at-once _ _ _ _ (c .before .before .before .low-mask .ensures) (c .before .before .if1 .left) (decides-true _ _ (c .before .irredundant .ensures) (c .if2 .taken))
 
+hopeful-requires : tie.Need-hopeful-requires Inv-loop μ-loop
+hopeful-requires c κs = search needs
+
 loop-holds : tie.Need-loop-holds Inv-loop μ-loop
-loop-holds c = climbed-none _ _ _ _ (c .before .before .before .low-mask .ensures) (c .before .before .if1 .left) (decides-false _ _ (c .before .irredundant .ensures) (c .if2 .left))
+loop-holds c = climbed-none _ _ _ _ (c .before .before .before .before .low-mask .ensures) (c .before .before .before .if1 .left) (decides-false _ _ (c .before .before .irredundant .ensures) (c .before .if2 .left))
 
 power-requires : tie.Need-power-requires Inv-loop μ-loop
 power-requires c κs = search needs
@@ -40,19 +43,19 @@ sub-s : tie.Need-sub-s Inv-loop μ-loop
 sub-s c = omega (arith, c .before .power .ensures, pow-pos (c .before .before .before .loop .i))
 
 sub-s-2 : tie.Need-sub-s-2 Inv-loop μ-loop
-sub-s-2 c = omega (arith, and-le-l (c .before .before .before .before .before .before .before .before .before .args .at) (c .before .power .result - 1))
+sub-s-2 c = omega (arith, and-le-l (c .before .before .before .before .before .before .before .before .before .before .args .at) (c .before .power .result - 1))
 
 add-s : tie.Need-add-s Inv-loop μ-loop
-add-s c = omega (arith, climb-node _ _ _ _ (c .before .before .before .loop .inv) (c .before .before .loop-test .taken) _ (c .before .power .ensures) (c .if3 .taken) _ (c .before .before .before .before .before .before .before .before .before .pre) (starts _ _ _ _ (c .before .before .before .loop .inv) (c .before .before .loop-test .taken) _ (c .before .power .ensures) _ refl) .room)
+add-s c = omega (arith, climb-node _ _ _ _ (c .before .before .before .loop .inv) (c .before .before .loop-test .taken) _ (c .before .power .ensures) (c .if3 .taken) _ (c .before .before .before .before .before .before .before .before .before .before .pre) (starts _ _ _ _ (c .before .before .before .loop .inv) (c .before .before .loop-test .taken) _ (c .before .power .ensures) _ refl) .room)
 
-sub-narrow : tie.Need-sub-narrow Inv-loop μ-loop
-sub-narrow c = omega (arith, c .before .power .ensures, pow-pos (c .before .before .before .loop .i))
+sub-glance : tie.Need-sub-glance Inv-loop μ-loop
+sub-glance c = omega (arith, c .before .power .ensures, pow-pos (c .before .before .before .loop .i))
 
-narrow-requires : tie.Need-narrow-requires Inv-loop μ-loop
-narrow-requires c κs = search needs
+glance-requires : tie.Need-glance-requires Inv-loop μ-loop
+glance-requires c κs = no-hope _ _ _ _ (c .before .before .before .loop .inv) (c .before .before .loop-test .taken) _ (c .before .power .ensures) (c .if3 .taken) _ _ (c .before .before .before .before .hopeful .ensures) (starts _ _ _ _ (c .before .before .before .loop .inv) (c .before .before .loop-test .taken) _ (c .before .power .ensures) _ refl)
 
 least-requires : tie.Need-least-requires Inv-loop μ-loop
-least-requires c κs = (climb-node _ _ _ _ (c .before .before .before .before .loop .inv) (c .before .before .before .loop-test .taken) _ (c .before .before .power .ensures) (c .before .if3 .taken) _ (c .before .before .before .before .before .before .before .before .before .before .pre) (starts _ _ _ _ (c .before .before .before .before .loop .inv) (c .before .before .before .loop-test .taken) _ (c .before .before .power .ensures) _ refl), narrowed-node _ _ _ _ _ (ap (λ (k : ℕ). k - 1) (c .before .before .power .ensures)) (climb-node _ _ _ _ (c .before .before .before .before .loop .inv) (c .before .before .before .loop-test .taken) _ (c .before .before .power .ensures) (c .before .if3 .taken) _ (c .before .before .before .before .before .before .before .before .before .before .pre) (starts _ _ _ _ (c .before .before .before .before .loop .inv) (c .before .before .before .loop-test .taken) _ (c .before .before .power .ensures) _ refl)) (c .narrow .ensures))
+least-requires c κs = (climb-node _ _ _ _ (c .before .before .before .before .loop .inv) (c .before .before .before .loop-test .taken) _ (c .before .before .power .ensures) (c .before .if3 .taken) _ (c .before .before .before .before .before .before .before .before .before .before .before .pre) (starts _ _ _ _ (c .before .before .before .before .loop .inv) (c .before .before .before .loop-test .taken) _ (c .before .before .power .ensures) _ refl), narrowed-node _ _ _ _ _ (ap (λ (k : ℕ). k - 1) (c .before .before .power .ensures)) (climb-node _ _ _ _ (c .before .before .before .before .loop .inv) (c .before .before .before .loop-test .taken) _ (c .before .before .power .ensures) (c .before .if3 .taken) _ (c .before .before .before .before .before .before .before .before .before .before .before .pre) (starts _ _ _ _ (c .before .before .before .before .loop .inv) (c .before .before .before .loop-test .taken) _ (c .before .before .power .ensures) _ refl)) (c .glance .ensures))
 
 enum-known-found : tie.Need-enum-known-found Inv-loop μ-loop
 enum-known-found c = search needs
@@ -85,13 +88,14 @@ climb-spec =
     returns
     irredundant-requires
     returns-2
+    hopeful-requires
     loop-holds
     power-requires
     sub-s
     sub-s-2
     add-s
-    sub-narrow
-    narrow-requires
+    sub-glance
+    glance-requires
     least-requires
     enum-known-found
     returns-3
