@@ -123,3 +123,7 @@ product-fits g p a b =
     let le' : p ≤ 65535 = omega arith in
     let x : g * p ≤ 65535 * 65535 = mul-le-mul le le' in
     omega arith
+
+-- a set's cost fits, and sums of a few
+pub cost-fits : (costs : List ℕ) (s cost : ℕ) → length costs ≤ 64 → ((k : ℕ) → getD costs k 0 < 65536) → cost ≡ costOf costs s → cost < 4194304
+cost-fits costs s cost l lt e = omega (arith, cost-small costs s lt)

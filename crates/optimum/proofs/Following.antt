@@ -6,19 +6,19 @@ use Prim.Native.Nat.{ℕ, _≤_, _<_}
 use native.Mathlib.Decide.{decLe}
 use native.Mathlib.Omega.{arith}
 use lib.Bits.{bitAnd}
-use Rattle.optimum.specs.declared.plan.Next.{Next}
-use Rattle.optimum.specs.declared.plan.Next.the-variants.{Cut, Done, Split, Branch}
+use Rattle.nodes.specs.declared.plan.Next.{Next}
+use Rattle.nodes.specs.declared.plan.Next.the-variants.{Cut, Done, Split, Branch}
 use Rattle.bounds.specs.declared.costs.Best.{Best}
 use Rattle.bits.specs.Bits.{Member}
 use Rattle.rows.specs.Covers.{Cover, Between}
 use Rattle.bounds.specs.Costs.{costOf, CoverBetween}
 use Rattle.bounds.specs.Units.{Unit, Goal}
 use Rattle.optimum.specs.Optimum.{Attained, Valued}
-use Rattle.optimum.specs.Plan.{Worth, Halved, Planned}
+use Rattle.nodes.specs.Plan.{Worth, Halved, Planned}
 use Rattle.bits.proofs.Digits.{digit-lt, digit-or}
 use Rattle.bits.proofs.Parts.{by-members}
 use Rattle.bounds.proofs.Costing.{cost-part}
-use Rattle.optimum.proofs.Thinning.{reached-wider}
+use Rattle.nodes.proofs.Thinning.{reached-wider}
 
 module _ (rows costs : List ℕ) (u s free limit : ℕ) (best : Best) (unit : Unit costs u) (goal : Goal (best .cost) u limit) where
   -- a cover that is below best is below the limit

@@ -1,8 +1,5 @@
 pub mod Valuing
-pub mod Thinning
-pub mod Narrowing
 pub mod Parting
+pub mod Following
 pub mod Pinning
 pub mod Optimality
-pub mod Planning
-pub mod Following

@@ -1,56 +1,22 @@
 -- Free candidates in two parts that no unmet row links: the cheapest choice in one part is right for every choice in the other.
-use mathlib.Core.Path.{_≡_, refl, sym, ap, _∙_, subst}
+use mathlib.Core.Path.{_≡_, refl, sym, ap, _∙_}
 use mathlib.Core.Logic.{_⊎_, inl, inr, ⊎-elim}
 use mathlib.Core.List.{List}
 use Prim.Native.Nat.{ℕ, _+_, _≤_, _<_, min, max}
 use native.Mathlib.Omega.{arith}
-use lib.ListN.{length, getD}
+use lib.ListN.{getD}
 use lib.Bits.{bitAnd, bitOr}
 use Rattle.bounds.specs.declared.costs.Best.{Best}
 use Rattle.bits.specs.Bits.{digit, Part, Minus}
 use Rattle.rows.specs.Covers.{Cover, Between}
 use Rattle.bounds.specs.Costs.{costOf, CoverBetween}
-use Rattle.optimum.specs.Optimum.{Closed, Component, Priced, Attained, Valued}
+use Rattle.optimum.specs.Optimum.{Priced, Attained, Valued}
+use Rattle.nodes.specs.Nodes.{Closed, Component}
 use Rattle.bits.proofs.Digits.{eq?, digit-lt, digit-and, digit-or, digit-ext, digit-of-zero, a-member}
 use Rattle.bits.proofs.Members.{and-left, and-right, and-both}
 use Rattle.rows.proofs.Sets.{cover-more}
-use Rattle.bits.proofs.Parts.{members, by-members, part-self, apart-by, no-common}
+use Rattle.bits.proofs.Parts.{members, apart-by, no-common}
 use Rattle.bounds.proofs.Costing.{cost-join, cost-either, cost-modular}
-
--- ---- closed parts
-
-module _ (rows : List ℕ) (n s free a : ℕ) (h : Closed rows n s free a) where
-  pub closed-met : (bitAnd (getD rows n 0) s ≡ 0 → ⊥) → Closed rows (n + 1) s free a
-  unfolding Closed
-  closed-met d k lt z =
-      ⊎-elim (λ (e : k ≡ n). absurd (d (subst (λ (j : ℕ). bitAnd (getD rows j 0) s ≡ 0) e z))) (λ (e : k ≡ n → ⊥). h k (omega arith) z) (eq? k n)
-
-  pub closed-more : (bitAnd (bitAnd (getD rows n 0) free) a ≡ 0) ⊎ Part (bitAnd (getD rows n 0) free) a → Closed rows (n + 1) s free a
-  unfolding Closed
-  closed-more d k lt z =
-      ⊎-elim
-      (λ (e : k ≡ n). subst (λ (j : ℕ). (bitAnd (bitAnd (getD rows j 0) free) a ≡ 0) ⊎ Part (bitAnd (getD rows j 0) free) a) (sym e) d)
-      (λ (e : k ≡ n → ⊥). h k (omega arith) z) (eq? k n)
-
-pub closed-none : (rows : List ℕ) (s free a : ℕ) → Closed rows 0 s free a
-unfolding Closed
-closed-none rows s free a k lt = absurd (omega arith)
-
-pub closed-all : (rows : List ℕ) (n s free a : ℕ) → n ≡ length rows → Closed rows n s free a → Closed rows (length rows) s free a
-closed-all rows n s free a e h = subst (λ (j : ℕ). Closed rows j s free a) e h
-
--- all of free is closed
-pub component-all : (rows : List ℕ) (s free : ℕ) → Component rows s free free
-unfolding Closed
-component-all rows s free = record {
-  part = part-self free;
-  closed = λ k lt z. inr (by-members (bitAnd (getD rows k 0) free) free (λ b m. and-right b (getD rows k 0) free m));
-}
-
-pub component-grown : (rows : List ℕ) (s free g : ℕ) → Closed rows (length rows) s free (bitAnd free g) → Component rows s free (bitAnd free g)
-component-grown rows s free g h = record { part = by-members (bitAnd free g) free (λ b m. and-left b free g m); closed = h }
-
--- ---- the value
 
 between-bits : (s free t : ℕ) → Between s free t → (c : ℕ) → (digit c s ≤ digit c t) × (digit c t ≤ max (digit c s) (digit c free))
 unfolding Between

@@ -1,2 +1,1 @@
 pub mod Optimum
-pub mod Plan

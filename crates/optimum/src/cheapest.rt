@@ -4,12 +4,12 @@ ghost use lib.ListN.{length};
 ghost use Rattle.bounds.specs.Units.{Unit};
 ghost use Rattle.optimum.specs.Optimum.{Priced, Valued, LeastCost, Cheapest, Optimal};
 use crate::greedy;
-use crate::plan;
-use crate::plan::Next;
 use bits::set;
 use bounds::costs;
 use bounds::costs::Best;
 use bounds::units;
+use nodes::plan;
+use nodes::plan::Next;
 
 // The cheapest cover and its cost, or that there is no cover.
 pub enum Optimum {

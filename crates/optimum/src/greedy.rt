@@ -2,10 +2,10 @@
 ghost use Prim.Native.Nat.{_≤_};
 ghost use lib.ListN.{length};
 ghost use Rattle.optimum.specs.Optimum.{Known};
-use crate::branching;
 use bits::set;
 use bounds::costs;
 use bounds::costs::Best;
+use nodes::branching;
 use rows::covering;
 
 // Candidates of free, the one of most gain per cost at each step, until every row is met or none is left.

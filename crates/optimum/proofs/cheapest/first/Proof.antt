@@ -4,7 +4,7 @@ use native.Mathlib.Omega.{arith}
 use Prim.Native.Nat.{_-_}
 use lib.Pow.{pow-pos}
 use Rattle.rows.proofs.Nodes.{halves}
-use Rattle.optimum.proofs.Valuing.{cost-fits}
+use Rattle.bounds.proofs.Costing.{cost-fits}
 use Rattle.optimum.proofs.Pinning.{left-over, Pinned, pinned-none, pinned-lacks, pinned-with, pinned-without, pinned-all, power-single, best-fits, priced-without}
 use Rattle.optimum.proofs.cheapest.first.Statement.{statement}
 use Rattle.optimum.proofs.cheapest.first.Tie as tie
