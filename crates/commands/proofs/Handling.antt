@@ -20,9 +20,9 @@ use Rattle.table.specs.Lists.{Filled}
 use Rattle.table.specs.Cubes.{MayOf}
 use Rattle.table.specs.Primes.{Listed, AllPrimes}
 use Rattle.table.proofs.Uses.{whole-list}
-use Rattle.codec.specs.declared.writers.Reply.{Reply}
-use Rattle.codec.specs.declared.writers.Reply.the-variants.{Written, TooLong}
-use Rattle.codec.specs.Writers.{Replied}
+use Rattle.answers.specs.declared.writers.Reply.{Reply}
+use Rattle.answers.specs.declared.writers.Reply.the-variants.{Written, TooLong}
+use Rattle.answers.specs.Writers.{Replied}
 use Rattle.problem.specs.declared.Problem.{Problem}
 use Rattle.problem.specs.Problems.{startedWith, rowPut, termPut, candidatesPut, Sized, Holds, Reached}
 use Rattle.problem.specs.Tests.{RowRefusal, TermRefusal}

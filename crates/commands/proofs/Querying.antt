@@ -24,9 +24,9 @@ use Rattle.optimum.specs.declared.cheapest.Optimum.the-variants.{Cover as AtCov
 use Rattle.search.specs.declared.lister.Filled.{Filled}
 use Rattle.search.specs.Lister.{rowCovers, Paged}
 use Rattle.optimum.specs.Optimum.{Optimal}
-use Rattle.codec.specs.declared.writers.Reply.{Reply}
-use Rattle.codec.specs.declared.writers.Reply.the-variants.{Written, TooLong}
-use Rattle.codec.specs.Writers.{Replied}
+use Rattle.answers.specs.declared.writers.Reply.{Reply}
+use Rattle.answers.specs.declared.writers.Reply.the-variants.{Written, TooLong}
+use Rattle.answers.specs.Writers.{Replied}
 use Rattle.problem.specs.declared.Problem.{Problem}
 use Rattle.problem.specs.Problems.{queried, Holds}
 use Rattle.problem.specs.Matrix.{TellsCovered}

@@ -11,8 +11,8 @@ use Rattle.model.specs.Commands.{Context, basisOf, operand, operandTerm, start,
 use Rattle.model.specs.Answers.{Answer, bytesOf, answerFor}
 use Rattle.model.specs.Refusals.{refuse, firstOf, refusalsOf}
 use Rattle.model.specs.Invariants.{Valid}
-use Rattle.codec.specs.declared.writers.Reply.{Reply}
-use Rattle.codec.specs.declared.writers.Reply.the-variants.{Written, TooLong}
+use Rattle.answers.specs.declared.writers.Reply.{Reply}
+use Rattle.answers.specs.declared.writers.Reply.the-variants.{Written, TooLong}
 use Rattle.problem.specs.declared.Problem.{Problem}
 use Rattle.problem.specs.Problems.{queried, Holds}
 use Rattle.problem.specs.Matrix.{RowsOf}

@@ -26,8 +26,8 @@ use Rattle.table.specs.Lists.{Filled}
 use Rattle.table.specs.Cubes.{Allowed, MayOf, TellsFormed, TellsNoOff}
 use Rattle.search.specs.declared.lister.Filled as page
 use Rattle.search.specs.Lister.{rowCovers, Paged}
-use Rattle.codec.specs.Writers.{InFront}
-use Rattle.codec.proofs.Bytes.{one-more, same-long}
+use Rattle.answers.specs.Writers.{InFront}
+use Rattle.answers.proofs.Bytes.{one-more, same-long}
 use Rattle.problem.specs.declared.Problem.{Problem}
 use Rattle.problem.specs.Problems.{Sized, Holds}
 use Rattle.problem.specs.Matrix.{RowsOf, Prepares, TellsCovered}

@@ -17,7 +17,7 @@ use Rattle.model.specs.Library.{unpack, badVertex, refusalsOfWord}
 use Rattle.table.specs.Cubes.{Allowed}
 use Rattle.search.specs.declared.lister.Filled as page
 use Rattle.search.specs.Lister.{Paged}
-use Rattle.codec.specs.Writers.{InFront}
+use Rattle.answers.specs.Writers.{InFront}
 use Rattle.problem.specs.declared.Problem.{Problem}
 use Rattle.problem.specs.Problems.{Holds}
 use Rattle.library.specs.declared.Listed.{Listed}

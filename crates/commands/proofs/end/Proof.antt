@@ -6,7 +6,7 @@ use Rattle.commands.proofs.end.Tie as tie
 use Rattle.commands.proofs.end.Reads as reads
 use Rattle.commands.proofs.end.Lts as lts
 use Rattle.commands.proofs.refused.Reads as refused-reads
-use Rattle.codec.proofs.writers.put_end.Reads as put-end-reads
+use Rattle.answers.proofs.writers.put_end.Reads as put-end-reads
 
 -- src/lib.rt:114:9
 refused-requires : tie.Need-refused-requires

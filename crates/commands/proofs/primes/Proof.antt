@@ -8,7 +8,7 @@ use Rattle.commands.proofs.primes.Reads as reads
 use Rattle.commands.proofs.primes.Lts as lts
 use Rattle.commands.proofs.refused.Reads as refused-reads
 use Rattle.problem.proofs.with_primes.Reads as with-primes-reads
-use Rattle.codec.proofs.writers.put_primes.Reads as put-primes-reads
+use Rattle.answers.proofs.writers.put_primes.Reads as put-primes-reads
 use Rattle.table.proofs.cells.allowed.Reads as allowed-reads
 use Rattle.table.proofs.prime_list.primes.Reads as primes-reads
 

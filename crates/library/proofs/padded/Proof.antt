@@ -3,7 +3,7 @@ use denote.Ref.{now}
 use Prim.Native.Nat.{_-_}
 use native.Mathlib.Omega.{arith}
 use lib.ListN.{length, replicate}
-use Rattle.codec.proofs.Bytes.{none-yet}
+use Rattle.answers.proofs.Bytes.{none-yet}
 use Rattle.library.proofs.Calling.{PaddedBelow, padded-long, padded-next, padded-all}
 use Rattle.library.proofs.padded.Statement.{statement}
 use Rattle.library.proofs.padded.Tie as tie

@@ -1,11 +1,11 @@
--- `codec::writers::put_term` meets its contract.
+-- `answers::writers::put_term` meets its contract.
 use mathlib.Core.List.{[], _∷_}
 use native.Mathlib.Omega.{arith}
 use lib.ListN.{length-set}
-use Rattle.codec.proofs.Bytes.{stored}
+use Rattle.answers.proofs.Bytes.{stored}
 use borrow.Author.Needs.{needs}
-use Rattle.codec.proofs.writers.put_term.Statement.{statement}
-use Rattle.codec.proofs.writers.put_term.Tie as tie
+use Rattle.answers.proofs.writers.put_term.Statement.{statement}
+use Rattle.answers.proofs.writers.put_term.Tie as tie
 
 slice-write-free : tie.Need-slice-write-free
 slice-write-free c = search needs

@@ -1,4 +1,4 @@
--- `codec::writers::put_page` meets its contract.
+-- `answers::writers::put_page` meets its contract.
 use mathlib.Core.Path.{_≡_, refl}
 use mathlib.Core.Bool.{cond}
 use mathlib.Core.List.{List, [], _∷_}
@@ -7,10 +7,10 @@ use native.Mathlib.Omega.{arith}
 use lib.ListN.{length-set}
 use lib.Seq.{length-take-le}
 use Rattle.model.specs.Commands.{low}
-use Rattle.codec.proofs.Bytes.{low-length, blocks-length, same-long, headed-room, headed, written}
+use Rattle.answers.proofs.Bytes.{low-length, blocks-length, same-long, headed-room, headed, written}
 use borrow.Author.Needs.{needs}
-use Rattle.codec.proofs.writers.put_page.Statement.{statement}
-use Rattle.codec.proofs.writers.put_page.Tie as tie
+use Rattle.answers.proofs.writers.put_page.Statement.{statement}
+use Rattle.answers.proofs.writers.put_page.Tie as tie
 
 abbrev Old : tie.Start → List ℕ
 Old c = c .args .free .now

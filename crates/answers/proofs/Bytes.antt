@@ -11,8 +11,8 @@ use borrow.Rule.Slice.PartAt.{part-to-end}
 use borrow.Rule.Slice.PartMut.{putMid, postOf, post-is}
 use Rattle.model.specs.Base.{join}
 use Rattle.model.specs.Commands.{low}
-use Rattle.codec.specs.declared.writers.Reply.the-variants.{Written}
-use Rattle.codec.specs.Writers.{InFront, Replied}
+use Rattle.answers.specs.declared.writers.Reply.the-variants.{Written}
+use Rattle.answers.specs.Writers.{InFront, Replied}
 
 -- ---- bytes in front
 

@@ -1,4 +1,4 @@
--- `codec::writers::put_cheapest` meets its contract.
+-- `answers::writers::put_cheapest` meets its contract.
 use mathlib.Core.List.{List, [], _∷_, _++_}
 use mathlib.Core.Path.{_≡_}
 use Prim.Native.Nat.{ℕ, _-_, _≤_}
@@ -6,11 +6,11 @@ use native.Mathlib.Omega.{arith}
 use lib.ListN.{length, length-set}
 use borrow.Rule.Slice.PartMut.{putMid}
 use Rattle.model.specs.Commands.{low}
-use Rattle.codec.specs.Writers.{InFront}
-use Rattle.codec.proofs.Bytes.{same-long, room-behind, behind, Whole, headed-room, headed, written}
+use Rattle.answers.specs.Writers.{InFront}
+use Rattle.answers.proofs.Bytes.{same-long, room-behind, behind, Whole, headed-room, headed, written}
 use borrow.Author.Needs.{needs}
-use Rattle.codec.proofs.writers.put_cheapest.Statement.{statement}
-use Rattle.codec.proofs.writers.put_cheapest.Tie as tie
+use Rattle.answers.proofs.writers.put_cheapest.Statement.{statement}
+use Rattle.answers.proofs.writers.put_cheapest.Tie as tie
 
 abbrev Old : tie.Start → List ℕ
 Old c = c .args .free .now

@@ -1,11 +1,11 @@
--- `codec::writers::put_terms` meets its contract. The invariant: the blocks of the first i terms stand in front.
+-- `answers::writers::put_terms` meets its contract. The invariant: the blocks of the first i terms stand in front.
 use borrow.Author.Needs.{needs}
-use Rattle.codec.proofs.Bytes.{Blocks, blocks-first, blocks-long, blocks-start, blocks-room, blocks-next, blocks-all}
+use Rattle.answers.proofs.Bytes.{Blocks, blocks-first, blocks-long, blocks-start, blocks-room, blocks-next, blocks-all}
 use Prim.Native.Nat.{_-_}
 use native.Mathlib.Omega.{arith}
 use Rattle.model.specs.Answers.{termBytes}
-use Rattle.codec.proofs.writers.put_terms.Statement.{statement}
-use Rattle.codec.proofs.writers.put_terms.Tie as tie
+use Rattle.answers.proofs.writers.put_terms.Statement.{statement}
+use Rattle.answers.proofs.writers.put_terms.Tie as tie
 
 abbrev Inv-loop : tie.InvT-loop
 Inv-loop free₀ k terms i₀ free i = Blocks termBytes 3 terms k free₀ free i

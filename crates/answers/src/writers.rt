@@ -8,7 +8,7 @@ ghost use lib.ListN.{length, take, drop};
 ghost use Rattle.model.specs.Base.{join};
 ghost use Rattle.model.specs.Commands.{low};
 ghost use Rattle.model.specs.Answers.{Answer, bytesOf, termBytes};
-ghost use Rattle.codec.specs.Writers.{InFront, Replied};
+ghost use Rattle.answers.specs.Writers.{InFront, Replied};
 use model::Term;
 
 // How many bytes an answer has, or that it is longer than the free part.

@@ -1,11 +1,11 @@
--- `codec::writers::put_sets` meets its contract. The invariant: the blocks of the first i sets stand in front.
+-- `answers::writers::put_sets` meets its contract. The invariant: the blocks of the first i sets stand in front.
 use borrow.Author.Needs.{needs}
-use Rattle.codec.proofs.Bytes.{Blocks, blocks-first, blocks-long, blocks-start, blocks-room, blocks-next, blocks-all}
+use Rattle.answers.proofs.Bytes.{Blocks, blocks-first, blocks-long, blocks-start, blocks-room, blocks-next, blocks-all}
 use Prim.Native.Nat.{_-_}
 use native.Mathlib.Omega.{arith}
 use Rattle.model.specs.Commands.{low}
-use Rattle.codec.proofs.writers.put_sets.Statement.{statement}
-use Rattle.codec.proofs.writers.put_sets.Tie as tie
+use Rattle.answers.proofs.writers.put_sets.Statement.{statement}
+use Rattle.answers.proofs.writers.put_sets.Tie as tie
 
 abbrev Inv-loop : tie.InvT-loop
 Inv-loop free₀ sets k i₀ free i = Blocks (low 8) 8 sets k free₀ free i

@@ -1,9 +1,9 @@
--- `codec::writers::put_end` meets its contract.
+-- `answers::writers::put_end` meets its contract.
 use mathlib.Core.List.{[], _∷_}
-use Rattle.codec.proofs.Bytes.{stored, written}
+use Rattle.answers.proofs.Bytes.{stored, written}
 use borrow.Author.Needs.{needs}
-use Rattle.codec.proofs.writers.put_end.Statement.{statement}
-use Rattle.codec.proofs.writers.put_end.Tie as tie
+use Rattle.answers.proofs.writers.put_end.Statement.{statement}
+use Rattle.answers.proofs.writers.put_end.Tie as tie
 
 returns : tie.Need-returns
 returns c = search needs

@@ -1,9 +1,9 @@
--- `codec::writers::put_number` meets its contract. The invariant: i of the w bytes stand in front, and rest has the others.
-use Rattle.codec.proofs.Bytes.{Digits, digits-first, digits-next, digits-long, digits-all}
+-- `answers::writers::put_number` meets its contract. The invariant: i of the w bytes stand in front, and rest has the others.
+use Rattle.answers.proofs.Bytes.{Digits, digits-first, digits-next, digits-long, digits-all}
 use native.Mathlib.Omega.{arith}
 use Prim.Native.Nat.{_-_}
-use Rattle.codec.proofs.writers.put_number.Statement.{statement}
-use Rattle.codec.proofs.writers.put_number.Tie as tie
+use Rattle.answers.proofs.writers.put_number.Statement.{statement}
+use Rattle.answers.proofs.writers.put_number.Tie as tie
 
 abbrev Inv-loop : tie.InvT-loop
 Inv-loop free₀ w x rest₀ i₀ free rest i = Digits w x free₀ rest free i

@@ -1,4 +1,4 @@
--- `codec::writers::put_primes` meets its contract.
+-- `answers::writers::put_primes` meets its contract.
 use mathlib.Core.Path.{refl}
 use mathlib.Core.List.{List, [], _∷_}
 use Prim.Native.Nat.{ℕ, _*_, _≤_}
@@ -6,10 +6,10 @@ use native.Mathlib.Omega.{arith}
 use lib.ListN.{length, length-set}
 use lib.Seq.{length-take-le}
 use Rattle.model.specs.Answers.{termBytes}
-use Rattle.codec.proofs.Bytes.{blocks-length, same-long, headed-room, headed, written}
+use Rattle.answers.proofs.Bytes.{blocks-length, same-long, headed-room, headed, written}
 use borrow.Author.Needs.{needs}
-use Rattle.codec.proofs.writers.put_primes.Statement.{statement}
-use Rattle.codec.proofs.writers.put_primes.Tie as tie
+use Rattle.answers.proofs.writers.put_primes.Statement.{statement}
+use Rattle.answers.proofs.writers.put_primes.Tie as tie
 
 abbrev Old : tie.Start → List ℕ
 Old c = c .args .free .now
