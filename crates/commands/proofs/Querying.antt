@@ -22,7 +22,8 @@ use Rattle.model.proofs.Matrix.{rows-cost}
 use Rattle.optimum.specs.declared.cheapest.Optimum.{Optimum}
 use Rattle.optimum.specs.declared.cheapest.Optimum.the-variants.{Cover as AtCover, Nothing}
 use Rattle.search.specs.declared.lister.Filled.{Filled}
-use Rattle.search.specs.Lister.{rowCovers, Paged}
+use Rattle.rows.specs.Covers.{rowCovers}
+use Rattle.search.specs.Lister.{Paged}
 use Rattle.optimum.specs.Optimum.{Optimal}
 use Rattle.answers.specs.declared.writers.Reply.{Reply}
 use Rattle.answers.specs.declared.writers.Reply.the-variants.{Written, TooLong}

@@ -2,7 +2,7 @@
 ghost use mathlib.Core.Path.{_≡_};
 ghost use Prim.Native.Nat.{_≤_};
 ghost use lib.ListN.{length};
-ghost use Rattle.search.specs.Lister.{rowCovers};
+ghost use Rattle.rows.specs.Covers.{rowCovers};
 ghost use Rattle.answers.specs.Writers.{Replied};
 ghost use Rattle.problem.specs.Problems.{Reached};
 ghost use Rattle.commands.specs.Effects.{repliedAs, pageBytes, HandlesL, HandlesC};

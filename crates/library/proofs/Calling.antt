@@ -25,7 +25,8 @@ use Rattle.model.proofs.Library.{listed-refused}
 use Rattle.table.specs.Lists.{Filled}
 use Rattle.table.specs.Cubes.{Allowed, MayOf, TellsFormed, TellsNoOff}
 use Rattle.search.specs.declared.lister.Filled as page
-use Rattle.search.specs.Lister.{rowCovers, Paged}
+use Rattle.rows.specs.Covers.{rowCovers}
+use Rattle.search.specs.Lister.{Paged}
 use Rattle.answers.specs.Writers.{InFront}
 use Rattle.answers.proofs.Bytes.{one-more, same-long}
 use Rattle.problem.specs.declared.Problem.{Problem}

@@ -20,7 +20,7 @@ use Rattle.model.proofs.Matrix.{irredundants-same, rows-irredundants, rows-chea
 use Rattle.rows.specs.Reduction.{Reduced}
 use Rattle.rows.proofs.Same.{reduced-irredundants, reduced-cheapest, reduced-coverable}
 use Rattle.rows.specs.Order.{SameRows}
-use Rattle.search.specs.Lister.{rowCovers}
+use Rattle.rows.specs.Covers.{rowCovers}
 use Rattle.rows.proofs.Ordering.{ordered-irredundants, ordered-cheapest, ordered-coverable}
 use Rattle.table.specs.Lists.{Filled}
 use Rattle.incidence.specs.Rows.{OnBytes, Put, AllRows, TellsCoverable}

@@ -2,8 +2,9 @@
 use mathlib.Core.Path.{_≡_}
 use mathlib.Core.List.{List}
 use Prim.Native.Nat.{ℕ, _+_, _%_, _^_, _≤_, _<_}
-use lib.ListN.{length, getD}
+use lib.ListN.{length, getD, replicate}
 use lib.Bits.{bitAnd, bitOr}
+use Rattle.model.specs.Sets.{irredundants, ofRows}
 use Rattle.bits.specs.Bits.{digit}
 
 -- every row has a bit of s
@@ -34,3 +35,7 @@ pub record Node (i s : ℕ) : Type 0 where
   pub small : i ≤ 64
   pub aligned : s % 2 ^ i ≡ 0
   pub room : s + 2 ^ i ≤ 2 ^ 64
+
+-- the irredundant covers of rows over n candidates, rising. Costs are nothing to the lister
+unfoldable pub rowCovers : ℕ → List ℕ → List ℕ
+rowCovers n rows = irredundants (ofRows (replicate n 0) rows)

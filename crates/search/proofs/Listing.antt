@@ -21,8 +21,8 @@ use Rattle.model.proofs.Sets.{listed}
 use Rattle.search.specs.declared.lister.Found.{Found}
 use Rattle.search.specs.declared.lister.Found.the-variants.{At, Nothing}
 use Rattle.search.specs.declared.lister.Cursor.{Cursor}
-use Rattle.rows.specs.Covers.{Irredundant}
-use Rattle.search.specs.Lister.{Among, LeastIn, rowCovers, comingTo, atFirst, coming, sought, advanced, Paged}
+use Rattle.rows.specs.Covers.{Irredundant, rowCovers}
+use Rattle.search.specs.Lister.{Among, LeastIn, comingTo, atFirst, coming, sought, advanced, Paged}
 use Rattle.bits.proofs.Decide.{true-is-not-false}
 use Rattle.rows.proofs.Bridge.{irredundant-to, irredundant-from}
 

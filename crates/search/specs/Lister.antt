@@ -4,9 +4,8 @@ use mathlib.Core.Bool.{Bool, true, false, cond}
 use mathlib.Core.List.{List, [], _∷_, _++_}
 use Prim.Native.Nat.{ℕ, _+_, _^_, _≤_, _<_}
 use lib.Dec.{ltb}
-use lib.ListN.{length, drop, replicate}
+use lib.ListN.{length, drop}
 use Rattle.model.specs.Pages.{atOrAbove, page, more}
-use Rattle.model.specs.Sets.{irredundants, ofRows}
 use Rattle.search.specs.declared.lister.Found.{Found}
 use Rattle.search.specs.declared.lister.Found.the-variants.{At, Nothing}
 use Rattle.search.specs.declared.lister.Cursor.{Cursor}
@@ -28,12 +27,6 @@ LeastIn rows lo hi Nothing = (y : ℕ) → Among rows lo hi y → ⊥
 -- each irredundant cover in [s, s + 2^i) lies between t's set and what this can grow to; where t is dead there is none
 unfoldable pub Narrowed : List ℕ → ℕ → ℕ → Tight → Type 0
 Narrowed rows i s t = (y : ℕ) → Among rows s (s + 2 ^ i) y → (t .dead ≡ false) × Between (t .s) (t .free) y
-
--- ---- the irredundant covers as a list
-
--- the irredundant covers of rows over n candidates, rising. Costs are nothing to the lister
-unfoldable pub rowCovers : ℕ → List ℕ → List ℕ
-rowCovers n rows = irredundants (ofRows (replicate n 0) rows)
 
 -- ---- the cursor
 

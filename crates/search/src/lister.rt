@@ -2,8 +2,8 @@
 ghost use mathlib.Core.Path.{_≡_};
 ghost use mathlib.Core.Bool.{false};
 ghost use Prim.Native.Nat.{_+_, _^_, _≤_};
-ghost use Rattle.rows.specs.Covers.{Node};
-ghost use Rattle.search.specs.Lister.{LeastIn, Narrowed, rowCovers, sought, advanced, Paged};
+ghost use Rattle.rows.specs.Covers.{Node, rowCovers};
+ghost use Rattle.search.specs.Lister.{LeastIn, Narrowed, sought, advanced, Paged};
 use crate::levels;
 use bits::set;
 use pruning::Tight;

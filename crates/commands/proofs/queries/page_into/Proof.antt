@@ -1,7 +1,7 @@
 -- `commands::queries::page_into` meets its contract.
 use denote.Ref.{now}
 use native.Mathlib.Omega.{arith}
-use Rattle.search.specs.Lister.{rowCovers}
+use Rattle.rows.specs.Covers.{rowCovers}
 use Rattle.commands.proofs.Querying.{page-within, page-answer}
 use borrow.Author.Needs.{needs}
 use Rattle.commands.proofs.queries.page_into.Statement.{statement}

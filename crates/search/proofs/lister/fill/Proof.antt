@@ -3,7 +3,7 @@ use borrow.Author.Needs.{needs}
 use Prim.Native.Nat.{_-_}
 use native.Mathlib.Omega.{arith}
 use lib.ListN.{length}
-use Rattle.search.specs.Lister.{rowCovers}
+use Rattle.rows.specs.Covers.{rowCovers}
 use Rattle.search.proofs.Listing.{row-covers-rising, row-covers-small, Filling, filling-none, filling-more, filled-over, filled-full}
 use Rattle.search.proofs.lister.fill.Statement.{statement}
 use Rattle.search.proofs.lister.fill.Tie as tie
