@@ -31,6 +31,7 @@
 
 #include "baseline.h"
 #include "covers.h"
+#include "job.h"
 
 enum { LONGEST = 32768, MOST_JOBS = 4096, MOST_QUERIES = 64 };
 enum { STACK = 4 << 20, STACK_LIMIT = 256 << 10, PAINT = 0xa5 };
@@ -66,38 +67,12 @@ static FILE *csv = NULL;
 static Run *shared[2];
 static uint8_t *stack;
 
-static double now(void)
-{
-    struct timespec t;
-    clock_gettime(CLOCK_MONOTONIC, &t);
-    return (double)t.tv_sec + 1e-9 * (double)t.tv_nsec;
-}
-
 /* ---- jobs ---- */
-
-static size_t width(uint8_t command)
-{
-    switch (command) {
-    case 'I': return 2;
-    case 'R': case 'T': return 3;
-    case 'L': return 9;
-    default: return 0;
-    }
-}
 
 static void put(Job *job, const uint8_t *bytes, size_t len)
 {
     memcpy(job->bytes + job->len, bytes, len);
     job->len += len;
-}
-
-/* The part of the job before its first query. */
-static size_t head_of(const Job *job)
-{
-    size_t at = 0;
-    while (at < job->len && job->bytes[at] != 'L' && job->bytes[at] != 'C' && job->bytes[at] != 'E')
-        at += 1 + width(job->bytes[at]);
-    return at < job->len ? at : job->len;
 }
 
 static void read_job(const char *folder, const char *name, Job *job)
@@ -505,7 +480,7 @@ static void keep_most(Pair *most, const Pair *p)
 static void run_queries(const Job *job, const char *name, Pair *page, Pair *least)
 {
     int number = 0;
-    size_t head = head_of(job);
+    size_t head = head_of(job->bytes, job->len);
     for (size_t at = head; at < job->len; at += 1 + width(job->bytes[at])) {
         uint8_t c = job->bytes[at];
         if ((c != 'L' && c != 'C') || at + 1 + width(c) > job->len || ++number > MOST_QUERIES)

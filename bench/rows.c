@@ -16,44 +16,12 @@
 
 #include "baseline.h"
 #include "covers.h"
+#include "job.h"
 
 enum { LONGEST = 32768 };
 
 static uint8_t job[LONGEST], answers[LONGEST];
 static size_t job_len;
-
-static double now(void)
-{
-    struct timespec t;
-    clock_gettime(CLOCK_MONOTONIC, &t);
-    return (double)t.tv_sec + 1e-9 * (double)t.tv_nsec;
-}
-
-static size_t width(uint8_t command)
-{
-    switch (command) {
-    case 'I': return 2;
-    case 'R': case 'T': return 3;
-    default: return 0;
-    }
-}
-
-/* The job up to its first L, C or E. */
-static size_t head_of(void)
-{
-    size_t at = 0;
-    while (at < job_len && !strchr("LCE", job[at]))
-        at += 1 + width(job[at]);
-    return at < job_len ? at : job_len;
-}
-
-static uint64_t number_at(const uint8_t *bytes, size_t count)
-{
-    uint64_t x = 0;
-    while (count > 0)
-        x = x << 8 | bytes[--count];
-    return x;
-}
 
 static double timed(size_t len, uint64_t *outcome)
 {
@@ -67,7 +35,7 @@ static double ask(const uint8_t *query, size_t len, size_t *at)
 {
     uint64_t outcome;
     double best = 1e30, bare = 1e30, spent = 0;
-    size_t head = head_of();
+    size_t head = head_of(job, job_len);
     for (int i = 0; i < 1000 && spent < 0.1; i++) {
         job[head] = 'E';
         double took = timed(head + 1, &outcome);

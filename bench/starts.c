@@ -15,6 +15,7 @@
 #include <time.h>
 
 #include "covers.h"
+#include "job.h"
 
 enum { LONGEST = 32768, FULL = 255 };
 
@@ -25,13 +26,6 @@ typedef struct {
     uint64_t last;
     double time;
 } Page;
-
-static double now(void)
-{
-    struct timespec t;
-    clock_gettime(CLOCK_PROCESS_CPUTIME_ID, &t);
-    return (double)t.tv_sec + 1e-9 * (double)t.tv_nsec;
-}
 
 /* xorshift, from the same seed in each run */
 static uint64_t drawn(void)
@@ -50,16 +44,7 @@ static uint64_t start_drawn(unsigned turn)
     return turn % 3 == 0 ? x : turn % 3 == 1 ? low : ~low;
 }
 
-/* The bytes up to the first L, C or E. */
-static size_t head_of(size_t len)
-{
-    size_t at = 0;
-    while (at < len && !strchr("LCE", job[at]))
-        at += job[at] == 'I' ? 3 : job[at] == 'R' || job[at] == 'T' ? 4 : 1;
-    return at < len ? at : len;
-}
-
-/* The page's answer is the last but E's one byte, so it is found from behind. */
+/* The page from start, asked for behind the commands before the queries; its answer follows theirs. */
 static Page page(size_t head, uint64_t start)
 {
     size_t len = head;
@@ -73,8 +58,8 @@ static Page page(size_t head, uint64_t start)
     Page p = {.time = now() - begin};
     if ((outcome & 0xffff) >= before + 3)
         p.count = answers[before + 1];
-    for (size_t b = 8; p.count > 0 && b > 0; b--)
-        p.last = p.last << 8 | answers[before + 3 + 8 * (p.count - 1) + b - 1];
+    if (p.count > 0)
+        p.last = number_at(answers + before + 3 + 8 * (p.count - 1), 8);
     return p;
 }
 
@@ -110,7 +95,7 @@ int main(int argc, char **argv)
         size_t len = fread(job, 1, LONGEST - 32, f);
         fclose(f);
         const char *name = strrchr(argv[a], '/');
-        measure(name ? name + 1 : argv[a], head_of(len), (unsigned)atoi(argv[1]));
+        measure(name ? name + 1 : argv[a], head_of(job, len), (unsigned)atoi(argv[1]));
         fflush(stdout);
     }
     return argc < 3 ? 2 : 0;
