@@ -66,12 +66,12 @@ pub fn is_allowed(k: Kind, place: u8) -> bool
 {
     match k {
         Kind::I => between(0, place, 0),
-        Kind::R => between(1, place, 1),
-        Kind::T => between(1, place, 2),
-        Kind::P => between(1, place, 1),
-        Kind::L => between(1, place, 3),
-        Kind::C => between(1, place, 3),
-        Kind::E => between(1, place, 3),
+        Kind::R => between(1, place, 2),
+        Kind::T => between(1, place, 3),
+        Kind::P => between(1, place, 2),
+        Kind::L => between(1, place, 4),
+        Kind::C => between(1, place, 4),
+        Kind::E => between(1, place, 4),
         Kind::None => between(1, place, 0),
     }
 }

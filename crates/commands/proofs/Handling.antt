@@ -14,7 +14,8 @@ use Rattle.model.specs.Commands as model
 use Rattle.model.specs.Commands.{Context, operand, problemAfter}
 use Rattle.model.specs.Answers.{Answer, bytesOf, answerFor}
 use Rattle.model.specs.Refusals.{refuse, firstOf, refusalsOf, size, badRow}
-use Rattle.model.proofs.Runs.{refusalsOf-no, first-before, first-behind}
+use Rattle.model.proofs.Runs.{first-before, first-behind}
+use Rattle.model.proofs.Sound.{refusalsOf-no}
 use Rattle.table.specs.declared.prime_list.PrimeList.{PrimeList}
 use Rattle.table.specs.Lists.{Filled}
 use Rattle.table.specs.Cubes.{MayOf}

@@ -14,7 +14,8 @@ use Rattle.model.specs.Table.{term}
 use Rattle.model.specs.Commands as model
 use Rattle.model.specs.Commands.{Context, kindOf, is, width, allowed, number}
 use Rattle.model.specs.Answers.{bytesOf, answer}
-use Rattle.model.specs.Refusals.{Refusal, refuse, firstOf, refusalsOf, refusals, refusal}
+use Rattle.model.specs.Refusals.{Refusal, refuse, firstOf, refusalsOf}
+use Rattle.model.specs.Rules.{refusalsBy, refusalBy, refusal}
 use Rattle.model.specs.Invariants.{Valid}
 use Rattle.model.proofs.Runs.{Numbered, first-before, first-behind}
 use Rattle.model.proofs.Valid.{place-one}
@@ -61,7 +62,7 @@ module _ (p : Problem) (rows job : List ℕ) (at : ℕ) (old : List ℕ) (k : Ki
   early-numbered x = (omega arith, (omega arith, (omega arith, tt)))
 
   pub step-early : (e : Effect) → (n ≡ 0 → ⊥) → e ≡ refusedAs p n → Steps p rows job at old old e
-  unfolding refusal refusals early-list late-list ctx
+  unfolding refusalBy refusalsBy early-list late-list ctx
   step-early e d q s h v f =
       let o : n ≡ refusal (ctx s) = early-here s h ∙ sym (first-before (early-list (ctx s)) (late-list (ctx s)) (λ z. d (early-here s h ∙ z))) in
       rw q record { number = o; refused = λ z. refl; answered = λ z. absurd (d z) }
@@ -69,7 +70,7 @@ module _ (p : Problem) (rows job : List ℕ) (at : ℕ) (old : List ℕ) (k : Ki
   -- behind the early refusals
   module _ (z : n ≡ 0) where
     late-here : (q : model.Problem) → Holds p q → refusal (ctx q) ≡ lateRefusal (ctx q) (kindOf (getD job at 0))
-    unfolding refusal refusals early-list late-list ctx answer
+    unfolding refusalBy refusalsBy early-list late-list ctx answer
     late-here q h = first-behind (early-list (ctx q)) (late-list (ctx q)) (early-numbered (ctx q)) (sym (early-here q h) ∙ z)
 
     pub step-late : (q : model.Problem) → Holds p q → (new : List ℕ) (e : Effect) → Handled (contextAt q job at (length old)) (kindOf (getD job at 0)) old new e → Stepped (contextAt q job at (length old)) old new e

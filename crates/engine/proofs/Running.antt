@@ -15,11 +15,12 @@ use Rattle.model.specs.Base.{join}
 use Rattle.model.specs.Commands as model
 use Rattle.model.specs.Commands.{Kind, Context, basisOf, kindOf, is, width, problemAfter}
 use Rattle.model.specs.Answers.{bytesOf, answer}
-use Rattle.model.specs.Refusals.{refusal}
-use Rattle.model.specs.Job.{Run, stop, answerThen, commands, run, written, packed, bufferAfter}
+use Rattle.model.specs.Rules.{engine, refusal}
+use Rattle.model.specs.Job.{Run, stop, answerThen, commands, run, runBy, written, packed, bufferAfter}
 use Rattle.model.specs.Calls.{Met}
 use Rattle.model.specs.Invariants.{Valid}
 use Rattle.model.proofs.Runs.{Passed, passed}
+use Rattle.model.proofs.Sound.{engine-lawful}
 use Rattle.model.proofs.Valid.{after-valid, valid-empty}
 use Rattle.codec.specs.Kinds.{isQueryKind}
 use Rattle.problem.specs.declared.Problem.{Problem}
@@ -41,17 +42,17 @@ module _ (f : ℕ) (q : model.Problem) (job : List ℕ) (at free : ℕ) (here : 
   head = rw (add-one at) (drop-cons job at 0 here)
 
   rest : Run
-  rest = commands f (problemAfter (contextAt q job at free) (kindOf (getD job at 0))) (drop (width (kindOf (getD job at 0))) (drop (at + 1) job)) (free - length (bytesOf (answer (contextAt q job at free)))) (at + 1 + width (kindOf (getD job at 0)))
+  rest = commands engine f (problemAfter (contextAt q job at free) (kindOf (getD job at 0))) (drop (width (kindOf (getD job at 0))) (drop (at + 1) job)) (free - length (bytesOf (answer (contextAt q job at free)))) (at + 1 + width (kindOf (getD job at 0)))
 
-  run-refused : (refusal x ≡ 0 → ⊥) → commands (suc f) q (drop at job) free at ≡ stop (refusal x) at (x ∷ [])
+  run-refused : (refusal x ≡ 0 → ⊥) → commands engine (suc f) q (drop at job) free at ≡ stop (refusal x) at (x ∷ [])
   unfolding x rest
   run-refused n = rw (head, ne-eqb (refusal (contextAt q job at free)) 0 n)
 
-  run-ended : refusal x ≡ 0 → is (kindOf (getD job at 0)) Kind.E ≡ true → commands (suc f) q (drop at job) free at ≡ answerThen x (stop 0 (at + 1) [])
+  run-ended : refusal x ≡ 0 → is (kindOf (getD job at 0)) Kind.E ≡ true → commands engine (suc f) q (drop at job) free at ≡ answerThen engine x (stop 0 (at + 1) [])
   unfolding x rest
   run-ended z e = rw (head, z, e)
 
-  run-next : refusal x ≡ 0 → is (kindOf (getD job at 0)) Kind.E ≡ false → commands (suc f) q (drop at job) free at ≡ answerThen x rest
+  run-next : refusal x ≡ 0 → is (kindOf (getD job at 0)) Kind.E ≡ false → commands engine (suc f) q (drop at job) free at ≡ answerThen engine x rest
   unfolding x rest
   run-next z e = rw (head, z, e)
 
@@ -104,12 +105,12 @@ pub record Going (job old answers : List ℕ) (p : Problem) (rows : List ℕ) (c
   pub size : length rows ≡ 2048
   pub few : count ≤ 2048
   pub matrix : ready ≡ true → RowsOf (basisOf problem) (take count rows)
-  pub number : run job (length old) .number ≡ commands fuel problem (drop at job) (length old - length out) at .number
-  pub offset : run job (length old) .offset ≡ commands fuel problem (drop at job) (length old - length out) at .offset
-  pub written : written (run job (length old)) ≡ out ++ written (commands fuel problem (drop at job) (length old - length out) at)
+  pub number : run job (length old) .number ≡ commands engine fuel problem (drop at job) (length old - length out) at .number
+  pub offset : run job (length old) .offset ≡ commands engine fuel problem (drop at job) (length old - length out) at .offset
+  pub written : written (run job (length old)) ≡ out ++ written (commands engine fuel problem (drop at job) (length old - length out) at)
 
 pub going-first : (job old rows : List ℕ) (p : Problem) → length job ≤ 32768 → length old ≤ 32768 → p ≡ noProblem → length rows ≡ 2048 → Going job old old p rows 0 false 0 0
-unfolding run
+unfolding runBy
 going-first job old rows p h g e s = record {
   fuel = suc (length job);
   problem = model.empty;
@@ -171,7 +172,7 @@ module _ (job old answers : List ℕ) (p : Problem) (rows : List ℕ) (count : �
       go (suc n) e = (n, e)
 
   -- the call ends with this number and offset, and nothing more is written
-  met : (n offset r : ℕ) (xs : List Context) (after : List ℕ) → commands (w .fuel) (w .problem) (drop at job) (length old - length (w .out)) at ≡ stop n offset xs → r ≡ n * 2 ^ 32 + offset * 2 ^ 16 + done → after ≡ answers → Met (called job old r after)
+  met : (n offset r : ℕ) (xs : List Context) (after : List ℕ) → commands engine (w .fuel) (w .problem) (drop at job) (length old - length (w .out)) at ≡ stop n offset xs → r ≡ n * 2 ^ 32 + offset * 2 ^ 16 + done → after ≡ answers → Met (called job old r after)
   unfolding packed bufferAfter written
   met n offset r xs after e q a =
       let l : written (run job (length old)) ≡ w .out = w .written ∙ ap (λ (y : Run). w .out ++ written y) e ∙ nothing-left (w .out) n offset xs in
@@ -188,7 +189,7 @@ module _ (job old answers : List ℕ) (p : Problem) (rows : List ℕ) (count : �
       none : drop at job ≡ []
       none = ap (λ (k : ℕ). drop k job) (let e : at ≡ length job = omega (arith, w .within) in e) ∙ drop-length job
 
-      go : (n : ℕ) → commands n (w .problem) (drop at job) (length old - length (w .out)) at ≡ stop 2 at []
+      go : (n : ℕ) → commands engine n (w .problem) (drop at job) (length old - length (w .out)) at ≡ stop 2 at []
       go zero = refl
       go (suc n) = rw none
 
@@ -205,7 +206,7 @@ module _ (job old answers : List ℕ) (p : Problem) (rows : List ℕ) (count : �
     unfolding x
     going-refused r d q =
         met (refusal ctx) at r (ctx ∷ []) (withTail done answers last)
-        (ap (λ (n : ℕ). commands n (w .problem) (drop at job) (length old - length (w .out)) at) (fuel-suc here .1) ∙ run-refused (fuel-suc here .0) (w .problem) job at (length old - length (w .out)) here (λ z. d (s' .number ∙ z)))
+        (ap (λ (n : ℕ). commands engine n (w .problem) (drop at job) (length old - length (w .out)) at) (fuel-suc here .1) ∙ run-refused (fuel-suc here .0) (w .problem) job at (length old - length (w .out)) here (λ z. d (s' .number ∙ z)))
         (q ∙ ap (λ (n : ℕ). n * 2 ^ 32 + at * 2 ^ 16 + done) (s' .number))
         (put-same last (s' .refused d))
 
@@ -216,8 +217,8 @@ module _ (job old answers : List ℕ) (p : Problem) (rows : List ℕ) (count : �
       a : Answered ctx (kindOf (getD job at 0)) (tail done answers) last e
       a = s' .answered z
 
-      passes : Passed ctx
-      passes = passed ctx (sym (s' .number) ∙ z)
+      passes : Passed engine ctx
+      passes = passed engine engine-lawful ctx (sym (s' .number) ∙ z)
 
       put-back : withTail done answers last ≡ (w .out ++ ans) ++ drop (length (w .out ++ ans)) old
       unfolding ans answer
@@ -231,14 +232,14 @@ module _ (job old answers : List ℕ) (p : Problem) (rows : List ℕ) (count : �
       unfolding ans
       room-left = omega (arith, count-is, passes .room, w .fits, length-append (w .out) (bytesOf (answer ctx)))
 
-      one-more : (y : Run) → written (run job (length old)) ≡ w .out ++ written (answerThen ctx y) → written (run job (length old)) ≡ (w .out ++ ans) ++ written y
+      one-more : (y : Run) → written (run job (length old)) ≡ w .out ++ written (answerThen engine ctx y) → written (run job (length old)) ≡ (w .out ++ ans) ++ written y
       unfolding written ans
       one-more y h = h ∙ sym (append-assoc (w .out) (bytesOf (answer ctx)) (join (map bytesOf (y .answers))))
 
       pub going-ended : (r : ℕ) → is (kindOf (getD job at 0)) Kind.E ≡ true → r ≡ 0 * 2 ^ 32 + (at + 1) * 2 ^ 16 + (done + e .written) → Met (called job old r (withTail done answers last))
       unfolding packed bufferAfter written x
       going-ended r k q =
-          let step = ap (λ (n : ℕ). commands n (w .problem) (drop at job) (length old - length (w .out)) at) (fuel-suc here .1) ∙ run-ended (fuel-suc here .0) (w .problem) job at (length old - length (w .out)) here (sym (s' .number) ∙ z) k in
+          let step = ap (λ (n : ℕ). commands engine n (w .problem) (drop at job) (length old - length (w .out)) at) (fuel-suc here .1) ∙ run-ended (fuel-suc here .0) (w .problem) job at (length old - length (w .out)) here (sym (s' .number) ∙ z) k in
           let l : written (run job (length old)) ≡ w .out ++ ans = one-more (stop 0 (at + 1) []) (w .written ∙ ap (λ (y : Run). w .out ++ written y) step) ∙ nothing-left (w .out ++ ans) 0 (at + 1) [] in
           record {
             returned = q ∙ rw (w .number, w .offset, step, l, count-is);
@@ -256,7 +257,7 @@ module _ (job old answers : List ℕ) (p : Problem) (rows : List ℕ) (count : �
           → is (kindOf (getD job at 0)) Kind.E ≡ false → at' ≡ at + 1 + width (kindOf (getD job at 0)) → Going job old (withTail done answers last) q rows' count' ready' at' (done + e .written)
       unfolding x rest
       going-next q rows' count' ready' at' qe sz fw mx k ae =
-          let step = ap (λ (n : ℕ). commands n (w .problem) (drop at job) (length old - length (w .out)) at) (fuel-suc here .1) ∙ run-next (fuel-suc here .0) (w .problem) job at (length old - length (w .out)) here (sym (s' .number) ∙ z) k in
+          let step = ap (λ (n : ℕ). commands engine n (w .problem) (drop at job) (length old - length (w .out)) at) (fuel-suc here .1) ∙ run-next (fuel-suc here .0) (w .problem) job at (length old - length (w .out)) here (sym (s' .number) ∙ z) k in
           record {
             fuel = fuel-suc here .0;
             problem = problemAfter ctx (kindOf (getD job at 0));
@@ -279,8 +280,8 @@ module _ (job old answers : List ℕ) (p : Problem) (rows : List ℕ) (count : �
           rest-is : drop (width (kindOf (getD job at 0))) (drop (at + 1) job) ≡ drop at' job
           rest-is = drop-drop (width (kindOf (getD job at 0))) (at + 1) job ∙ ap (λ (i : ℕ). drop i job) (sym ae)
 
-          moved : commands (fuel-suc here .0) (problemAfter ctx (kindOf (getD job at 0))) (drop (width (kindOf (getD job at 0))) (drop (at + 1) job)) (length old - length (w .out) - length (bytesOf (answer ctx))) (at + 1 + width (kindOf (getD job at 0)))
-              ≡ commands (fuel-suc here .0) (problemAfter ctx (kindOf (getD job at 0))) (drop at' job) (length old - length (w .out ++ ans)) at'
+          moved : commands engine (fuel-suc here .0) (problemAfter ctx (kindOf (getD job at 0))) (drop (width (kindOf (getD job at 0))) (drop (at + 1) job)) (length old - length (w .out) - length (bytesOf (answer ctx))) (at + 1 + width (kindOf (getD job at 0)))
+              ≡ commands engine (fuel-suc here .0) (problemAfter ctx (kindOf (getD job at 0))) (drop at' job) (length old - length (w .out ++ ans)) at'
           moved = rw (rest-is, free-left, ← ae)
 
 -- ---- a job or a buffer that is too long
@@ -291,9 +292,9 @@ module _ (job old : List ℕ) where
   refused-long e r q = record { returned = q ∙ rw e; after = rw e }
 
   pub job-long : (r : ℕ) → 32768 < length job → r ≡ 1 * 2 ^ 32 + 0 * 2 ^ 16 + 0 → Met (called job old r old)
-  unfolding run
+  unfolding runBy
   job-long r l q = refused-long (rw (lt-ltb 32768 (length job) l)) r q
 
   pub buffer-long : (r : ℕ) → length job ≤ 32768 → 32768 < length old → r ≡ 1 * 2 ^ 32 + 0 * 2 ^ 16 + 0 → Met (called job old r old)
-  unfolding run
+  unfolding runBy
   buffer-long r h l q = refused-long (rw (le-ltb 32768 (length job) h, lt-ltb 32768 (length old) l)) r q

@@ -6,7 +6,7 @@ use lib.Dec.{T}
 use lib.ListN.{getD, length, drop}
 use Rattle.model.specs.Commands as model
 use Rattle.model.specs.Commands.{Context, basisOf, kindOf}
-use Rattle.model.specs.Refusals.{refusal}
+use Rattle.model.specs.Rules.{refusal}
 use Rattle.model.specs.Invariants.{Valid}
 use Rattle.codec.specs.Kinds.{isQueryKind}
 use Rattle.problem.specs.declared.Problem.{Problem}

@@ -157,7 +157,7 @@ padded-size : (row all : List ℕ) → length row ≤ 256 → Padded row all →
 padded-size row all h f = same-long row (replicate 256 0) all (length row) f (omega (arith, length-replicate {A = ℕ} 256 0)) ∙ length-replicate {A = ℕ} 256 0
 
 pub call-holds : (n m : ℕ) (on dc words on' dc' : List ℕ) (terms : List Term) → length on ≤ 256 → length dc ≤ 256 → Padded on on' → Padded dc dc' → Filled 64 (map unpack words) terms (length words)
-    → Holds (record { n = n; m = m; place = 3; on = on'; dc = dc'; given = replicate 256 0; terms = terms; count = length words }) (problemOf (tableOf n m on dc) words)
+    → Holds (record { n = n; m = m; place = 4; on = on'; dc = dc'; given = replicate 256 0; terms = terms; count = length words }) (problemOf (tableOf n m on dc) words)
 call-holds n m on dc words on' dc' terms h k f g t = record {
   place = refl;
   inputs = refl;

@@ -87,7 +87,7 @@ pub record TableRefusal (p : Table) (count r : ℕ) : Type 0 where
 
 -- the problem that an L would find
 abbrev pub problemOf : Table → List ℕ → model.Problem
-problemOf p words = record { place = 3; table = p; rowsAt = []; cands = map unpack words }
+problemOf p words = record { place = 4; table = p; rowsAt = []; cands = map unpack words }
 
 -- a row in front of zeros, in an array of 256
 abbrev pub Padded : List ℕ → List ℕ → Type 0

@@ -125,7 +125,7 @@ fn problem_of(n: u8, m: u8, on: &[u8], dc: &[u8], words: &[u32]) -> Problem
     Problem {
         n: n,
         m: m,
-        place: 3,
+        place: 4,
         on: on_bytes,
         dc: dc_bytes,
         given: [0; 256],

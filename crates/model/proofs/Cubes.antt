@@ -1,4 +1,4 @@
--- Terms by their bits: what containment correct of care, value and outputs.
+-- Terms by their bits: what containment says of care, value and outputs.
 use Prim.Native.Nat.{ℕ, zero, suc, _+_, _-_, _*_, _/_, _%_, _^_, _≤_, _<_}
 use native.Mathlib.Omega.{arith}
 use native.Mathlib.Decide.{ℕ-discrete}
@@ -214,7 +214,7 @@ same-e t u s =
     let z = eqb→eq (t .outputs) (u .outputs) (and-r b c (and-r a (b && c) s)) in
     λ i. record { care = x i; value = y i; outputs = z i }
 
--- of example terms, one wider than the other, with the same care and outputs: they are the same
+-- of two terms, one wider than the other, with the same care and outputs: they are the same
 pub wider-same : (p : Table) (t u : Term) → Formed p t → Formed p u → Wider t u → t .care ≡ u .care → t .outputs ≡ u .outputs → T (sameTerm t u)
 wider-same p t u f g w a c = same-i t u a (bits-ext (t .value) (u .value) (λ i. go i (yes-or-no (bit i (t .care))))) c
   where

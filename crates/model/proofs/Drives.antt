@@ -1,4 +1,4 @@
--- The outputs that a cube may drive: what makes a term legal, what makes it prime, and the example halves of a cube.
+-- The outputs that a cube may drive: what makes a term legal, what makes it prime, and the two halves of a cube.
 use Prim.Native.Nat.{ℕ, zero, suc, _+_, _-_, _*_, _/_, _%_, _^_, _<_, max}
 use native.Mathlib.Omega.{arith}
 use native.Mathlib.Nat.{pow-suc}
@@ -110,7 +110,7 @@ no-off-i p t w = cells-every p (λ c. not (holds t c && isOff p c)) (λ v j k m.
     let q = holds-e t (cell v j) h in
     drives-e p (t .care) (t .value) j (w j (q .1)) .1 v k (q .0) o))
 
--- ---- the example halves of a cube with a free input
+-- ---- the two halves of a cube with a free input
 
 set-more : (i k c : ℕ) → T (bit k c) → T (bit k (setBit i c))
 set-more i k c t = go (ℕ-discrete k i)

@@ -3,40 +3,46 @@
 -- the hypotheses hold by computation.
 use Prim.Native.Nat.{ℕ, _+_, _*_, _^_}
 use mathlib.Core.Path.{_≡_, refl}
-use mathlib.Core.List.{List, [], _∷_, _++_, map}
+use mathlib.Core.List.{List, [], _∷_, _++_}
 use mathlib.Core.Bool.{Bool, true, not, _&&_}
 use lib.Dec.{T, eqb, eqb→eq}
 use lib.Count.{ones, onesIn}
 use lib.ListN.{replicate}
-use Rattle.model.specs.Base.{implies, every, join, All, First}
+use Rattle.model.specs.Base.{implies, nonEmpty, filter, All}
 use Rattle.model.specs.Table.{isOn, onCells, isDc, isOff, cells, holds, formed, holdsNoOff, legal}
 use Rattle.model.specs.Sets.{irredundants, irredundant, redundant, covers, cover, coverable, cost, cheapest}
-use Rattle.model.specs.Pages.{page, more, atOrAbove, nextStart}
+use Rattle.model.specs.Pages.{page, more, atOrAbove, nextStart, Page, isLast, joinedSets, InOrder, Joined}
 use Rattle.model.specs.Candidates.{termCost, basis}
-use Rattle.model.specs.Commands.{start, kindOf, problemAfter}
+use Rattle.model.specs.Commands.{Kind, kindOf, problemAfter}
 use Rattle.model.specs.Answers.{answer, answerFor}
-use Rattle.model.specs.Refusals.{refusal, refusals, refusalsOf}
-use Rattle.model.specs.Job.{run, packed, written, bufferAfter}
-use Rattle.model.specs.Calls.{Call, ran, Met, answering, read}
-use Rattle.model.specs.Demand3.{Exchange, Claim, Joined, coversOf, HasBasis, InOrder, queries, readIn, pages, closes, setsIn, joinedSets}
+use Rattle.model.specs.Refusals.{refusalsOf}
+use Rattle.model.specs.Rules.{engine, refusalBy, refusalsBy}
+use Rattle.model.specs.Job.{runBy, packed, written, bufferAfter}
+use Rattle.model.specs.Calls.{Call, Met, decoded, read}
+use Rattle.model.specs.Exchanges.{Exchange, readIn, allRead, pagesOf}
+use Rattle.model.specs.Demand3.{StandsOn, coversOf, Demand, isAsked}
 use Rattle.model.specs.Cases.{example, sixTerms, exampleHead}
-use Rattle.model.proofs.Lists.{implies-e, and-l, and-r}
+use Rattle.model.proofs.Lists.{implies-e, and-l, and-r, sublist-filter}
 use Rattle.model.proofs.Demand3.{demand-3}
 
--- a list of calls as a test of the hypotheses, which then hold by computation
-abbrev inOrder : List ℕ → List Exchange → Bool
+-- a list of pages as a test of the hypothesis, which then holds by computation
+abbrev inOrder : List ℕ → List Page → Bool
 inOrder g [] = true
-inOrder g (e ∷ es) = implies (pages e) (eqb (start (e .context)) (nextStart g)) && (implies (closes e) (every (λ u. not (pages u)) es) && inOrder (g ++ setsIn (e .reply)) es)
+inOrder g (p ∷ ps) = eqb (p .start) (nextStart g) && (implies (isLast p) (not (nonEmpty ps)) && inOrder (g ++ p .sets) ps)
 
-inOrder-e : (g : List ℕ) (es : List Exchange) → T (inOrder g es) → InOrder g es
+none-left : (ps : List Page) → T (not (nonEmpty ps)) → ps ≡ []
+none-left [] n = refl
+none-left (p ∷ ps) n = absurd n
+
+inOrder-e : (g : List ℕ) (ps : List Page) → T (inOrder g ps) → InOrder g ps
 inOrder-e g [] f = tt
-inOrder-e g (e ∷ es) f =
-    let a = implies (pages e) (eqb (start (e .context)) (nextStart g)) in
-    let b = implies (closes e) (every (λ u. not (pages u)) es) in
-    let c = inOrder (g ++ setsIn (e .reply)) es in (
-      (λ q. eqb→eq (start (e .context)) (nextStart g) (implies-e (pages e) (eqb (start (e .context)) (nextStart g)) (and-l a (b && c) f) q)),
-      implies-e (closes e) (every (λ u. not (pages u)) es) (and-l b c (and-r a (b && c) f)),
-      inOrder-e (g ++ setsIn (e .reply)) es (and-r b c (and-r a (b && c) f)),
+inOrder-e g (p ∷ ps) f =
+    let a = eqb (p .start) (nextStart g) in
+    let b = implies (isLast p) (not (nonEmpty ps)) in
+    let c = inOrder (g ++ p .sets) ps in (
+      eqb→eq (p .start) (nextStart g) (and-l a (b && c) f),
+      (λ t. none-left ps (implies-e (isLast p) (not (nonEmpty ps)) (and-l b c (and-r a (b && c) f)) t)),
+      inOrder-e (g ++ p .sets) ps (and-r b c (and-r a (b && c) f)),
     )
 
 abbrev first : Call
@@ -60,27 +66,31 @@ second = record {
 abbrev calls : List Call
 calls = first ∷ second ∷ []
 
+-- the L and C among what their bytes hold, and the pages among those
 abbrev exchanges : List Exchange
-exchanges = join (map readIn calls)
+exchanges = filter isAsked (allRead engine calls)
+
+abbrev pages : List Page
+pages = pagesOf Kind.L exchanges
 
 met : All Met calls
-unfolding irredundants irredundant redundant covers cover coverable cost cheapest page more atOrAbove isOn onCells isDc isOff cells holds formed holdsNoOff legal termCost ones onesIn run kindOf packed written bufferAfter refusal refusals refusalsOf answer answerFor problemAfter
+unfolding irredundants irredundant redundant covers cover coverable cost cheapest page more atOrAbove isOn onCells isDc isOff cells holds formed holdsNoOff legal termCost ones onesIn runBy kindOf packed written bufferAfter refusalBy refusalsBy refusalsOf answer answerFor problemAfter
 met = (record { returned = refl; after = refl }, (record { returned = refl; after = refl }, tt))
 
-has-basis : All (λ c. First (HasBasis (basis example sixTerms)) (queries (ran c))) calls
-unfolding irredundants irredundant redundant covers cover coverable cost cheapest page more atOrAbove isOn onCells isDc isOff cells holds formed holdsNoOff legal termCost ones onesIn run kindOf refusal refusals refusalsOf answer answerFor problemAfter queries
-has-basis = (refl, (refl, tt))
+stands : All (StandsOn (basis example sixTerms)) exchanges
+unfolding irredundants irredundant redundant covers cover coverable cost cheapest page more atOrAbove isOn onCells isDc isOff cells holds formed holdsNoOff legal termCost ones onesIn runBy kindOf refusalBy refusalsBy refusalsOf answer answerFor problemAfter decoded read readIn
+stands = ((tt, refl), ((tt, refl), ((tt, refl), ((tt, refl), tt))))
 
-in-order : T (inOrder [] (exchanges))
-unfolding irredundants irredundant redundant covers cover coverable cost cheapest page more atOrAbove isOn onCells isDc isOff cells holds formed holdsNoOff legal termCost ones onesIn run kindOf refusal refusals refusalsOf answer answerFor problemAfter queries answering read
+in-order : T (inOrder [] pages)
+unfolding irredundants irredundant redundant covers cover coverable cost cheapest page more atOrAbove isOn onCells isDc isOff cells holds formed holdsNoOff legal termCost ones onesIn runBy kindOf refusalBy refusalsBy refusalsOf answer answerFor problemAfter decoded read readIn
 in-order = tt
 
-joined-are : joinedSets (exchanges) ≡ 11 ∷ 22 ∷ 26 ∷ 41 ∷ 52 ∷ 56 ∷ []
-unfolding irredundants irredundant redundant covers cover coverable cost cheapest page more atOrAbove isOn onCells isDc isOff cells holds formed holdsNoOff legal termCost ones onesIn run kindOf refusal refusals refusalsOf answer answerFor problemAfter queries answering read
+joined-are : joinedSets pages ≡ 11 ∷ 22 ∷ 26 ∷ 41 ∷ 52 ∷ 56 ∷ []
+unfolding irredundants irredundant redundant covers cover coverable cost cheapest page more atOrAbove isOn onCells isDc isOff cells holds formed holdsNoOff legal termCost ones onesIn runBy kindOf refusalBy refusalsBy refusalsOf answer answerFor problemAfter decoded read readIn
 joined-are = refl
 
-pub claim : Claim (basis example sixTerms) calls
-claim = demand-3 (basis example sixTerms) calls met has-basis
+pub all-right : Demand (basis example sixTerms) exchanges
+all-right = demand-3 (basis example sixTerms) calls met .bytes exchanges (sublist-filter isAsked (allRead engine calls)) stands
 
-pub all-joined : Joined (coversOf (basis example sixTerms)) exchanges
-all-joined = claim .bytes .joined (inOrder-e [] exchanges in-order)
+pub all-joined : Joined (coversOf (basis example sixTerms)) pages
+all-joined = all-right .pages .joined (inOrder-e [] pages in-order)

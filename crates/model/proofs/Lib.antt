@@ -11,12 +11,15 @@ pub mod Drives
 pub mod Order
 pub mod Representations
 pub mod Library
+pub mod Codes
 pub mod Runs
+pub mod Exchanges
 pub mod SameBasis
 pub mod Read
 pub mod Sound
 pub mod Caller
 pub mod Joined
 pub mod Demand3
+pub mod Whole
 pub mod Example
 pub mod Valid

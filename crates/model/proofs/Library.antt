@@ -26,7 +26,7 @@ page-some : (all : List ℕ) (a c : ℕ) → 1 ≤ c → 1 ≤ length (atOrAbove
 unfolding page
 page-some all a c h k = omega (arith, length-take c (atOrAbove all a))
 
--- what a call that is not refused hasBytes and leaves, and what a refused one does
+-- what a call that is not refused tells and leaves, and what a refused one does
 pub record Told (all : List ℕ) (a : ℕ) (old : List ℕ) (l : Listed) : Type 0 where
   pub number : l .number ≡ 0
   pub sets : setsOf l ≡ page all a (length old)
@@ -85,14 +85,14 @@ module _ (p : Table) (words : List ℕ) (z : firstOf (callRefusals p words) ≡ 
       joined-part (g ++ setsOf (listCovers p words (nextStart g) old)) (drop (length old) left) olds
       (subst⁻¹ (λ (ss : List ℕ). all ≡ (g ++ ss) ++ drop (length old) left) (listed-told p words (nextStart g) old z .sets) (step all (rising (covering (basis p (map unpack words)))) g left (length old) e))
 
-  -- the rows joined are the sets up to the last one joinedSets
+  -- the rows joined are the sets up to the last one joined
   pub joined-rows : (olds : List (List ℕ)) → joinedRows p words [] olds ≡ filter (λ s. ltb s (nextStart (joinedRows p words [] olds))) all
   joined-rows olds =
       let q = joined-part [] all olds refl in
       let g : List ℕ = joinedRows p words [] olds in
       sym (subst⁻¹ (λ (l : List ℕ). filter (λ s. ltb s (nextStart g)) l ≡ g) (q .1) (joined-below 0 g (q .0) (subst (λ (l : List ℕ). Rising 0 l) (q .1) (rising (covering (basis p (map unpack words)))))))
 
-  -- one more row correct "none above" exactly when none is missing
+  -- one more row says "none above" exactly when none is missing
   pub joined-last : (olds : List (List ℕ)) (old : List ℕ)
       → T (not (listCovers p words (nextStart (joinedRows p words [] olds)) old .above)) ↔ (all ≡ joinedRows p words [] olds ++ setsOf (listCovers p words (nextStart (joinedRows p words [] olds)) old))
   joined-last olds old =

@@ -5,7 +5,7 @@ use native.Mathlib.Decide.{decLt}
 use mathlib.Core.Path.{_≡_, refl, subst, subst⁻¹}
 use mathlib.Core.Logic.{_⊎_, inl, inr}
 use mathlib.Core.Bool.{Bool, true, false, not, cond, _&&_, _||_}
-use mathlib.Core.List.{List, [], _∷_, _++_, List·Memᴰ, List·Memᴰ·head, List·Memᴰ·tail, Memᴰ·append-left, Memᴰ·append-right}
+use mathlib.Core.List.{List, [], _∷_, _++_, List·Memᴰ, List·Memᴰ·head, List·Memᴰ·tail, Memᴰ·append-left, Memᴰ·append-right, Sublistᴰ, Sublistᴰ·slnil, Sublistᴰ·cons, Sublistᴰ·cons-cons}
 use lib.Dec.{T}
 use lib.ListN.{take, drop}
 use Rattle.model.specs.Base.{from, below, every, some, filter, join, implies, All}
@@ -184,3 +184,38 @@ module _ {A : Type 0} (P : A → Type 0) where
   pub all-e : (xs : List A) → All P xs → {x : A} → List·Memᴰ x xs → P x
   all-e (y ∷ ys) a (List·Memᴰ·head e) = subst⁻¹ P e (a .0)
   all-e (y ∷ ys) a (List·Memᴰ·tail m) = all-e ys (a .1) m
+
+  -- what a filter leaves is so: each entry that it keeps is
+  pub filter-all : (f : A → Bool) (xs : List A) → All P (filter f xs) → All (λ x. T (f x) → P x) xs
+  filter-all f [] a = tt
+  filter-all f (x ∷ xs) a = go (f x) a (filter-all f xs)
+    where
+      go : (b : Bool) → All P (cond b (x ∷ filter f xs) (filter f xs)) → (All P (filter f xs) → All (λ y. T (f y) → P y) xs) → (T b → P x) × All (λ y. T (f y) → P y) xs
+      go true a r = ((λ t. a .0), r (a .1))
+      go false a r = ((λ t. absurd t), r a)
+
+  pub all-kept : (f : A → Bool) (xs : List A) → All (λ x. T (f x) → P x) xs → All (λ x. T (f x) × P x) (filter f xs)
+  all-kept f [] a = tt
+  all-kept f (x ∷ xs) a = go (f x) refl (all-kept f xs (a .1))
+    where
+      go : (b : Bool) → f x ≡ b → All (λ y. T (f y) × P y) (filter f xs) → All (λ y. T (f y) × P y) (cond b (x ∷ filter f xs) (filter f xs))
+      go true e r = let t : T (f x) = rw e tt in ((t, a .0 t), r)
+      go false e r = r
+
+  pub all-to : (Q : A → Type 0) → ((x : A) → P x → Q x) → (xs : List A) → All P xs → All Q xs
+  all-to Q f [] a = tt
+  all-to Q f (x ∷ xs) a = (f x (a .0), all-to Q f xs (a .1))
+
+  pub all-sublist : {xs ys : List A} → Sublistᴰ xs ys → All P ys → All P xs
+  all-sublist Sublistᴰ·slnil a = tt
+  all-sublist (Sublistᴰ·cons s) a = all-sublist s (a .1)
+  all-sublist (Sublistᴰ·cons-cons e s) a = (subst⁻¹ P e (a .0), all-sublist s (a .1))
+
+-- what a filter keeps
+pub sublist-filter : {A : Type 0} (f : A → Bool) (xs : List A) → Sublistᴰ (filter f xs) xs
+sublist-filter f [] = Sublistᴰ·slnil
+sublist-filter f (x ∷ xs) = go (f x) (sublist-filter f xs)
+  where
+    go : (b : Bool) → Sublistᴰ (filter f xs) xs → Sublistᴰ (cond b (x ∷ filter f xs) (filter f xs)) (x ∷ xs)
+    go true s = Sublistᴰ·cons-cons refl s
+    go false s = Sublistᴰ·cons s

@@ -10,8 +10,9 @@ use Rattle.model.specs.Pages.{atOrAbove, page, more}
 use Rattle.model.specs.Candidates.{termCost}
 use Rattle.model.specs.Commands.{kindOf, problemAfter}
 use Rattle.model.specs.Answers.{answer, answerFor}
-use Rattle.model.specs.Refusals.{refusal, refusals, refusalsOf}
-use Rattle.model.specs.Job.{run, packed, written}
+use Rattle.model.specs.Refusals.{refusalsOf}
+use Rattle.model.specs.Rules.{refusalBy, refusalsBy}
+use Rattle.model.specs.Job.{run, runBy, packed, written}
 use Rattle.model.specs.Cases.{outcome, cases, example, examplePrimes, exampleJob, exampleAnswers, stops}
 
 -- a to h
@@ -26,14 +27,14 @@ marked-primes = refl
 
 -- the job: "0 55 63", and its answer bytes
 pub marked-result : packed (run exampleJob 32768) ≡ 55 * 2 ^ 16 + 63
-unfolding irredundants irredundant redundant cover covers coverable isOn onCells cells holds termCost cost cheapest ones onesIn primes prime legal formed holdsNoOff isOff isDc contains sameTerm containedIn terms run kindOf packed written refusal refusals refusalsOf answer answerFor problemAfter page more atOrAbove
+unfolding irredundants irredundant redundant cover covers coverable isOn onCells cells holds termCost cost cheapest ones onesIn primes prime legal formed holdsNoOff isOff isDc contains sameTerm containedIn terms runBy kindOf packed written refusalBy refusalsBy refusalsOf answer answerFor problemAfter page more atOrAbove
 marked-result = refl
 
 pub marked-bytes : written (run exampleJob 32768) ≡ exampleAnswers
-unfolding irredundants irredundant redundant cover covers coverable isOn onCells cells holds termCost cost cheapest ones onesIn primes prime legal formed holdsNoOff isOff isDc contains sameTerm containedIn terms run kindOf written refusal refusals refusalsOf answer answerFor problemAfter page more atOrAbove
+unfolding irredundants irredundant redundant cover covers coverable isOn onCells cells holds termCost cost cheapest ones onesIn primes prime legal formed holdsNoOff isOff isDc contains sameTerm containedIn terms runBy kindOf written refusalBy refusalsBy refusalsOf answer answerFor problemAfter page more atOrAbove
 marked-bytes = refl
 
 -- jobs that stop, a refusal or more each
 pub stopped-jobs : map (λ c. packed (run (c .job) (c .room))) stops ≡ map (λ c. c .number * 2 ^ 32 + c .offset * 2 ^ 16 + c .written) stops
-unfolding irredundants irredundant redundant cover covers coverable isOn onCells cells holds termCost cost cheapest ones onesIn primes prime legal formed holdsNoOff isOff isDc contains sameTerm containedIn terms run kindOf packed written refusal refusals refusalsOf answer answerFor problemAfter page more atOrAbove
+unfolding irredundants irredundant redundant cover covers coverable isOn onCells cells holds termCost cost cheapest ones onesIn primes prime legal formed holdsNoOff isOff isDc contains sameTerm containedIn terms runBy kindOf packed written refusalBy refusalsBy refusalsOf answer answerFor problemAfter page more atOrAbove
 stopped-jobs = refl

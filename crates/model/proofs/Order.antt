@@ -88,7 +88,7 @@ module _ (p : Table) where
   unfolding terms
   terms-ordered = ordered-join Later row row-ordered cares 0 (2 ^ p .n)
 
-  -- example primes of one cube have the same outputs
+  -- two primes of one cube have the same outputs
   apart : (t u : Term) → List·Memᴰ t (primes p) → List·Memᴰ u (primes p) → Later t u → Before t u
   apart t u m n (inl b) = b
   apart t u m n (inr e) =

@@ -20,17 +20,22 @@ pub rising-down : (a b : ℕ) (xs : List ℕ) → a ≤ b → Rising b xs → Ri
 rising-down a b [] h r = tt
 rising-down a b (x ∷ xs) h r = (omega (arith, r .0), r .1)
 
-rising-filter : (f : ℕ → Bool) (i k : ℕ) → Rising i (filter f (from i k))
-rising-filter f i zero = tt
-rising-filter f i (suc k) = go (f i) (rising-filter f (suc i) k)
+-- what a filter keeps of a rising list rises
+pub rising-filter : (f : ℕ → Bool) (b : ℕ) (xs : List ℕ) → Rising b xs → Rising b (filter f xs)
+rising-filter f b [] r = tt
+rising-filter f b (x ∷ xs) r = go (f x) (rising-filter f (suc x) xs (r .1))
   where
-    go : (b : Bool) → Rising (suc i) (filter f (from (suc i) k)) → Rising i (cond b (i ∷ filter f (from (suc i) k)) (filter f (from (suc i) k)))
-    go true r = (le-refl i, r)
-    go false r = rising-down i (suc i) (filter f (from (suc i) k)) (omega arith) r
+    go : (c : Bool) → Rising (suc x) (filter f xs) → Rising b (cond c (x ∷ filter f xs) (filter f xs))
+    go true h = (r .0, h)
+    go false h = rising-down b (suc x) (filter f xs) (omega (arith, r .0)) h
+
+rising-from : (i k : ℕ) → Rising i (from i k)
+rising-from i zero = tt
+rising-from i (suc k) = (le-refl i, rising-from (suc i) k)
 
 pub rising : {A X : Type 0} (k : Covering A X) → Rising 0 (irredundants k)
 unfolding irredundants
-rising k = rising-filter (irredundant k) 0 (2 ^ length (k .cands))
+rising k = rising-filter (irredundant k) 0 (from 0 (2 ^ length (k .cands))) (rising-from 0 (2 ^ length (k .cands)))
 
 oneAbove-ge : (b : ℕ) (xs ys : List ℕ) → Rising b (xs ++ ys) → b ≤ oneAbove b xs
 oneAbove-ge b [] ys r = le-refl b
@@ -40,7 +45,7 @@ pub keep : (b c : ℕ) (ys : List ℕ) → Rising b ys → c ≤ b → filter (l
 keep b c [] r h = refl
 keep b c (y ∷ ys) r h = rw (T-true {b = leb c y} (le→leb c y (omega (arith, r .0))), keep (suc y) c ys (r .1) (omega (arith, r .0)))
 
--- what stands at or above the nextStart start is what is not joinedSets
+-- what stands at or above the next start is what is not joined
 pub rest : (b : ℕ) (xs ys : List ℕ) → Rising b (xs ++ ys) → filter (leb (oneAbove b xs)) (xs ++ ys) ≡ ys
 rest b [] ys r = keep b b ys r (le-refl b)
 rest b (x ∷ xs) ys r = rw (T-false {b = leb (oneAbove (suc x) xs) x} (lt→nleb (oneAbove (suc x) xs) x (oneAbove-ge (suc x) xs ys (r .1))), rest (suc x) xs ys (r .1))
@@ -49,37 +54,37 @@ none-below : (b c : ℕ) (ys : List ℕ) → Rising b ys → c ≤ b → filter 
 none-below b c [] r h = refl
 none-below b c (y ∷ ys) r h = rw (T-false {b = ltb y c} (le→nltb y c (omega (arith, r .0))), none-below (suc y) c ys (r .1) (omega (arith, r .0)))
 
--- and what stands below it is what is joinedSets
+-- and what stands below it is what is joined
 pub joined-below : (b : ℕ) (xs ys : List ℕ) → Rising b (xs ++ ys) → filter (λ s. ltb s (oneAbove b xs)) (xs ++ ys) ≡ xs
 joined-below b [] ys r = none-below b b ys r (le-refl b)
 joined-below b (x ∷ xs) ys r = rw (T-true {b = ltb x (oneAbove (suc x) xs)} (lt→ltb x (oneAbove (suc x) xs) (oneAbove-ge (suc x) xs ys (r .1))), joined-below (suc x) xs ys (r .1))
 
 module _ (all : List ℕ) (up : Rising 0 all) where
-  pub atOrAbove-left : (joinedSets left : List ℕ) → all ≡ joinedSets ++ left → atOrAbove all (nextStart joinedSets) ≡ left
+  pub atOrAbove-left : (got left : List ℕ) → all ≡ got ++ left → atOrAbove all (nextStart got) ≡ left
   unfolding atOrAbove
-  atOrAbove-left joinedSets left e =
-      let r = rest 0 joinedSets left (subst (λ (l : List ℕ). Rising 0 l) e up) in
-      subst⁻¹ (λ (l : List ℕ). filter (leb (nextStart joinedSets)) l ≡ left) e r
+  atOrAbove-left got left e =
+      let r = rest 0 got left (subst (λ (l : List ℕ). Rising 0 l) e up) in
+      subst⁻¹ (λ (l : List ℕ). filter (leb (nextStart got)) l ≡ left) e r
 
   -- one page more
-  pub step : (joinedSets left : List ℕ) (c : ℕ) → all ≡ joinedSets ++ left → all ≡ (joinedSets ++ page all (nextStart joinedSets) c) ++ drop c left
+  pub step : (got left : List ℕ) (c : ℕ) → all ≡ got ++ left → all ≡ (got ++ page all (nextStart got) c) ++ drop c left
   unfolding page
-  step joinedSets left c e = rw (atOrAbove-left joinedSets left e, append-assoc, take-append-drop) e
+  step got left c e = rw (atOrAbove-left got left e, append-assoc, take-append-drop) e
 
-  -- a page with count c oneAbove got: as many of those left as it isQueryKind
-  pub page-length : (joinedSets left : List ℕ) (c : ℕ) → all ≡ joinedSets ++ left → length (page all (nextStart joinedSets) c) ≡ min c (length left)
+  -- a page with count c behind what is got: as many of those left as it asks for
+  pub page-length : (got left : List ℕ) (c : ℕ) → all ≡ got ++ left → length (page all (nextStart got) c) ≡ min c (length left)
   unfolding page
-  page-length joinedSets left c e = rw (atOrAbove-left joinedSets left e, length-take)
+  page-length got left c e = rw (atOrAbove-left got left e, length-take)
 
   -- "no more" exactly when none is missing
-  pub more-iff : (joinedSets left : List ℕ) (c : ℕ) → all ≡ joinedSets ++ left → T (not (more all (nextStart joinedSets) c)) ↔ (all ≡ joinedSets ++ page all (nextStart joinedSets) c)
+  pub more-iff : (got left : List ℕ) (c : ℕ) → all ≡ got ++ left → T (not (more all (nextStart got) c)) ↔ (all ≡ got ++ page all (nextStart got) c)
   unfolding more page
-  more-iff joinedSets left c e = rw (atOrAbove-left joinedSets left e) (full, none)
+  more-iff got left c e = rw (atOrAbove-left got left e) (full, none)
     where
-      full : T (not (ltb c (length left))) → all ≡ joinedSets ++ take c left
+      full : T (not (ltb c (length left))) → all ≡ got ++ take c left
       full t = rw (take-all c left (nltb→le c (length left) t)) e
 
-      none : all ≡ joinedSets ++ take c left → T (not (ltb c (length left)))
+      none : all ≡ got ++ take c left → T (not (ltb c (length left)))
       none h = le→nltb c (length left) (omega (arith, simp (length-append, length-take) at (ap length (sym e ∙ h))))
 
 -- ---- a lister that goes from set to set

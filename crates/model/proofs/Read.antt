@@ -1,18 +1,18 @@
 -- The answers are read back from the bytes.
-use Prim.Native.Nat.{ℕ, zero, suc, _+_, _*_, _/_, _^_, _≤_, _<_}
+use Prim.Native.Nat.{ℕ, zero, suc, _-_, _/_, _^_, _≤_, _<_}
 use native.Mathlib.Omega.{arith}
 use native.Mathlib.Nat.{pow-suc, le-refl}
-use mathlib.Core.Path.{_≡_, refl, ap, ap₂, _∙_}
-use mathlib.Core.Bool.{Bool, true, false, cond}
+use mathlib.Core.Path.{_≡_, refl, ap, ap₂, _∙_, subst, subst⁻¹}
+use mathlib.Core.Bool.{Bool, true, false, not, cond}
 use mathlib.Core.List.{List, [], _∷_, _++_, map, append-assoc}
 use lib.Dec.{T, eqb}
 use lib.Seq.{take-at, drop-at}
 use lib.ListN.{length, take, drop, length-append}
-use Rattle.model.specs.Base.{join, filter, All}
+use Rattle.model.specs.Base.{nonEmpty, join, filter, All}
 use Rattle.model.specs.Table.{Term}
 use Rattle.model.specs.Commands.{low, number}
-use Rattle.model.specs.Answers.{Answer, bytesOf}
-use Rattle.model.specs.Calls.{answering, readTerms, readSets, readUpTo, read, hasBytes}
+use Rattle.model.specs.Answers.{Answer, termBytes, bytesOf, hasBytes}
+use Rattle.model.specs.Calls.{readTerms, readSets, decoded, readUpTo, read}
 
 -- the sets and the cost have as many bytes as the answer gives them
 abbrev pub Fits : Answer → Type 0
@@ -35,22 +35,9 @@ take-low w x bs h = ap number (take-at (low w x) bs w (low-length w x)) ∙ numb
 
 -- ---- the parts
 
-triple : Term → List ℕ
-triple t = t .care ∷ t .value ∷ t .outputs ∷ []
-
-terms-length : (ts : List Term) → length (join (map triple ts)) ≡ 3 * length ts
-unfolding triple
-terms-length [] = refl
-terms-length (t ∷ ts) = let r = terms-length ts in omega arith
-
-terms-read : (ts : List Term) (bs : List ℕ) → readTerms (length ts) (join (map triple ts) ++ bs) ≡ ts
-unfolding triple
+terms-read : (ts : List Term) (bs : List ℕ) → readTerms (length ts) (join (map termBytes ts) ++ bs) ≡ ts
 terms-read [] bs = refl
 terms-read (t ∷ ts) bs = ap (λ (us : List Term). t ∷ us) (terms-read ts bs)
-
-sets-length : (ss : List ℕ) → length (join (map (low 8) ss)) ≡ 8 * length ss
-sets-length [] = refl
-sets-length (s ∷ ss) = omega (arith, sets-length ss, length-append (low 8 s) (join (map (low 8) ss)), low-length 8 s)
 
 sets-read : (ss : List ℕ) (bs : List ℕ) → All (λ s. s < 2 ^ 64) ss → readSets (length ss) (join (map (low 8) ss) ++ bs) ≡ ss
 sets-read [] bs a = refl
@@ -67,45 +54,48 @@ flag-back : (m : Bool) → eqb (cond m 1 0) 1 ≡ m
 flag-back true = refl
 flag-back false = refl
 
-pub read-one : (a : Answer) → Fits a → T (hasBytes a) → (bs : List ℕ) (k : ℕ) → readUpTo (suc k) (bytesOf a ++ bs) ≡ a ∷ readUpTo k bs
-unfolding answering triple
+-- an answer that is decoded from its bytes: what follows is read behind them
+behind : (a : Answer) (b : ℕ) (own bs : List ℕ) → bytesOf a ≡ b ∷ own → decoded b (own ++ bs) ≡ a → (k : ℕ) → readUpTo (suc k) (b ∷ (own ++ bs)) ≡ a ∷ readUpTo k bs
+behind a b own bs e d k =
+    ap (λ (x : Answer). x ∷ readUpTo k (drop (length (bytesOf x) - 1) (own ++ bs))) d
+    ∙ ap (λ (l : List ℕ). a ∷ readUpTo k l) (drop-at own bs (length (bytesOf a) - 1) (omega (arith, ap length e)))
+
+read-one : (a : Answer) → Fits a → T (hasBytes a) → (bs : List ℕ) (k : ℕ) → readUpTo (suc k) (bytesOf a ++ bs) ≡ a ∷ readUpTo k bs
+unfolding decoded
 read-one Answer.nothing f t bs k = absurd t
-read-one (Answer.primesAre ts) f t bs k =
-    ap₂ (λ (us : List Term) (l : List ℕ). Answer.primesAre us ∷ readUpTo k l) (terms-read ts bs) (drop-at (length ts ∷ join (map triple ts)) bs (1 + 3 * length ts) (omega (arith, terms-length ts)))
+read-one (Answer.primesAre ts) f t bs k = behind (Answer.primesAre ts) 0x70 (length ts ∷ join (map termBytes ts)) bs refl (ap Answer.primesAre (terms-read ts bs)) k
 read-one (Answer.paged ss m) f t bs k =
-    ap₂ (λ (us : List ℕ) (l : List ℕ). Answer.paged us (eqb (cond m 1 0) 1) ∷ readUpTo k l) (sets-read ss bs f) (drop-at (length ss ∷ cond m 1 0 ∷ join (map (low 8) ss)) bs (2 + 8 * length ss) (omega (arith, sets-length ss)))
-    ∙ ap (λ (b : Bool). Answer.paged ss b ∷ readUpTo k bs) (flag-back m)
-read-one (Answer.cheapestIs c s) f t bs k = ap₂ (λ (x y : ℕ). Answer.cheapestIs x y ∷ readUpTo k bs) (number-low 2 c (f .0)) (number-low 8 s (f .1))
-read-one Answer.ended f t bs k = refl
+    behind (Answer.paged ss m) 0x6c (length ss ∷ cond m 1 0 ∷ join (map (low 8) ss)) bs refl (ap₂ Answer.paged (sets-read ss bs f) (flag-back m)) k
+read-one (Answer.cheapestIs c s) f t bs k = behind (Answer.cheapestIs c s) 0x63 (low 2 c ++ low 8 s) bs refl (ap₂ Answer.cheapestIs (number-low 2 c (f .0)) (number-low 8 s (f .1))) k
+read-one Answer.ended f t bs k = behind Answer.ended 0x65 [] bs refl refl k
 
 read-none : (k : ℕ) → readUpTo k [] ≡ []
 read-none zero = refl
 read-none (suc k) = refl
 
-one-or-more : (a : Answer) → T (hasBytes a) → 1 ≤ length (bytesOf a)
-one-or-more Answer.nothing t = absurd t
-one-or-more (Answer.primesAre ts) t = omega arith
-one-or-more (Answer.paged ss m) t = omega arith
-one-or-more (Answer.cheapestIs c s) t = omega arith
-one-or-more Answer.ended t = omega arith
+one-or-more : (bs : List ℕ) → T (nonEmpty bs) → 1 ≤ length bs
+one-or-more [] t = absurd t
+one-or-more (b ∷ bs) t = omega arith
 
-read-step : (a : Answer) → Fits a → T (hasBytes a) → (bs : List ℕ) (rs : List Answer) → ((k : ℕ) → length bs ≤ k → readUpTo k bs ≡ rs) → (k : ℕ) → length (bytesOf a ++ bs) ≤ k → readUpTo k (bytesOf a ++ bs) ≡ a ∷ rs
-read-step a f t bs rs h zero l = absurd (omega (arith, one-or-more a t, length-append (bytesOf a) bs))
-read-step a f t bs rs h (suc k) l = read-one a f t bs k ∙ ap (λ (x : List Answer). a ∷ x) (h k (omega (arith, one-or-more a t, length-append (bytesOf a) bs)))
+no-bytes : (bs cs : List ℕ) → T (not (nonEmpty bs)) → bs ++ cs ≡ cs
+no-bytes [] cs n = refl
+no-bytes (b ∷ bs) cs n = absurd n
 
 read-all : (rs : List Answer) → All Fits rs → (k : ℕ) → length (join (map bytesOf rs)) ≤ k → readUpTo k (join (map bytesOf rs)) ≡ filter hasBytes rs
 read-all [] f k l = read-none k
-read-all (a ∷ rs) f k l = go a (f .0) (read-all rs (f .1)) k l
+read-all (a ∷ rs) f k l = go (hasBytes a) refl (read-all rs (f .1)) k l
   where
     bs : List ℕ
     bs = join (map bytesOf rs)
 
-    go : (a : Answer) → Fits a → ((k : ℕ) → length bs ≤ k → readUpTo k bs ≡ filter hasBytes rs) → (k : ℕ) → length (bytesOf a ++ bs) ≤ k → readUpTo k (bytesOf a ++ bs) ≡ cond (hasBytes a) (a ∷ filter hasBytes rs) (filter hasBytes rs)
-    go Answer.nothing f h = h
-    go (Answer.primesAre ts) f h = read-step (Answer.primesAre ts) f tt bs (filter hasBytes rs) h
-    go (Answer.paged ss m) f h = read-step (Answer.paged ss m) f tt bs (filter hasBytes rs) h
-    go (Answer.cheapestIs c s) f h = read-step (Answer.cheapestIs c s) f tt bs (filter hasBytes rs) h
-    go Answer.ended f h = read-step Answer.ended f tt bs (filter hasBytes rs) h
+    go : (b : Bool) → hasBytes a ≡ b → ((k : ℕ) → length bs ≤ k → readUpTo k bs ≡ filter hasBytes rs) → (k : ℕ) → length (bytesOf a ++ bs) ≤ k → readUpTo k (bytesOf a ++ bs) ≡ cond b (a ∷ filter hasBytes rs) (filter hasBytes rs)
+    go true e h zero l = absurd (omega (arith, one-or-more (bytesOf a) (rw e tt), length-append (bytesOf a) bs))
+    go true e h (suc k) l =
+        read-one a (f .0) (rw e tt) bs k
+        ∙ ap (λ (x : List Answer). a ∷ x) (h k (omega (arith, one-or-more (bytesOf a) (rw e tt), length-append (bytesOf a) bs)))
+    go false e h k l =
+        let n = no-bytes (bytesOf a) bs (rw e tt) in
+        subst⁻¹ (λ (x : List ℕ). readUpTo k x ≡ filter hasBytes rs) n (h k (subst (λ (x : List ℕ). length x ≤ k) n l))
 
 pub read-answers : (rs : List Answer) → All Fits rs → read (join (map bytesOf rs)) ≡ filter hasBytes rs
 unfolding read

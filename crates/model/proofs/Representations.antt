@@ -1,5 +1,5 @@
--- What a list of other things listCost, each of which some candidate outdoes; and the rival: where the candidates hold every prime,
--- no list of terms that represents the table listCost less than the cheapest set.
+-- What a list of other things costs, each of which some candidate outdoes; and the rival: where the candidates hold every prime,
+-- no list of terms that represents the table costs less than the cheapest set.
 use Prim.Native.Nat.{ℕ, zero, suc, _+_, _*_, _/_, _%_, _^_, _≤_, _<_}
 use native.Mathlib.Omega.{arith}
 use native.Mathlib.Nat.{pow-suc}
@@ -12,7 +12,7 @@ use lib.Pow.{pow-pos}
 use lib.Count.{ones}
 use lib.ListN.{length}
 use Rattle.model.specs.Base.{bit, every, sum}
-use Rattle.model.specs.Table.{Table, Term, Cell, isOn, onCells, holds, cells, legal, represents}
+use Rattle.model.specs.Table.{Table, Term, isOn, onCells, holds, cells, legal, represents}
 use Rattle.model.specs.Primes.{prime}
 use Rattle.model.specs.Sets.{Covering, Within, members, covers, cover, cost, cheapest}
 use Rattle.model.specs.Candidates.{termCost, listCost, Basis, covering}
@@ -87,7 +87,7 @@ module _ {A : Type 0} (w : A → ℕ) where
 -- ---- any other list of things that hold points and have a price
 
 module _ {A B X : Type 0} (k : Covering A X) (held-by : B → X → Bool) (price-of : B → ℕ) where
-  -- a candidate that holds the points that q holds, and listCost no more
+  -- a candidate that holds the points that q holds, and costs no more
   pub record Dominated (q : B) : Type 0 where
     pub by : A
     pub listed : List·Memᴰ by (k .cands)
@@ -115,7 +115,7 @@ module _ {A B X : Type 0} (k : Covering A X) (held-by : B → X → Bool) (price
   matched [] f = record { set = 0; small = pow-pos (length (k .cands)); over = λ q i. elim i [ ]; price = omega (arith, none-cost (k .weight) (k .cands)) }
   matched (q ∷ qs) f = add q qs (matched qs (λ r m. f r (List·Memᴰ·tail m))) (f q (List·Memᴰ·head refl))
 
-  -- a list of any length that holds each point, each of it dominated, listCost at least as much as the cheapest set
+  -- a list of any length that holds each point, each of it dominated, costs at least as much as the cheapest set
   pub dominated : (qs : List B) → ((q : B) → List·Memᴰ q qs → Dominated q) → T (covers held-by (k .points) qs) → cost k (cheapest k) ≤ sum price-of qs
   unfolding cover cost
   dominated qs f c =
@@ -123,22 +123,21 @@ module _ {A B X : Type 0} (k : Covering A X) (held-by : B → X → Bool) (price
       let d : T (cover k (m .set)) = covers-i (k .holds) (k .points) (members (k .cands) (m .set)) (λ x i. let h = covers-e held-by (k .points) qs c i in m .over (h .0) (h .1) x i (h .2)) in
       omega (arith, cheapest-le k (m .set) (m .small) d, m .price)
 
--- ---- terms, at any price that more literals do not lower
+-- ---- terms, at any weight that more literals do not lower
 
-abbrev pub priced : (Term → ℕ) → Basis → Covering Term Cell
-priced w b = record { points = onCells (b .table); holds = holds; weight = w; cands = b .cands }
-
-module _ (w : Term → ℕ) (dearer : (t u : Term) → ones (t .care) ≤ ones (u .care) → w t ≤ w u) where
-  pub no-cheaper-list-at : (b : Basis) → ((t : Term) → T (prime (b .table) t) → List·Memᴰ t (b .cands)) → (qs : List Term) → T (represents (b .table) qs) → cost (priced w b) (cheapest (priced w b)) ≤ sum w qs
-  unfolding represents onCells covers
-  no-cheaper-list-at b all qs r = dominated (priced w b) holds w qs (λ q m. one q (prime-over p q (every-e (legal p) m (and-l (every (legal p) qs) (covers holds (onCells p) qs) r)))) (and-r (every (legal p) qs) (covers holds (onCells p) qs) r)
+module _ (b : Basis) (dearer : (t u : Term) → ones (t .care) ≤ ones (u .care) → b .weight t ≤ b .weight u) where
+  pub no-cheaper-list : ((t : Term) → T (prime (b .table) t) → List·Memᴰ t (b .cands)) → (qs : List Term) → T (represents (b .table) qs) → cost (covering b) (cheapest (covering b)) ≤ listCost b qs
+  unfolding represents onCells covers listCost
+  no-cheaper-list all qs r =
+      dominated (covering b) holds (b .weight) qs (λ q m. one q (prime-over p q (every-e (legal p) m (and-l (every (legal p) qs) (covers holds (onCells p) qs) r)))) (and-r (every (legal p) qs) (covers holds (onCells p) qs) r)
     where
       p : Table
       p = b .table
 
-      one : (q : Term) → Over p q → Dominated (priced w b) holds w q
+      one : (q : Term) → Over p q → Dominated (covering b) holds (b .weight) q
       one q o = record { by = o .top; listed = all (o .top) (o .prime-top); wider = λ x i h. contains-e p (o .top) q (o .containing) x (filter-e (isOn p) (cells p) i .0) h; fewer = dearer (o .top) q (o .fewer) }
 
-pub no-cheaper-list : (b : Basis) → ((t : Term) → T (prime (b .table) t) → List·Memᴰ t (b .cands)) → (qs : List Term) → T (represents (b .table) qs) → cost (covering b) (cheapest (covering b)) ≤ listCost qs
-unfolding listCost termCost
-no-cheaper-list = no-cheaper-list-at termCost (λ t u h. omega arith)
+-- the paper's cost is such a weight
+pub cost-dearer : (t u : Term) → ones (t .care) ≤ ones (u .care) → termCost t ≤ termCost u
+unfolding termCost
+cost-dearer t u h = omega arith

@@ -1,37 +1,31 @@
 -- Behind the first L or C of a job neither the table nor the candidates change.
-use Prim.Native.Nat.{ℕ, _+_, _-_}
+use Prim.Native.Nat.{ℕ, _-_}
 use mathlib.Core.Path.{_≡_, refl, subst}
-use mathlib.Core.Bool.{Bool, true, false, not, cond, _||_}
+use mathlib.Core.Bool.{Bool, true, false, cond}
 use mathlib.Core.List.{List, [], _∷_}
 use lib.Dec.{T}
-use lib.ListN.{length, drop}
 use Rattle.model.specs.Base.{filter, All, First}
 use Rattle.model.specs.Candidates.{Basis}
-use Rattle.model.specs.Commands.{Kind, is, kindOf, width, allowed, Problem, basisOf, Context, problemAfter}
-use Rattle.model.specs.Answers.{bytesOf, answer}
-use Rattle.model.specs.Refusals.{refusal}
-use Rattle.model.specs.Job.{Run, answerThen, run}
-use Rattle.model.specs.Demand3.{HasBasis, isQuery, queries}
+use Rattle.model.specs.Commands.{queried, Kind, isQueryKind, kindOf, allowed, Problem, basisOf, Context, problemAfter}
+use Rattle.model.specs.Rules.{engine}
+use Rattle.model.specs.Job.{run}
+use Rattle.model.specs.Demand3.{HasBasis, isQuery}
+use Rattle.model.specs.Whole.{queries}
 use Rattle.model.proofs.Lists.{and-l, all-filter}
-use Rattle.model.proofs.Runs.{context, Passed, run-ind}
+use Rattle.model.proofs.Codes.{any-query}
+use Rattle.model.proofs.Runs.{context, OnRuns, IfGoes, run-ind}
+use Rattle.model.proofs.Sound.{engine-lawful}
 
 -- q is at its last place, with this table and these candidates
 record Settled (z : Basis) (q : Problem) : Type 0 where
-  place : q .place ≡ 3
+  place : q .place ≡ queried
   stands : basisOf q ≡ z
 
-after-query : (z : Basis) (t : Context) (k : Kind) → T (is k Kind.L || is k Kind.C) → HasBasis z t → Settled z (problemAfter t k)
+after-query : (z : Basis) (t : Context) → HasBasis z t → (k : Kind) → T (isQueryKind k) → Settled z (problemAfter t k)
 unfolding problemAfter
-after-query z t Kind.L a e = record { place = refl; stands = e }
-after-query z t Kind.C a e = record { place = refl; stands = e }
-after-query z t Kind.I a e = absurd a
-after-query z t Kind.R a e = absurd a
-after-query z t Kind.T a e = absurd a
-after-query z t Kind.P a e = absurd a
-after-query z t Kind.E a e = absurd a
-after-query z t Kind.none a e = absurd a
+after-query z t e = any-query (λ k. Settled z (problemAfter t k)) (record { place = refl; stands = e }, (record { place = refl; stands = e }, tt))
 
-after-settled : (z : Basis) (t : Context) (k : Kind) → T (allowed k 3) → Settled z (t .problem) → Settled z (problemAfter t k)
+after-settled : (z : Basis) (t : Context) (k : Kind) → T (allowed k queried) → Settled z (t .problem) → Settled z (problemAfter t k)
 unfolding problemAfter
 after-settled z t Kind.L a s = record { place = refl; stands = s .stands }
 after-settled z t Kind.C a s = record { place = refl; stands = s .stands }
@@ -44,7 +38,7 @@ after-settled z t Kind.none a s = absurd a
 
 module _ (z : Basis) where
   -- all commands of a settled problem, and all L and C where the first is so
-  abbrev Same : Problem → List ℕ → ℕ → ℕ → Run → Type 0
+  abbrev Same : OnRuns
   Same q bs free at r = (Settled z q → All (HasBasis z) (r .contexts)) × (First (HasBasis z) (filter isQuery (r .contexts)) → All (HasBasis z) (filter isQuery (r .contexts)))
 
   lone : (t : Context) (d : Bool) → First (HasBasis z) (cond d (t ∷ []) []) → All (HasBasis z) (cond d (t ∷ []) [])
@@ -54,8 +48,7 @@ module _ (z : Basis) where
   one : (q : Problem) (b : ℕ) (bs : List ℕ) (free : ℕ) → Settled z q → HasBasis z (context q b bs free)
   one q b bs free s = s .stands
 
-  on : (q : Problem) (b : ℕ) (bs : List ℕ) (free at : ℕ) → Passed (context q b bs free) → refusal (context q b bs free) ≡ 0 → T (not (is (kindOf b) Kind.E)) → (r : Run)
-      → Same (problemAfter (context q b bs free) (kindOf b)) (drop (width (kindOf b)) bs) (free - length (bytesOf (answer (context q b bs free)))) (at + 1 + width (kindOf b)) r → Same q (b ∷ bs) free at (answerThen (context q b bs free) r)
+  on : IfGoes engine Same
   on q b bs free at h i n r s = (
     (λ w. (one q b bs free w, s .0 (after-settled z t (kindOf b) (subst (λ (x : ℕ). T (allowed (kindOf b) x)) (w .place) (h .place)) w))),
     go (isQuery t) refl,
@@ -67,13 +60,13 @@ module _ (z : Basis) where
       go : (d : Bool) → isQuery t ≡ d → First (HasBasis z) (cond d (t ∷ filter isQuery (r .contexts)) (filter isQuery (r .contexts))) → All (HasBasis z) (cond d (t ∷ filter isQuery (r .contexts)) (filter isQuery (r .contexts)))
       go true e g =
           let a : T (isQuery t) = rw e tt in
-          let y = after-query z t (kindOf b) (and-l (is (kindOf b) Kind.L || is (kindOf b) Kind.C) (allowed (kindOf b) (q .place)) a) g in
+          let y = after-query z t g (kindOf b) (and-l (isQueryKind (kindOf b)) (allowed (kindOf b) (q .place)) a) in
           (g, all-filter (HasBasis z) isQuery (r .contexts) (s .0 y))
       go false e g = s .1 g
 
   pub same-basis : (job : List ℕ) (room : ℕ) → First (HasBasis z) (queries (run job room)) → All (HasBasis z) (queries (run job room))
   unfolding queries
-  same-basis job room = run-ind Same
+  same-basis job room = run-ind engine engine-lawful Same
       (λ q free at. (λ s. tt, λ g. tt))
       (λ q b bs free at n. (λ s. (one q b bs free s, tt), lone (context q b bs free) (isQuery (context q b bs free))))
       (λ q b bs free at h i e. (λ s. (one q b bs free s, tt), lone (context q b bs free) (isQuery (context q b bs free))))

@@ -62,7 +62,7 @@ module _ {A : Type 0} where
       let o : (2 ^ suc (length ts) - 1) % 2 ≡ 1 = omega (arith, pow-suc 2 (length ts)) in
       rw (h, o, members-all ts)
 
--- what the test on a list of points correct, both ways
+-- what the test on a list of points says, both ways
 module _ {A X : Type 0} (holds : A → X → Bool) where
   pub covers-e : (xs : List X) (ts : List A) → T (covers holds xs ts) → {x : X} → List·Memᴰ x xs → (t : A) × List·Memᴰ t ts × T (holds t x)
   unfolding covers
@@ -165,7 +165,7 @@ module _ {A X : Type 0} (k : Covering A X) where
       back : Irredundant k s → List·Memᴰ s (filter (irredundant k) (below (2 ^ length (k .cands))))
       back r = filter-i (irredundant k) (below-i (r .among)) (irredundant-i s r)
 
-  -- every cover contains an irredundant one, which listCost no more
+  -- every cover contains an irredundant one, which costs no more
   pub record Core (s : ℕ) : Type 0 where
     pub core : ℕ
     pub inside : Within core s
@@ -201,7 +201,7 @@ module _ {A X : Type 0} (k : Covering A X) where
 
   -- ---- the cheapest
 
-  -- it listCost at most as much as any cover of the candidates
+  -- it costs at most as much as any cover of the candidates
   pub cheapest-le : (s : ℕ) → s < 2 ^ length (k .cands) → T (cover k s) → cost k (cheapest k) ≤ cost k s
   unfolding cheapest
   cheapest-le s l c =

@@ -1,32 +1,35 @@
--- The sizes that every problem of a job keeps, and so every answer: each fits its bytes.
-use Prim.Native.Nat.{ℕ, zero, suc, _+_, _-_, _*_, _/_, _^_, _≤_, _<_}
+-- The engine's rules are lawful: the sizes that every problem of a job keeps, and so every answer: each fits its bytes.
+use Prim.Native.Nat.{ℕ, zero, suc, _-_, _*_, _/_, _^_, _≤_, _<_}
 use native.Mathlib.Omega.{arith}
-use mathlib.Core.Path.{_≡_}
-use mathlib.Core.Bool.{Bool, true, false, not, cond, _&&_}
+use native.Mathlib.Nat.{mul-suc}
+use mathlib.Core.Path.{_≡_, subst}
+use mathlib.Core.Bool.{Bool, true, false, cond, _&&_}
 use mathlib.Core.List.{List, [], _∷_, map}
 use lib.Dec.{T, leb, leb→le, nleb→lt, nltb→le}
 use lib.Pow.{pow-mono}
 use lib.Count.{ones-le}
-use lib.ListN.{getD, length, drop, length-take, length-append}
+use lib.ListN.{getD, length, take, length-take, length-append}
 use Rattle.model.specs.Base.{bit, below, filter, join, sum, All, Bytes}
 use Rattle.model.specs.Table.{Table, Term, formed}
 use Rattle.model.specs.Primes.{primes}
 use Rattle.model.specs.Sets.{Covering, members, coverable, irredundant, irredundants, cost, cheapest}
 use Rattle.model.specs.Pages.{atOrAbove, page, more}
 use Rattle.model.specs.Candidates.{termCost}
-use Rattle.model.specs.Commands.{Kind, is, kindOf, width, Problem, Context, low, operand, operandTerm, start, count, coveringOf, problemAfter}
-use Rattle.model.specs.Answers.{bytesOf, answerFor, answer}
-use Rattle.model.specs.Refusals.{size, refusalsOf, refusal}
-use Rattle.model.specs.Job.{Run, stop, answerThen, run, written}
+use Rattle.model.specs.Commands.{queried, Kind, kindOf, width, Problem, atPlace, Context, low, operand, operandTerm, start, count, coveringOf, problemAfter}
+use Rattle.model.specs.Answers.{Answer, bytesOf, answerFor, answer}
+use Rattle.model.specs.Refusals.{size, refusalsOf}
+use Rattle.model.specs.Rules.{Rules, engine}
+use Rattle.model.specs.Job.{runBy, written}
 use Rattle.model.specs.Invariants.{Small, Sound}
 use Rattle.model.proofs.Lists.{twice, and-l, and-r, below-e, all-append, all-filter, all-take, all-drop, all-of}
 use Rattle.model.proofs.Bits.{within-le}
 use Rattle.model.proofs.Sets.{cheapest-irredundant}
 use Rattle.model.proofs.Cubes.{Formed, formed-e, legal-formed, prime-e, primes-e}
-use Rattle.model.proofs.Runs.{context, Passed, run-ind}
+use Rattle.model.proofs.Codes.{is-kind}
+use Rattle.model.proofs.Runs.{Numbered, NoneApplies, Lawful, context, OnRuns, IfEnds, IfGoes, run-ind}
 use Rattle.model.proofs.Read.{Fits}
 
--- ---- problems
+-- ---- terms
 
 formed-small : (p : Table) (t : Term) → p .n ≤ 8 → p .m ≤ 8 → Formed p t → Small t
 formed-small p t n m f =
@@ -36,58 +39,6 @@ formed-small p t n m f =
 
 primes-small : (p : Table) → p .n ≤ 8 → p .m ≤ 8 → All Small (primes p)
 primes-small p n m = all-of Small (primes p) (λ t i. formed-small p t n m (legal-formed p t (prime-e p t (primes-e p t i) .0)))
-
-pub after-sound : (t : Context) (k : Kind) → All (λ r. T (not (r .applies))) (refusalsOf t k) → Sound (t .problem) → Sound (problemAfter t k)
-unfolding refusalsOf problemAfter
-after-sound t Kind.I a s =
-    let h = twice (size (operand t 0) && size (operand t 1)) (a .0) in
-    record {
-      inputs = leb→le (operand t 0) 8 (and-r (leb 1 (operand t 0)) (leb (operand t 0) 8) (and-l (size (operand t 0)) (size (operand t 1)) h));
-      outputs = leb→le (operand t 1) 8 (and-r (leb 1 (operand t 1)) (leb (operand t 1) 8) (and-r (size (operand t 0)) (size (operand t 1)) h));
-      few = omega arith;
-      small = tt;
-    }
-after-sound t Kind.R a s = record { inputs = s .inputs; outputs = s .outputs; few = s .few; small = s .small }
-after-sound t Kind.T a s = record {
-  inputs = s .inputs;
-  outputs = s .outputs;
-  few = omega (arith, nleb→lt 64 (length (t .problem .cands)) (a .1 .1 .0), length-append (t .problem .cands) (operandTerm t ∷ []));
-  small = all-append Small (t .problem .cands) (operandTerm t ∷ []) (s .small) (formed-small (t .problem .table) (operandTerm t) (s .inputs) (s .outputs) (formed-e (t .problem .table) (operandTerm t) (twice (formed (t .problem .table) (operandTerm t)) (a .0))), tt);
-}
-after-sound t Kind.P a s = record { inputs = s .inputs; outputs = s .outputs; few = nltb→le 64 (length (primes (t .problem .table))) (a .0); small = primes-small (t .problem .table) (s .inputs) (s .outputs) }
-after-sound t Kind.L a s = record { inputs = s .inputs; outputs = s .outputs; few = s .few; small = s .small }
-after-sound t Kind.C a s = record { inputs = s .inputs; outputs = s .outputs; few = s .few; small = s .small }
-after-sound t Kind.E a s = s
-after-sound t Kind.none a s = s
-
--- ---- answers
-
-sum-small : (ts : List Term) (s : ℕ) → All Small ts → sum termCost (members ts s) ≤ 9 * length ts
-unfolding termCost
-sum-small [] s a = omega arith
-sum-small (t ∷ ts) s a = go (bit 0 s) (sum-small ts (s / 2) (a .1))
-  where
-    go : (b : Bool) → sum termCost (members ts (s / 2)) ≤ 9 * length ts → sum termCost (cond b (t ∷ members ts (s / 2)) (members ts (s / 2))) ≤ 9 * suc (length ts)
-    go true h = omega (arith, ones-le 8 (t .care) (a .0 .0))
-    go false h = omega arith
-
-listed-small : {A X : Type 0} (k : Covering A X) → length (k .cands) ≤ 64 → All (λ s. s < 2 ^ 64) (irredundants k)
-unfolding irredundants
-listed-small k l = all-filter (λ (s : ℕ). s < 2 ^ 64) (irredundant k) (below (2 ^ length (k .cands))) (all-of (λ (s : ℕ). s < 2 ^ 64) (below (2 ^ length (k .cands))) (λ s m. let h = pow-mono l in omega (arith, below-e (2 ^ length (k .cands)) m)))
-
-pub fits : (t : Context) (k : Kind) → All (λ r. T (not (r .applies))) (refusalsOf t k) → Sound (t .problem) → Fits (answerFor t k)
-unfolding refusalsOf answerFor page atOrAbove cost
-fits t Kind.I a s = tt
-fits t Kind.R a s = tt
-fits t Kind.T a s = tt
-fits t Kind.P a s = tt
-fits t Kind.L a s = all-take (λ (s : ℕ). s < 2 ^ 64) (count t) (filter (leb (start t)) (irredundants (coveringOf t))) (all-filter (λ (s : ℕ). s < 2 ^ 64) (leb (start t)) (irredundants (coveringOf t)) (listed-small (coveringOf t) (s .few)))
-fits t Kind.C a s =
-    let i = cheapest-irredundant (coveringOf t) (twice (coverable (coveringOf t)) (a .0)) in
-    let h = pow-mono (s .few) in
-    (omega (arith, sum-small (t .problem .cands) (cheapest (coveringOf t)) (s .small), s .few), omega (arith, i .among))
-fits t Kind.E a s = tt
-fits t Kind.none a s = tt
 
 -- ---- bytes
 
@@ -112,46 +63,151 @@ getD-byte [] i a = omega arith
 getD-byte (b ∷ bs) zero a = a .0
 getD-byte (b ∷ bs) (suc i) a = getD-byte bs i (a .1)
 
-answer-bytes : (t : Context) (k : Kind) → All (λ r. T (not (r .applies))) (refusalsOf t k) → Sound (t .problem) → Bytes (t .rest) → Bytes (bytesOf (answerFor t k))
-unfolding refusalsOf answerFor page
-answer-bytes t Kind.I a s b = tt
-answer-bytes t Kind.R a s b = tt
-answer-bytes t Kind.T a s b = tt
-answer-bytes t Kind.P a s b = (omega arith, (omega (arith, nltb→le 64 (length (primes (t .problem .table))) (a .0)), terms-bytes (primes (t .problem .table)) (primes-small (t .problem .table) (s .inputs) (s .outputs))))
-answer-bytes t Kind.L a s b = (omega arith, (omega (arith, length-take (count t) (atOrAbove (irredundants (coveringOf t)) (start t)), getD-byte (t .rest) 8 b), (flag-byte (more (irredundants (coveringOf t)) (start t) (count t)), sets-bytes (page (irredundants (coveringOf t)) (start t) (count t)))))
-answer-bytes t Kind.C a s b = (omega arith, all-append (λ (b : ℕ). b < 256) (low 2 (cost (coveringOf t) (cheapest (coveringOf t)))) (low 8 (cheapest (coveringOf t))) (low-bytes 2 (cost (coveringOf t) (cheapest (coveringOf t)))) (low-bytes 8 (cheapest (coveringOf t))))
-answer-bytes t Kind.E a s b = (omega arith, tt)
-answer-bytes t Kind.none a s b = tt
+-- ---- answers
 
--- ---- whole jobs
+-- an answer that fits its bytes, of a command with these bytes behind it
+abbrev pub FitsBehind : List ℕ → Answer → Type 0
+FitsBehind rest a = Fits a × (Bytes rest → Bytes (bytesOf a))
 
-abbrev Fine : Problem → List ℕ → ℕ → ℕ → Run → Type 0
-Fine q bs free at r = Sound q → All Fits (r .answers) × (Bytes bs → Bytes (join (map bytesOf (r .answers))))
-
-fine-ends : (q : Problem) (b : ℕ) (bs : List ℕ) (free at : ℕ) → Passed (context q b bs free) → refusal (context q b bs free) ≡ 0 → T (is (kindOf b) Kind.E) → Fine q (b ∷ bs) free at (answerThen (context q b bs free) (stop 0 (at + 1) []))
-unfolding answer
-fine-ends q b bs free at h z e s = (
-  (fits (context q b bs free) (kindOf b) (h .own) s, tt),
-  λ y. all-append (λ (b : ℕ). b < 256) (bytesOf (answerFor (context q b bs free) (kindOf b))) [] (answer-bytes (context q b bs free) (kindOf b) (h .own) s (y .1)) tt,
+-- a page of any list of 64-bit sets
+pub page-fits : (t : Context) (list : List ℕ) (m : Bool) → All (λ s. s < 2 ^ 64) list → FitsBehind (t .rest) (Answer.paged (page list (start t) (count t)) m)
+unfolding page atOrAbove
+page-fits t list m a = (
+  all-take (λ (s : ℕ). s < 2 ^ 64) (count t) (filter (leb (start t)) list) (all-filter (λ (s : ℕ). s < 2 ^ 64) (leb (start t)) list a),
+  λ b. (omega arith, (omega (arith, length-take (count t) (filter (leb (start t)) list), getD-byte (t .rest) 8 b), (flag-byte m, sets-bytes (take (count t) (filter (leb (start t)) list))))),
 )
 
-fine-goes : (q : Problem) (b : ℕ) (bs : List ℕ) (free at : ℕ) → Passed (context q b bs free) → refusal (context q b bs free) ≡ 0 → T (not (is (kindOf b) Kind.E)) → (r : Run)
-    → Fine (problemAfter (context q b bs free) (kindOf b)) (drop (width (kindOf b)) bs) (free - length (bytesOf (answer (context q b bs free)))) (at + 1 + width (kindOf b)) r → Fine q (b ∷ bs) free at (answerThen (context q b bs free) r)
+pub listed-small : {A X : Type 0} (k : Covering A X) → length (k .cands) ≤ 64 → All (λ s. s < 2 ^ 64) (irredundants k)
+unfolding irredundants
+listed-small k l = all-filter (λ (s : ℕ). s < 2 ^ 64) (irredundant k) (below (2 ^ length (k .cands))) (all-of (λ (s : ℕ). s < 2 ^ 64) (below (2 ^ length (k .cands))) (λ s m. let h = pow-mono l in omega (arith, below-e (2 ^ length (k .cands)) m)))
+
+cheapest-fits : (rest : List ℕ) (c s : ℕ) → c < 2 ^ 16 → s < 2 ^ 64 → FitsBehind rest (Answer.cheapestIs c s)
+cheapest-fits rest c s h l = ((h, l), λ b. (omega arith, all-append (λ (b : ℕ). b < 256) (low 2 c) (low 8 s) (low-bytes 2 c) (low-bytes 8 s)))
+
+-- a set of candidates that cost no more than `most` each
+sum-small : {A : Type 0} (w : A → ℕ) (most : ℕ) (ts : List A) (s : ℕ) → All (λ t. w t ≤ most) ts → sum w (members ts s) ≤ most * length ts
+sum-small w most [] s a = omega arith
+sum-small w most (t ∷ ts) s a = go (bit 0 s) (sum-small w most ts (s / 2) (a .1))
+  where
+    go : (b : Bool) → sum w (members ts (s / 2)) ≤ most * length ts → sum w (cond b (t ∷ members ts (s / 2)) (members ts (s / 2))) ≤ most * suc (length ts)
+    go true h = omega (arith, a .0, mul-suc most (length ts))
+    go false h = omega (arith, mul-suc most (length ts))
+
+costs-small : (ts : List Term) → All Small ts → All (λ t. termCost t ≤ 9) ts
+unfolding termCost
+costs-small [] a = tt
+costs-small (t ∷ ts) a = (omega (arith, ones-le 8 (t .care) (a .0 .0)), costs-small ts (a .1))
+
+-- ---- the engine's rules, command by command
+
+record LawfulAt (t : Context) (k : Kind) : Type 0 where
+  numbered : All Numbered (refusalsOf t k)
+  sound : NoneApplies (refusalsOf t k) → Sound (t .problem) → Sound (problemAfter t k)
+  fits : NoneApplies (refusalsOf t k) → Sound (t .problem) → FitsBehind (t .rest) (answerFor t k)
+
+sound-at : (place : ℕ) (q : Problem) → Sound q → Sound (atPlace place q)
+sound-at place q s = record { inputs = s .inputs; outputs = s .outputs; few = s .few; small = s .small }
+
+sound-I : (t : Context) → NoneApplies (refusalsOf t Kind.I) → Sound (problemAfter t Kind.I)
+unfolding refusalsOf problemAfter
+sound-I t a =
+    let h = twice (size (operand t 0) && size (operand t 1)) (a .0) in
+    record {
+      inputs = leb→le (operand t 0) 8 (and-r (leb 1 (operand t 0)) (leb (operand t 0) 8) (and-l (size (operand t 0)) (size (operand t 1)) h));
+      outputs = leb→le (operand t 1) 8 (and-r (leb 1 (operand t 1)) (leb (operand t 1) 8) (and-r (size (operand t 0)) (size (operand t 1)) h));
+      few = omega arith;
+      small = tt;
+    }
+
+sound-T : (t : Context) → NoneApplies (refusalsOf t Kind.T) → Sound (t .problem) → Sound (problemAfter t Kind.T)
+unfolding refusalsOf problemAfter
+sound-T t a s = record {
+  inputs = s .inputs;
+  outputs = s .outputs;
+  few = omega (arith, nleb→lt 64 (length (t .problem .cands)) (a .1 .1 .0), length-append (t .problem .cands) (operandTerm t ∷ []));
+  small = all-append Small (t .problem .cands) (operandTerm t ∷ []) (s .small) (formed-small (t .problem .table) (operandTerm t) (s .inputs) (s .outputs) (formed-e (t .problem .table) (operandTerm t) (twice (formed (t .problem .table) (operandTerm t)) (a .0))), tt);
+}
+
+fits-P : (t : Context) → NoneApplies (refusalsOf t Kind.P) → Sound (t .problem) → FitsBehind (t .rest) (answerFor t Kind.P)
+unfolding refusalsOf answerFor
+fits-P t a s = (tt, λ b. (omega arith, (omega (arith, nltb→le 64 (length (primes (t .problem .table))) (a .0)), terms-bytes (primes (t .problem .table)) (primes-small (t .problem .table) (s .inputs) (s .outputs)))))
+
+fits-C : (t : Context) → NoneApplies (refusalsOf t Kind.C) → Sound (t .problem) → FitsBehind (t .rest) (answerFor t Kind.C)
+unfolding refusalsOf answerFor cost
+fits-C t a s =
+    let i = cheapest-irredundant (coveringOf t) (twice (coverable (coveringOf t)) (a .0)) in
+    let h = pow-mono (s .few) in
+    let c = sum-small termCost 9 (t .problem .cands) (cheapest (coveringOf t)) (costs-small (t .problem .cands) (s .small)) in
+    cheapest-fits (t .rest) (cost (coveringOf t) (cheapest (coveringOf t))) (cheapest (coveringOf t)) (omega (arith, c, s .few)) (omega (arith, i .among))
+
+lawful-at : (t : Context) (k : Kind) → LawfulAt t k
+unfolding refusalsOf problemAfter answerFor
+lawful-at t Kind.I = record { numbered = (omega arith, tt); sound = λ a s. sound-I t a; fits = λ a s. (tt, λ b. tt) }
+lawful-at t Kind.R = record { numbered = (omega arith, (omega arith, tt)); sound = λ a s. record { inputs = s .inputs; outputs = s .outputs; few = s .few; small = s .small }; fits = λ a s. (tt, λ b. tt) }
+lawful-at t Kind.T = record { numbered = (omega arith, (omega arith, (omega arith, tt))); sound = sound-T t; fits = λ a s. (tt, λ b. tt) }
+lawful-at t Kind.P = record {
+  numbered = (omega arith, tt);
+  sound = λ a s. record { inputs = s .inputs; outputs = s .outputs; few = nltb→le 64 (length (primes (t .problem .table))) (a .0); small = primes-small (t .problem .table) (s .inputs) (s .outputs) };
+  fits = fits-P t;
+}
+lawful-at t Kind.L = record {
+  numbered = (omega arith, tt);
+  sound = λ a s. sound-at queried (t .problem) s;
+  fits = λ a s. page-fits t (irredundants (coveringOf t)) (more (irredundants (coveringOf t)) (start t) (count t)) (listed-small (coveringOf t) (s .few));
+}
+lawful-at t Kind.C = record { numbered = (omega arith, tt); sound = λ a s. sound-at queried (t .problem) s; fits = fits-C t }
+lawful-at t Kind.E = record { numbered = (omega arith, tt); sound = λ a s. s; fits = λ a s. (tt, λ b. (omega arith, tt)) }
+lawful-at t Kind.none = record { numbered = tt; sound = λ a s. s; fits = λ a s. (tt, λ b. tt) }
+
+pub refusalsOf-no : (t : Context) (k : Kind) → All Numbered (refusalsOf t k)
+refusalsOf-no t k = lawful-at t k .numbered
+
+pub after-sound : (t : Context) (k : Kind) → NoneApplies (refusalsOf t k) → Sound (t .problem) → Sound (problemAfter t k)
+after-sound t k = lawful-at t k .sound
+
+-- 13: no byte is left behind an E
+none-behind : (t : Context) → NoneApplies (refusalsOf t Kind.E) → length (t .rest) ≡ 0
+unfolding refusalsOf
+none-behind t a = omega (arith, nltb→le 0 (length (t .rest)) (a .0))
+
+pub engine-lawful : Lawful engine
 unfolding answer
-fine-goes q b bs free at h z e r f s =
-    let g = f (after-sound (context q b bs free) (kindOf b) (h .own) s) in (
-      (fits (context q b bs free) (kindOf b) (h .own) s, g .0),
-      λ y. all-append (λ (b : ℕ). b < 256) (bytesOf (answerFor (context q b bs free) (kindOf b))) (join (map bytesOf (r .answers))) (answer-bytes (context q b bs free) (kindOf b) (h .own) s (y .1)) (g .1 (all-drop (λ (b : ℕ). b < 256) (width (kindOf b)) bs (y .1))),
-    )
+engine-lawful = record {
+  numbered = λ x. refusalsOf-no x (x .kind);
+  last = λ x e a. none-behind x (subst (λ (k : Kind). NoneApplies (refusalsOf x k)) (is-kind (x .kind) Kind.E e) a);
+  sound = λ x. after-sound x (x .kind);
+  fits = λ x. lawful-at x (x .kind) .fits;
+}
 
-fine : (job : List ℕ) (room : ℕ) → All Fits (run job room .answers) × (Bytes job → Bytes (join (map bytesOf (run job room .answers))))
-fine job room = run-ind Fine (λ q free at s. (tt, λ y. tt)) (λ q b bs free at n s. (tt, λ y. tt)) fine-ends fine-goes
-    (λ r. All Fits (r .answers) × (Bytes job → Bytes (join (map bytesOf (r .answers))))) job room (λ l. (tt, λ y. tt)) (λ l m r f. f (record { inputs = omega arith; outputs = omega arith; few = omega arith; small = tt }))
+-- ---- whole jobs, by any rules
 
-pub run-fits : (job : List ℕ) (room : ℕ) → All Fits (run job room .answers)
-run-fits job room = fine job room .0
+abbrev Fine : OnRuns
+Fine q bs free at r = Sound q → All Fits (r .answers) × (Bytes bs → Bytes (join (map bytesOf (r .answers))))
 
--- what a job of bytes writes is bytes
-pub run-bytes : (job : List ℕ) (room : ℕ) → Bytes job → Bytes (written (run job room))
-unfolding written
-run-bytes job room b = fine job room .1 b
+module _ (rules : Rules) (law : Lawful rules) where
+  fine-ends : IfEnds rules Fine
+  fine-ends q b bs free at h z e s =
+      let x = context q b bs free in
+      let o = law .fits x (h .own) s in
+      ((o .0, tt), λ y. all-append (λ (b : ℕ). b < 256) (bytesOf (rules .answer x)) [] (o .1 (y .1)) tt)
+
+  fine-goes : IfGoes rules Fine
+  fine-goes q b bs free at h z e r f s =
+      let x = context q b bs free in
+      let o = law .fits x (h .own) s in
+      let g = f (law .sound x (h .own) s) in (
+        (o .0, g .0),
+        λ y. all-append (λ (b : ℕ). b < 256) (bytesOf (rules .answer x)) (join (map bytesOf (r .answers))) (o .1 (y .1)) (g .1 (all-drop (λ (b : ℕ). b < 256) (width (kindOf b)) bs (y .1))),
+      )
+
+  fine : (job : List ℕ) (room : ℕ) → All Fits (runBy rules job room .answers) × (Bytes job → Bytes (join (map bytesOf (runBy rules job room .answers))))
+  fine job room = run-ind rules law Fine (λ q free at s. (tt, λ y. tt)) (λ q b bs free at n s. (tt, λ y. tt)) fine-ends fine-goes
+      (λ r. All Fits (r .answers) × (Bytes job → Bytes (join (map bytesOf (r .answers))))) job room (λ l. (tt, λ y. tt)) (λ l m r f. f (record { inputs = omega arith; outputs = omega arith; few = omega arith; small = tt }))
+
+  pub run-fits : (job : List ℕ) (room : ℕ) → All Fits (runBy rules job room .answers)
+  run-fits job room = fine job room .0
+
+  -- what a job of bytes writes is bytes
+  pub run-bytes : (job : List ℕ) (room : ℕ) → Bytes job → Bytes (written (runBy rules job room))
+  unfolding written
+  run-bytes job room b = fine job room .1 b

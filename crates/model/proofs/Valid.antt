@@ -7,7 +7,7 @@ use mathlib.Core.Bool.{Bool, true, false, not, cond, _&&_, _||_}
 use mathlib.Core.List.{List, [], _∷_, _++_, map}
 use lib.Dec.{T, leb, ltb, eqb, leb→le, nleb→lt, eqb-refl, not-T, T-not}
 use lib.Arith.{le→nltb}
-use lib.Bits.{bitAnd, and-zero-r}
+use lib.Bits.{and-zero-r}
 use lib.Pow.{pow-pos}
 use lib.Seq.{getD-set-same, getD-set-other}
 use lib.ListN.{getD, length, replicate, length-set, length-replicate, getD-replicate, List·getD-eq-default, length-map}
@@ -16,23 +16,20 @@ use Rattle.model.specs.Table.{Table, Term, formed, holdsNoOff, legal}
 use Rattle.model.specs.Primes.{primes}
 use Rattle.model.specs.Sets.{coverable}
 use Rattle.model.specs.Candidates.{basis, covering}
-use Rattle.model.specs.Commands.{Kind, is, kindOf, allowed, Problem, Context, operand, operandTerm, start, count, coveringOf, withRow, problemAfter, empty}
+use Rattle.model.specs.Commands.{atStart, begun, inRows, inTerms, queried, Kind, is, allowed, Problem, Context, operand, operandTerm, start, count, coveringOf, withRow, atPlace, withCands, problemAfter, empty}
 use Rattle.model.specs.Answers.{Answer, answerFor, answer}
-use Rattle.model.specs.Refusals.{size, Refusal, refuse, firstOf, refusalsOf}
-use Rattle.model.specs.Job.{Run, run}
+use Rattle.model.specs.Refusals.{size, badRow, Refusal, refuse, firstOf, refusalsOf}
+use Rattle.model.specs.Rules.{Rules, engine}
+use Rattle.model.specs.Job.{run, runBy}
 use Rattle.model.specs.Library.{unpack, badVertex, refusalsOfWord, callRefusals, listCovers, setsOf}
-use Rattle.model.specs.Invariants.{Small, Valid}
+use Rattle.model.specs.Invariants.{Small, Sound, Valid}
 use Rattle.model.proofs.Lists.{twice, and-l, and-r, and-i, some-e, all-append, all-of}
 use Rattle.model.proofs.Cubes.{prime-e, primes-e}
-use Rattle.model.proofs.Runs.{context, Passed, run-ind}
-use Rattle.model.proofs.Sound.{after-sound}
+use Rattle.model.proofs.Runs.{NoneApplies, Passed, Lawful, context, OnRuns, run-ind}
+use Rattle.model.proofs.Sound.{after-sound, engine-lawful}
 use Rattle.model.proofs.Library.{listed-told}
 
 -- ---- rows
-
--- a row of example bytes shares no bit and has none at m or above
-abbrev badRow : ℕ → ℕ → ℕ → Bool
-badRow m x y = ltb 0 (bitAnd x y) || (leb (2 ^ m) x || leb (2 ^ m) y)
 
 zeros-good : (m : ℕ) → T (not (badRow m 0 0))
 zeros-good m = rw (and-zero-r 0) (go (leb (2 ^ m) 0) refl)
@@ -57,23 +54,23 @@ set-good p u x y h k g f v = go (ℕ-discrete v u)
 
 -- ---- one command
 
-pub place-one : (k : Kind) (n : ℕ) → T (not (is k Kind.I)) → T (allowed k n) → 1 ≤ n
-place-one k n i a = leb→le 1 n (subst (λ (b : Bool). T (leb (cond b 0 1) n)) (no (is k Kind.I) i) (and-l (leb (cond (is k Kind.I) 0 1) n) _ a))
+pub place-one : (k : Kind) (n : ℕ) → T (not (is k Kind.I)) → T (allowed k n) → begun ≤ n
+place-one k n i a = leb→le begun n (subst (λ (b : Bool). T (leb (cond b atStart begun) n)) (no (is k Kind.I) i) (and-l (leb (cond (is k Kind.I) atStart begun) n) _ a))
   where
     no : (b : Bool) → T (not b) → b ≡ false
     no true t = absurd t
     no false t = refl
 
-place-low : (n : ℕ) → T (allowed Kind.R n) → n ≤ 1
-place-low n a = leb→le n 1 (and-r (leb 1 n) (leb n 1) a)
+place-low : (n : ℕ) → T (allowed Kind.R n) → n ≤ inRows
+place-low n a = leb→le n inRows (and-r (leb begun n) (leb n inRows) a)
 
 not-or-l : (x y : Bool) → T (not (x || y)) → T (not x)
 not-or-l true y n = n
 not-or-l false y n = tt
 
-pub after-valid : (t : Context) (k : Kind) → T (allowed k (t .problem .place)) → All (λ r. T (not (r .applies))) (refusalsOf t k) → Valid (t .problem) → Valid (problemAfter t k)
-unfolding refusalsOf problemAfter legal
-after-valid t Kind.I p a s =
+valid-I : (t : Context) → NoneApplies (refusalsOf t Kind.I) → Valid (t .problem) → Valid (problemAfter t Kind.I)
+unfolding refusalsOf problemAfter
+valid-I t a s =
     let h = twice (size (operand t 0) && size (operand t 1)) (a .0) in
     record {
       sound = after-sound t Kind.I a (s .sound);
@@ -83,7 +80,10 @@ after-valid t Kind.I p a s =
       early = λ l. refl;
       legal = tt;
     }
-after-valid t Kind.R p a s =
+
+valid-R : (t : Context) → T (allowed Kind.R (t .problem .place)) → NoneApplies (refusalsOf t Kind.R) → Valid (t .problem) → Valid (problemAfter t Kind.R)
+unfolding refusalsOf problemAfter
+valid-R t p a s =
     let o = place-one Kind.R (t .problem .place) tt p in
     let l = nleb→lt (2 ^ t .problem .table .n) (operand t 0) (not-or-l (leb (2 ^ t .problem .table .n) (operand t 0)) (some (eqb (operand t 0)) (t .problem .rowsAt)) (a .0)) in
     let none = s .early (place-low (t .problem .place) p) in
@@ -93,31 +93,32 @@ after-valid t Kind.R p a s =
       rows = λ q. (length-set (t .problem .table .on) (operand t 0) (operand t 1) ∙ s .rows o .0, length-set (t .problem .table .dc) (operand t 0) (operand t 2) ∙ s .rows o .1);
       good = set-good (t .problem .table) (operand t 0) (operand t 1) (operand t 2) (omega (arith, s .rows o .0)) (omega (arith, s .rows o .1)) (a .1 .0) (s .good);
       early = λ q. none;
-      legal = subst⁻¹ (λ (ts : List Term). All (λ u. T (formed (withRow (t .problem .table) (operand t 0) (operand t 1) (operand t 2)) u && holdsNoOff (withRow (t .problem .table) (operand t 0) (operand t 1) (operand t 2)) u)) ts) none tt;
+      legal = subst⁻¹ (All (λ u. T (legal (withRow (t .problem .table) (operand t 0) (operand t 1) (operand t 2)) u))) none tt;
     }
+
+-- other candidates, behind the rows
+valid-cands : (q : Problem) (place : ℕ) (ts : List Term) → inTerms ≤ place → begun ≤ q .place → Valid q → All (λ u. T (legal (q .table) u)) ts → Sound (atPlace place (withCands ts q)) → Valid (atPlace place (withCands ts q))
+valid-cands q place ts i o v l s = record { sound = s; sizes = λ h. v .sizes o; rows = λ h. v .rows o; good = v .good; early = λ h. absurd (omega (arith, h)); legal = l }
+
+legal-term : (t : Context) → NoneApplies (refusalsOf t Kind.T) → T (legal (t .problem .table) (operandTerm t))
+unfolding refusalsOf legal
+legal-term t a =
+    let p = t .problem .table in
+    and-i (formed p (operandTerm t)) (holdsNoOff p (operandTerm t)) (twice (formed p (operandTerm t)) (a .0)) (twice (holdsNoOff p (operandTerm t)) (a .1 .0))
+
+primes-legal : (p : Table) → All (λ u. T (legal p u)) (primes p)
+primes-legal p = all-of (λ (u : Term). T (legal p u)) (primes p) (λ u m. prime-e p u (primes-e p u m) .0)
+
+pub after-valid : (t : Context) (k : Kind) → T (allowed k (t .problem .place)) → NoneApplies (refusalsOf t k) → Valid (t .problem) → Valid (problemAfter t k)
+unfolding problemAfter
+after-valid t Kind.I p a s = valid-I t a s
+after-valid t Kind.R p a s = valid-R t p a s
 after-valid t Kind.T p a s =
-    let o = place-one Kind.T (t .problem .place) tt p in
-    record {
-      sound = after-sound t Kind.T a (s .sound);
-      sizes = λ q. s .sizes o;
-      rows = λ q. s .rows o;
-      good = s .good;
-      early = λ q. absurd (omega (arith, q));
-      legal = all-append (λ (u : Term). T (formed (t .problem .table) u && holdsNoOff (t .problem .table) u)) (t .problem .cands) (operandTerm t ∷ []) (s .legal)
-          (and-i (formed (t .problem .table) (operandTerm t)) (holdsNoOff (t .problem .table) (operandTerm t)) (twice (formed (t .problem .table) (operandTerm t)) (a .0)) (twice (holdsNoOff (t .problem .table) (operandTerm t)) (a .1 .0)), tt);
-    }
-after-valid t Kind.P p a s =
-    let o = place-one Kind.P (t .problem .place) tt p in
-    record {
-      sound = after-sound t Kind.P a (s .sound);
-      sizes = λ q. s .sizes o;
-      rows = λ q. s .rows o;
-      good = s .good;
-      early = λ q. absurd (omega (arith, q));
-      legal = all-of (λ (u : Term). T (formed (t .problem .table) u && holdsNoOff (t .problem .table) u)) (primes (t .problem .table)) (λ u m. prime-e (t .problem .table) u (primes-e (t .problem .table) u m) .0);
-    }
-after-valid t Kind.L p a s = let o = place-one Kind.L (t .problem .place) tt p in record { sound = after-sound t Kind.L a (s .sound); sizes = λ q. s .sizes o; rows = λ q. s .rows o; good = s .good; early = λ q. absurd (omega (arith, q)); legal = s .legal }
-after-valid t Kind.C p a s = let o = place-one Kind.C (t .problem .place) tt p in record { sound = after-sound t Kind.C a (s .sound); sizes = λ q. s .sizes o; rows = λ q. s .rows o; good = s .good; early = λ q. absurd (omega (arith, q)); legal = s .legal }
+    valid-cands (t .problem) inTerms (t .problem .cands ++ (operandTerm t ∷ [])) (omega arith) (place-one Kind.T (t .problem .place) tt p) s
+    (all-append (λ (u : Term). T (legal (t .problem .table) u)) (t .problem .cands) (operandTerm t ∷ []) (s .legal) (legal-term t a, tt)) (after-sound t Kind.T a (s .sound))
+after-valid t Kind.P p a s = valid-cands (t .problem) queried (primes (t .problem .table)) (omega arith) (place-one Kind.P (t .problem .place) tt p) s (primes-legal (t .problem .table)) (after-sound t Kind.P a (s .sound))
+after-valid t Kind.L p a s = valid-cands (t .problem) queried (t .problem .cands) (omega arith) (place-one Kind.L (t .problem .place) tt p) s (s .legal) (after-sound t Kind.L a (s .sound))
+after-valid t Kind.C p a s = valid-cands (t .problem) queried (t .problem .cands) (omega arith) (place-one Kind.C (t .problem .place) tt p) s (s .legal) (after-sound t Kind.C a (s .sound))
 after-valid t Kind.E p a s = s
 after-valid t Kind.none p a s = s
 
@@ -133,14 +134,18 @@ valid-empty = record {
   legal = tt;
 }
 
-abbrev Keeps : Problem → List ℕ → ℕ → ℕ → Run → Type 0
-Keeps q bs free at r = Valid q → All (λ t. Valid (t .problem)) (r .contexts)
+abbrev Keeps : OnRuns
+Keeps q bs free at r = Valid q → All (λ x. Valid (x .problem)) (r .contexts)
 
--- every command of a job finds a valid problem
-pub valid : (job : List ℕ) (room : ℕ) → All (λ t. Valid (t .problem)) (run job room .contexts)
-valid job room = run-ind Keeps (λ q free at v. tt) (λ q b bs free at n v. (v, tt)) (λ q b bs free at h z e v. (v, tt))
-    (λ q b bs free at h z e r f v. (v, f (after-valid (context q b bs free) (kindOf b) (h .place) (h .own) v)))
-    (λ r. All (λ t. Valid (t .problem)) (r .contexts)) job room (λ l. tt) (λ l m r f. f valid-empty)
+-- every command of a job finds a valid problem, by rules that keep it so
+pub valid-by : (rules : Rules) → Lawful rules → ((x : Context) → T (allowed (x .kind) (x .problem .place)) → NoneApplies (rules .own x) → Valid (x .problem) → Valid (rules .after x))
+    → (job : List ℕ) (room : ℕ) → All (λ x. Valid (x .problem)) (runBy rules job room .contexts)
+valid-by rules law keeps job room = run-ind rules law Keeps (λ q free at v. tt) (λ q b bs free at n v. (v, tt)) (λ q b bs free at h z e v. (v, tt))
+    (λ q b bs free at h z e r f v. (v, f (keeps (context q b bs free) (h .place) (h .own) v)))
+    (λ r. All (λ x. Valid (x .problem)) (r .contexts)) job room (λ l. tt) (λ l m r f. f valid-empty)
+
+pub valid : (job : List ℕ) (room : ℕ) → All (λ x. Valid (x .problem)) (run job room .contexts)
+valid = valid-by engine engine-lawful (λ x. after-valid x (x .kind))
 
 -- ---- the library call on what a job has
 
@@ -164,7 +169,7 @@ unpack-all : (ts : List Term) → All Small ts → map unpack (map pack ts) ≡ 
 unpack-all [] a = refl
 unpack-all (t ∷ ts) a = ap₂ (λ (u : Term) (us : List Term). u ∷ us) (unpack-pack t (a .0)) (unpack-all ts (a .1))
 
-none-first : (rs : List Refusal) → All (λ r. T (not (r .applies))) rs → firstOf rs ≡ 0
+none-first : (rs : List Refusal) → NoneApplies rs → firstOf rs ≡ 0
 none-first [] a = refl
 none-first (r ∷ rs) a = go (r .applies) (a .0) (none-first rs (a .1))
   where
@@ -186,7 +191,7 @@ words-pass p (t ∷ ts) s l =
     (rw (top, unpack-pack t (s .0)) (not-not (formed p t) f), (rw (unpack-pack t (s .0)) (not-not (holdsNoOff p t) h), words-pass p ts (s .1) (l .1)))
 
 -- no refusal of the library call applies where none applies to an L
-library-passes : (q : Problem) → Valid q → 1 ≤ q .place → T (coverable (covering (basis (q .table) (q .cands)))) → firstOf (callRefusals (q .table) (map pack (q .cands))) ≡ 0
+library-passes : (q : Problem) → Valid q → begun ≤ q .place → T (coverable (covering (basis (q .table) (q .cands)))) → firstOf (callRefusals (q .table) (map pack (q .cands))) ≡ 0
 unfolding callRefusals
 library-passes q v o c = none-first (callRefusals p words) (not-not (size (p .n) && size (p .m) && (eqb (length (p .on)) (2 ^ p .n) && eqb (length (p .dc)) (2 ^ p .n))) shape, (clean, (few, rest)))
   where
@@ -216,12 +221,12 @@ library-passes q v o c = none-first (callRefusals p words) (not-not (size (p .n)
         (subst⁻¹ (λ (ts : List Term). T (not (not (coverable (covering (basis p ts)))))) (unpack-all (q .cands) (v .sound .small)) (not-not (coverable (covering (basis p (q .cands)))) c), tt)
 
 -- an L answers what the library call fills into a row of `count` entries
-pub page-library : (t : Context) → t .kind ≡ Kind.L → Valid (t .problem) → Passed t → (old : List ℕ) → length old ≡ count t
+pub page-library : (t : Context) → t .kind ≡ Kind.L → Valid (t .problem) → Passed engine t → (old : List ℕ) → length old ≡ count t
     → let l = listCovers (t .problem .table) (map pack (t .problem .cands)) (start t) old in (l .number ≡ 0) × (answer t ≡ Answer.paged (setsOf l) (l .above))
 unfolding answer answerFor refusalsOf
 page-library t e v h old n =
     let a : T (allowed Kind.L (t .problem .place)) = subst (λ (k : Kind). T (allowed k (t .problem .place))) e (h .place) in
-    let w : All (λ r. T (not (r .applies))) (refusalsOf t Kind.L) = subst (λ (k : Kind). All (λ r. T (not (r .applies))) (refusalsOf t k)) e (h .own) in
+    let w : NoneApplies (refusalsOf t Kind.L) = subst (λ (k : Kind). NoneApplies (refusalsOf t k)) e (h .own) in
     let z = library-passes (t .problem) v (place-one Kind.L (t .problem .place) tt a) (twice (coverable (coveringOf t)) (w .0)) in
     let d = listed-told (t .problem .table) (map pack (t .problem .cands)) (start t) old z in
     (d .number, rw (e, d .sets, d .above, unpack-all (t .problem .cands) (v .sound .small), n))

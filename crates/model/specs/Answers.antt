@@ -3,7 +3,7 @@ use Prim.Native.Nat.{ℕ}
 use mathlib.Core.Bool.{Bool, cond}
 use mathlib.Core.List.{List, [], _∷_, _++_, map}
 use lib.ListN.{length}
-use Rattle.model.specs.Base.{join}
+use Rattle.model.specs.Base.{nonEmpty, join}
 use Rattle.model.specs.Table.{Term}
 use Rattle.model.specs.Primes.{primes}
 use Rattle.model.specs.Sets.{irredundants, cheapest, cost}
@@ -29,6 +29,10 @@ bytesOf (primesAre ts) = 0x70 ∷ length ts ∷ join (map termBytes ts)
 bytesOf (paged ss m) = 0x6c ∷ length ss ∷ cond m 1 0 ∷ join (map (low 8) ss)
 bytesOf (cheapestIs c s) = 0x63 ∷ (low 2 c ++ low 8 s)
 bytesOf ended = 0x65 ∷ []
+
+-- an answer of one byte or more
+abbrev pub hasBytes : Answer → Bool
+hasBytes a = nonEmpty (bytesOf a)
 
 -- the answer of a command that is not refused. L: "they are the lister's for a row of count entries"
 unfoldable pub answerFor : Context → Kind → Answer

@@ -34,6 +34,10 @@ below k = from 0 k
 -- ---- lists of anything
 
 module _ {A : Type 0} where
+  abbrev pub nonEmpty : List A → Bool
+  nonEmpty [] = false
+  nonEmpty (x ∷ xs) = true
+
   abbrev pub every : (A → Bool) → List A → Bool
   every f [] = true
   every f (x ∷ xs) = let r = every f xs in f x && r

@@ -10,17 +10,19 @@ use Rattle.model.specs.Sets.{Covering}
 unfoldable pub termCost : Term → ℕ
 termCost t = 1 + ones (t .care)
 
--- "of a list, the sum over its entries"
-unfoldable pub listCost : List Term → ℕ
-listCost ts = sum termCost ts
-
--- what the commands L and C stand on: "one table and the candidates"
+-- what the commands L and C stand on: "one table and the candidates", and what weighs a candidate
 pub record Basis : Type 0 where
   pub table : Table
   pub cands : List Term
+  pub weight : Term → ℕ
 
+-- weighed by the paper's cost of a term
 abbrev pub basis : Table → List Term → Basis
-basis p ts = record { table = p; cands = ts }
+basis p ts = record { table = p; cands = ts; weight = termCost }
+
+-- "of a list, the sum over its entries"
+unfoldable pub listCost : Basis → List Term → ℕ
+listCost b ts = sum (b .weight) ts
 
 abbrev pub covering : Basis → Covering Term Cell
-covering b = record { points = onCells (b .table); holds = holds; weight = termCost; cands = b .cands }
+covering b = record { points = onCells (b .table); holds = holds; weight = b .weight; cands = b .cands }

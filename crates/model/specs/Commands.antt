@@ -4,6 +4,7 @@ use mathlib.Core.Bool.{Bool, cond, _&&_}
 use mathlib.Core.List.{List, [], _∷_, _++_}
 use lib.Dec.{leb, eqb}
 use lib.ListN.{getD, take, replicate, set}
+use Rattle.model.specs.Base.{some}
 use Rattle.model.specs.Table.{Table, Cell, Term, term}
 use Rattle.model.specs.Primes.{primes}
 use Rattle.model.specs.Sets.{Covering}
@@ -20,58 +21,74 @@ abbrev pub number : List ℕ → ℕ
 number [] = 0
 number (b ∷ bs) = b + 256 * number bs
 
+-- ---- places
+
+-- the place in a job, by the last that came: nothing, I, a row, a term, or a P, L or C. Each is behind those before it
+abbrev pub atStart : ℕ
+atStart = 0
+
+abbrev pub begun : ℕ
+begun = 1
+
+abbrev pub inRows : ℕ
+inRows = 2
+
+abbrev pub inTerms : ℕ
+inTerms = 3
+
+abbrev pub queried : ℕ
+queried = 4
+
 -- ---- commands
 
 -- "commands of one byte"; none is a byte that is no command
 pub data Kind : Type 0 where
   I R T P L C E none : Kind
 
-abbrev pub code : Kind → ℕ
-code I = 0x49
-code R = 0x52
-code T = 0x54
-code P = 0x50
-code L = 0x4c
-code C = 0x43
-code E = 0x45
-code none = 0
+-- "one byte with operands of fixed widths": the byte, the width, and the last place at which the command may stand
+pub record Form : Type 0 where
+  pub code : ℕ
+  pub width : ℕ
+  pub last : ℕ
+
+abbrev form : ℕ → ℕ → ℕ → Form
+form code width last = record { code = code; width = width; last = last }
+
+-- I "first, once"; R "after I, before any T, P, L or C"; T "after I and any R, not after P, L or C"; P "at most once, no T before it, not
+-- after L or C"; L, C and E "after I"
+abbrev pub formOf : Kind → Form
+formOf I = form 0x49 2 atStart
+formOf R = form 0x52 3 inRows
+formOf T = form 0x54 3 inTerms
+formOf P = form 0x50 0 inRows
+formOf L = form 0x4c 9 queried
+formOf C = form 0x43 0 queried
+formOf E = form 0x45 0 queried
+formOf none = form 0 0 atStart
+
+abbrev pub width : Kind → ℕ
+width k = formOf k .width
 
 abbrev pub is : Kind → Kind → Bool
-is k x = eqb (code k) (code x)
+is k x = eqb (formOf k .code) (formOf x .code)
+
+-- "after I" for all but I, and up to its last place
+abbrev pub allowed : Kind → ℕ → Bool
+allowed k place = leb (cond (is k I) atStart begun) place && leb place (formOf k .last)
 
 abbrev pub firstKind : ℕ → List Kind → Kind
 firstKind b [] = none
-firstKind b (k ∷ ks) = let r = firstKind b ks in cond (eqb b (code k)) k r
+firstKind b (k ∷ ks) = let r = firstKind b ks in cond (eqb b (formOf k .code)) k r
 
 unfoldable pub kindOf : ℕ → Kind
 kindOf b = firstKind b (I ∷ R ∷ T ∷ P ∷ L ∷ C ∷ E ∷ [])
 
--- "with operands of fixed widths"
-abbrev pub width : Kind → ℕ
-width I = 2
-width R = 3
-width T = 3
-width P = 0
-width L = 9
-width C = 0
-width E = 0
-width none = 0
+-- the queries
+abbrev pub queryKinds : List Kind
+queryKinds = L ∷ C ∷ []
 
--- the place in the job: 0 nothing came, 1 I and maybe rows, 2 a T, 3 a P, L or C. A command may stand up to its last place:
--- I "first, once"; R "after I, before any T, P, L or C"; T "after I and any R, not after P, L or C"; P "at most once, no T before
--- it, not after L or C"; L, C and E "after I"
-abbrev pub lastPlace : Kind → ℕ
-lastPlace I = 0
-lastPlace R = 1
-lastPlace T = 2
-lastPlace P = 1
-lastPlace L = 3
-lastPlace C = 3
-lastPlace E = 3
-lastPlace none = 0
-
-abbrev pub allowed : Kind → ℕ → Bool
-allowed k place = leb (cond (is k I) 0 1) place && leb place (lastPlace k)
+abbrev pub isQueryKind : Kind → Bool
+isQueryKind k = some (is k) queryKinds
 
 -- ---- the problem so far
 
@@ -83,7 +100,7 @@ pub record Problem : Type 0 where
   pub cands : List Term
 
 abbrev pub empty : Problem
-empty = record { place = 0; table = record { n = 0; m = 0; on = []; dc = [] }; rowsAt = []; cands = [] }
+empty = record { place = atStart; table = record { n = 0; m = 0; on = []; dc = [] }; rowsAt = []; cands = [] }
 
 abbrev pub basisOf : Problem → Basis
 basisOf q = basis (q .table) (q .cands)
@@ -129,17 +146,20 @@ withRow p v x y = record { n = p .n; m = p .m; on = set (p .on) v x; dc = set (p
 abbrev pub atPlace : ℕ → Problem → Problem
 atPlace place q = record { place = place; table = q .table; rowsAt = q .rowsAt; cands = q .cands }
 
+abbrev pub withCands : List Term → Problem → Problem
+withCands ts q = record { place = q .place; table = q .table; rowsAt = q .rowsAt; cands = ts }
+
 unfoldable pub problemAfter : Context → Kind → Problem
-problemAfter x I = record { place = 1; table = emptyTable (operand x 0) (operand x 1); rowsAt = []; cands = [] }
+problemAfter x I = record { place = begun; table = emptyTable (operand x 0) (operand x 1); rowsAt = []; cands = [] }
 problemAfter x R = record {
-  place = 1;
+  place = inRows;
   table = withRow (x .problem .table) (operand x 0) (operand x 1) (operand x 2);
   rowsAt = operand x 0 ∷ x .problem .rowsAt;
   cands = x .problem .cands;
 }
-problemAfter x T = record { place = 2; table = x .problem .table; rowsAt = x .problem .rowsAt; cands = x .problem .cands ++ (operandTerm x ∷ []) }
-problemAfter x P = record { place = 3; table = x .problem .table; rowsAt = x .problem .rowsAt; cands = primes (x .problem .table) }
-problemAfter x L = atPlace 3 (x .problem)
-problemAfter x C = atPlace 3 (x .problem)
+problemAfter x T = atPlace inTerms (withCands (x .problem .cands ++ (operandTerm x ∷ [])) (x .problem))
+problemAfter x P = atPlace queried (withCands (primes (x .problem .table)) (x .problem))
+problemAfter x L = atPlace queried (x .problem)
+problemAfter x C = atPlace queried (x .problem)
 problemAfter x E = x .problem
 problemAfter x none = x .problem

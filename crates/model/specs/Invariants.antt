@@ -7,7 +7,7 @@ use lib.Dec.{T}
 use lib.ListN.{length}
 use Rattle.model.specs.Base.{All}
 use Rattle.model.specs.Table.{Term, legal}
-use Rattle.model.specs.Commands.{Problem}
+use Rattle.model.specs.Commands.{begun, inRows, Problem}
 use Rattle.model.specs.Refusals.{size}
 use Rattle.model.specs.Library.{badVertex}
 
@@ -25,8 +25,8 @@ pub record Sound (q : Problem) : Type 0 where
 -- from I on there is a row of bytes for each vertex; rows are well formed, no candidate comes before the rows, and candidates are legal
 pub record Valid (q : Problem) : Type 0 where
   pub sound : Sound q
-  pub sizes : 1 ≤ q .place → T (size (q .table .n)) × T (size (q .table .m))
-  pub rows : 1 ≤ q .place → (length (q .table .on) ≡ 2 ^ q .table .n) × (length (q .table .dc) ≡ 2 ^ q .table .n)
+  pub sizes : begun ≤ q .place → T (size (q .table .n)) × T (size (q .table .m))
+  pub rows : begun ≤ q .place → (length (q .table .on) ≡ 2 ^ q .table .n) × (length (q .table .dc) ≡ 2 ^ q .table .n)
   pub good : (v : ℕ) → T (not (badVertex (q .table) v))
-  pub early : q .place ≤ 1 → q .cands ≡ []
+  pub early : q .place ≤ inRows → q .cands ≡ []
   pub legal : All (λ t. T (legal (q .table) t)) (q .cands)

@@ -1,13 +1,13 @@
--- Paper 01, "Job stream": a whole job, its result and the answer buffer after it.
+-- Paper 01, "Job stream": a whole job by some rules, its result and the answer buffer after it.
 use Prim.Native.Nat.{ℕ, zero, suc, _+_, _-_, _*_, _^_}
 use mathlib.Core.Bool.{cond, _||_}
 use mathlib.Core.List.{List, [], _∷_, _++_, map}
 use lib.Dec.{ltb, eqb}
 use lib.ListN.{length, drop}
 use Rattle.model.specs.Base.{join}
-use Rattle.model.specs.Commands.{Kind, is, kindOf, width, Problem, empty, Context, problemAfter}
-use Rattle.model.specs.Answers.{Answer, bytesOf, answer}
-use Rattle.model.specs.Refusals.{refusal}
+use Rattle.model.specs.Commands.{Kind, is, kindOf, width, Problem, empty, Context}
+use Rattle.model.specs.Answers.{Answer, bytesOf}
+use Rattle.model.specs.Rules.{Rules, engine, refusalBy}
 
 -- a job's number and offset, the answers that it finished, and the context of each command that it read, a refused one too
 pub record Run : Type 0 where
@@ -20,29 +20,33 @@ pub record Run : Type 0 where
 abbrev pub stop : ℕ → ℕ → List Context → Run
 stop n offset xs = record { number = n; offset = offset; answers = []; contexts = xs }
 
--- a command is answered, and then the rest
-abbrev pub answerThen : Context → Run → Run
-answerThen x r = record { number = r .number; offset = r .offset; answers = answer x ∷ r .answers; contexts = x ∷ r .contexts }
+module _ (rules : Rules) where
+  -- a command is answered, and then the rest
+  abbrev pub answerThen : Context → Run → Run
+  answerThen x r = record { number = r .number; offset = r .offset; answers = rules .answer x ∷ r .answers; contexts = x ∷ r .contexts }
 
--- the commands of some bytes, from a problem and a free part on; offset is that of the next command's first byte, and k bounds the
--- commands left. Number 2: "the job ends where a command byte is due; the offset is the job's length"
-abbrev pub commands : ℕ → Problem → List ℕ → ℕ → ℕ → Run
-commands zero q bs free offset = stop 2 offset []
-commands (suc k) q [] free offset = stop 2 offset []
-commands (suc k) q (b ∷ bs) free offset =
-    let x : Context = record { problem = q; kind = kindOf b; rest = bs; free = free } in
-    let w = width (x .kind) in
-    let next : Run = commands k (problemAfter x (x .kind)) (drop w bs) (free - length (bytesOf (answer x))) (offset + 1 + w) in
-    let last : Run = stop 0 (offset + 1) [] in
-    let fine : Run = answerThen x (cond (is (x .kind) Kind.E) last next) in
-    cond (eqb (refusal x) 0) fine (stop (refusal x) offset (x ∷ []))
+  -- the commands of some bytes, from a problem and a free part on; offset is that of the next command's first byte, and k bounds the
+  -- commands left. Number 2: "the job ends where a command byte is due; the offset is the job's length"
+  abbrev pub commands : ℕ → Problem → List ℕ → ℕ → ℕ → Run
+  commands zero q bs free offset = stop 2 offset []
+  commands (suc k) q [] free offset = stop 2 offset []
+  commands (suc k) q (b ∷ bs) free offset =
+      let x : Context = record { problem = q; kind = kindOf b; rest = bs; free = free } in
+      let w = width (x .kind) in
+      let next : Run = commands k (rules .after x) (drop w bs) (free - length (bytesOf (rules .answer x))) (offset + 1 + w) in
+      let last : Run = stop 0 (offset + 1) [] in
+      let fine : Run = answerThen x (cond (is (x .kind) Kind.E) last next) in
+      cond (eqb (refusalBy rules x) 0) fine (stop (refusalBy rules x) offset (x ∷ []))
 
--- a job and the length of its answer buffer. Number 1: "the job or the answer buffer is longer than 32,768 bytes; offset and written
--- are 0"
-unfoldable pub run : List ℕ → ℕ → Run
-run job room =
-    let r : Run = commands (suc (length job)) empty job room 0 in
-    cond (ltb 32768 (length job) || ltb 32768 room) (stop 1 0 []) r
+  -- a job and the length of its answer buffer. Number 1: "the job or the answer buffer is longer than 32,768 bytes; offset and written
+  -- are 0"
+  unfoldable pub runBy : List ℕ → ℕ → Run
+  runBy job room =
+      let r : Run = commands (suc (length job)) empty job room 0 in
+      cond (ltb 32768 (length job) || ltb 32768 room) (stop 1 0 []) r
+
+abbrev pub run : List ℕ → ℕ → Run
+run job room = runBy engine job room
 
 -- "the bytes of finished answers"
 unfoldable pub written : Run → List ℕ

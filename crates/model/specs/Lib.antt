@@ -8,9 +8,12 @@ pub mod Candidates
 pub mod Commands
 pub mod Answers
 pub mod Refusals
+pub mod Rules
 pub mod Job
 pub mod Library
 pub mod Invariants
 pub mod Calls
+pub mod Exchanges
 pub mod Demand3
+pub mod Whole
 pub mod Cases

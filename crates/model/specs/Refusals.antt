@@ -1,7 +1,7 @@
 -- Paper 01, "When a job stops": the refusals of a command, as data. 1 and 2 are the job's own (`Job`).
 use Prim.Native.Nat.{ℕ, _^_}
 use mathlib.Core.Bool.{Bool, not, cond, _&&_, _||_}
-use mathlib.Core.List.{List, [], _∷_, _++_}
+use mathlib.Core.List.{List, [], _∷_}
 use lib.Dec.{leb, ltb, eqb}
 use lib.Bits.{bitAnd}
 use lib.ListN.{length}
@@ -9,8 +9,11 @@ use Rattle.model.specs.Base.{some}
 use Rattle.model.specs.Table.{formed, holdsNoOff}
 use Rattle.model.specs.Primes.{primes}
 use Rattle.model.specs.Sets.{coverable}
-use Rattle.model.specs.Commands.{Kind, is, allowed, width, Context, operand, operandTerm, coveringOf}
-use Rattle.model.specs.Answers.{bytesOf, answer}
+use Rattle.model.specs.Commands.{Kind, Context, operand, operandTerm, coveringOf}
+
+-- the last of them
+abbrev pub largestNumber : ℕ
+largestNumber = 14
 
 -- a refusal's number, and whether it applies
 pub record Refusal : Type 0 where
@@ -54,16 +57,3 @@ refusalsOf x Kind.L = refuse 12 (not (coverable (coveringOf x))) ∷ []
 refusalsOf x Kind.C = refuse 12 (not (coverable (coveringOf x))) ∷ []
 refusalsOf x Kind.E = refuse 13 (ltb 0 (length (x .rest))) ∷ []
 refusalsOf x Kind.none = []
-
--- 3 "the byte is no command"; 4 "the command is not allowed at this place"; 5 "operand bytes are missing"; the command's own;
--- 14 "the answer is longer than the free part"
-unfoldable pub refusals : Context → List Refusal
-refusals x =
-    (refuse 3 (is (x .kind) Kind.none)
-    ∷ refuse 4 (not (allowed (x .kind) (x .problem .place)))
-    ∷ refuse 5 (ltb (length (x .rest)) (width (x .kind)))
-    ∷ [])
-    ++ (refusalsOf x (x .kind) ++ (refuse 14 (ltb (x .free) (length (bytesOf (answer x)))) ∷ []))
-
-unfoldable pub refusal : Context → ℕ
-refusal x = firstOf (refusals x)

@@ -13,7 +13,7 @@ use Rattle.model.specs.Base.{bit, below}
 use Rattle.model.specs.declared.Term.{Term}
 use Rattle.model.specs.Table.{holds, onCells}
 use Rattle.model.specs.Sets.{covers, cover, coverable, irredundants, cheapest, ofRows, rowOf, members}
-use Rattle.model.specs.Candidates.{termCost, Basis, basis, covering}
+use Rattle.model.specs.Candidates.{Basis, basis, covering}
 use Rattle.model.specs.Commands as model
 use Rattle.model.specs.Commands.{basisOf}
 use Rattle.model.proofs.Matrix.{irredundants-same, rows-irredundants, rows-cheapest, rows-coverable, from-length}
@@ -56,12 +56,12 @@ module _ (b : Basis) where
   all-rows = map (rowOf holds (b .cands)) (onCells (b .table))
 
   all-costs : List ℕ
-  all-costs = map termCost (b .cands)
+  all-costs = map (b .weight) (b .cands)
 
   pub rows-of : (rows out : List ℕ) (r : ℕ) → rows ≡ map (rowOf holds (b .cands)) (onCells (b .table)) → Reduced rows out r → RowsOf b (take r out)
   unfolding all-rows all-costs
   rows-of rows out r e d = record {
-    listed = sym (rows-irredundants (covering b)) ∙ reduced-irredundants all-costs all-rows out r d' ∙ costs-apart all-costs (replicate (length (b .cands)) 0) (take r out) (length-map (b .cands) termCost ∙ sym (length-replicate (length (b .cands)) 0));
+    listed = sym (rows-irredundants (covering b)) ∙ reduced-irredundants all-costs all-rows out r d' ∙ costs-apart all-costs (replicate (length (b .cands)) 0) (take r out) (length-map (b .cands) (b .weight) ∙ sym (length-replicate (length (b .cands)) 0));
     cheapest = sym (rows-cheapest (covering b)) ∙ reduced-cheapest all-costs all-rows out r d';
     covered = sym (rows-coverable (covering b)) ∙ reduced-coverable all-costs all-rows out r d';
   }
@@ -73,8 +73,8 @@ module _ (b : Basis) where
 rows-ordered : (b : Basis) (rows sorted : List ℕ) → RowsOf b rows → SameRows rows sorted → RowsOf b sorted
 rows-ordered b rows sorted r d = record {
   listed = r .listed ∙ ordered-irredundants (replicate (length (b .cands)) 0) rows sorted d;
-  cheapest = r .cheapest ∙ ordered-cheapest (map termCost (b .cands)) rows sorted d;
-  covered = r .covered ∙ ordered-coverable (map termCost (b .cands)) rows sorted d;
+  cheapest = r .cheapest ∙ ordered-cheapest (map (b .weight) (b .cands)) rows sorted d;
+  covered = r .covered ∙ ordered-coverable (map (b .weight) (b .cands)) rows sorted d;
 }
 
 module _ (p : Problem) (z : Sized p) (old all : List ℕ) (k : ℕ) (a : AllRows (p .on) (p .n) (p .m) (take (p .count) (p .terms)) old all k) where

@@ -20,8 +20,8 @@ TellsCovered p r = (q : model.Problem) → Holds p q → r ≡ coverable (coveri
 -- the rows have the covers and the cheapest of a table and its candidates
 pub record RowsOf (b : Basis) (rows : List ℕ) : Type 0 where
   pub listed : irredundants (covering b) ≡ irredundants (ofRows (replicate (length (b .cands)) 0) rows)
-  pub cheapest : cheapest (covering b) ≡ cheapest (ofRows (map termCost (b .cands)) rows)
-  pub covered : coverable (covering b) ≡ coverable (ofRows (map termCost (b .cands)) rows)
+  pub cheapest : cheapest (covering b) ≡ cheapest (ofRows (map (b .weight) (b .cands)) rows)
+  pub covered : coverable (covering b) ≡ coverable (ofRows (map (b .weight) (b .cands)) rows)
 
 -- the first r entries are such rows for the problem that p holds
 pub record Prepares (p : Problem) (out : List ℕ) (r : ℕ) : Type 0 where

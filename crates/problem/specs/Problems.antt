@@ -29,14 +29,14 @@ noProblem = startedWith 0 0 0
 
 unfoldable pub rowPut : Problem → ℕ → ℕ → ℕ → Problem
 rowPut p v on dc =
-    record { n = p .n; m = p .m; place = 1; on = set (p .on) v on; dc = set (p .dc) v dc; given = set (p .given) v 1; terms = p .terms; count = p .count }
+    record { n = p .n; m = p .m; place = model.inRows; on = set (p .on) v on; dc = set (p .dc) v dc; given = set (p .given) v 1; terms = p .terms; count = p .count }
 
 unfoldable pub termPut : Problem → Term → Problem
 termPut p t =
-    record { n = p .n; m = p .m; place = 2; on = p .on; dc = p .dc; given = p .given; terms = set (p .terms) (p .count) t; count = p .count + 1 }
+    record { n = p .n; m = p .m; place = model.inTerms; on = p .on; dc = p .dc; given = p .given; terms = set (p .terms) (p .count) t; count = p .count + 1 }
 
 unfoldable pub candidatesPut : Problem → List Term → ℕ → Problem
-candidatesPut p terms count = record { n = p .n; m = p .m; place = 3; on = p .on; dc = p .dc; given = p .given; terms = terms; count = count }
+candidatesPut p terms count = record { n = p .n; m = p .m; place = model.queried; on = p .on; dc = p .dc; given = p .given; terms = terms; count = count }
 
 abbrev pub queried : Problem → Problem
 queried p = candidatesPut p (p .terms) (p .count)

@@ -60,7 +60,7 @@ pub fn with_row(p: Problem, v: u8, on: u8, dc: u8) -> Problem
     q.on[i] = on;
     q.dc[i] = dc;
     q.given[i] = 1;
-    q.place = 1;
+    q.place = 2;
     q
 }
 
@@ -73,7 +73,7 @@ pub fn with_term(p: Problem, t: Term) -> Problem
     let mut q = p;
     q.terms[i] = t;
     q.count = i + 1;
-    q.place = 2;
+    q.place = 3;
     q
 }
 
@@ -86,7 +86,7 @@ pub fn with_primes(p: Problem, primes: PrimeList) -> Problem
     let mut q = p;
     q.terms = terms;
     q.count = count;
-    q.place = 3;
+    q.place = 4;
     q
 }
 
@@ -95,6 +95,6 @@ pub fn after_query(p: Problem) -> Problem
     ensures { λ r. ⌜ r ≡ queried p ⌝ }
 {
     let mut q = p;
-    q.place = 3;
+    q.place = 4;
     q
 }

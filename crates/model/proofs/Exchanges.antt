@@ -1,0 +1,177 @@
+-- By any rules: the replies in order are what the commands are answered, in the answers of a job and in the bytes of a call; and the
+-- pages among them give any rising list that each of them is a page of.
+use Prim.Native.Nat.{ℕ, _+_}
+use mathlib.Core.Path.{_≡_, refl, sym, ap, ap₂, _∙_, subst⁻¹}
+use mathlib.Core.Bool.{Bool, true, false, not, cond}
+use mathlib.Core.List.{List, [], _∷_, _++_, map}
+use lib.Dec.{T, eqb, eqb→eq}
+use lib.ListN.{length}
+use Rattle.model.specs.Base.{filter, All}
+use Rattle.model.specs.Pages.{Rising, PageOf}
+use Rattle.model.specs.Commands.{Kind, is, Context}
+use Rattle.model.specs.Answers.{Answer, hasBytes}
+use Rattle.model.specs.Rules.{Rules, refusalBy}
+use Rattle.model.specs.Job.{Run, stop, answerThen, runBy}
+use Rattle.model.specs.Calls.{Call, ranBy, MetBy}
+use Rattle.model.specs.Exchanges.{answers, Exchange, exchange, pair, answeredIn, readIn, NoneOver, allAnswered, allRead, Claim, pageIn, pagesOf, Gives}
+use Rattle.model.proofs.Lists.{T-false, all-append, all-to, all-sublist}
+use Rattle.model.proofs.Joined.{joined-list}
+use Rattle.model.proofs.Runs.{Lawful, context, run-ind}
+use Rattle.model.proofs.Caller.{caller}
+
+-- ---- one command
+
+module _ (rules : Rules) where
+  -- what a command is answered: nothing where it is refused
+  pub replyTo : Context → Answer
+  replyTo x = cond (eqb (refusalBy rules x) 0) (rules .answer x) Answer.nothing
+
+  pub reply-refused : (x : Context) → T (not (eqb (refusalBy rules x) 0)) → replyTo x ≡ Answer.nothing
+  unfolding replyTo
+  reply-refused x n = rw (T-false {b = eqb (refusalBy rules x) 0} n)
+
+  pub reply-answered : (x : Context) → refusalBy rules x ≡ 0 → replyTo x ≡ rules .answer x
+  unfolding replyTo
+  reply-answered x z = rw z
+
+  abbrev pub with-reply : Context → Exchange
+  with-reply x = exchange x (replyTo x)
+
+  -- a command with what it is answered
+  abbrev pub Replied : Exchange → Type 0
+  Replied e = e .reply ≡ replyTo (e .context)
+
+  all-replied : (xs : List Context) → All Replied (map with-reply xs)
+  all-replied [] = tt
+  all-replied (x ∷ xs) = (refl, all-replied xs)
+
+  map-replies : (xs : List Context) → map (λ e. e .reply) (map with-reply xs) ≡ map replyTo xs
+  map-replies [] = refl
+  map-replies (x ∷ xs) = ap (λ (l : List Answer). replyTo x ∷ l) (map-replies xs)
+
+  -- ---- the commands of a job that answer, with the answers in order
+
+  abbrev Paired : Run → Type 0
+  Paired r = pair (filter (answers rules) (r .contexts)) (filter hasBytes (r .answers)) ≡ map with-reply (filter (answers rules) (r .contexts))
+
+  paired-refused : (x : Context) → T (not (eqb (refusalBy rules x) 0)) → pair (filter (answers rules) (x ∷ [])) [] ≡ map with-reply (filter (answers rules) (x ∷ []))
+  paired-refused x n = go (answers rules x)
+    where
+      go : (b : Bool) → pair (cond b (x ∷ []) []) [] ≡ map with-reply (cond b (x ∷ []) [])
+      go true = rw (reply-refused x n)
+      go false = refl
+
+  paired-then : (x : Context) → refusalBy rules x ≡ 0 → (r : Run) → Paired r → Paired (answerThen rules x r)
+  paired-then x z r e = go (answers rules x)
+    where
+      xs : List Context
+      xs = filter (answers rules) (r .contexts)
+
+      rs : List Answer
+      rs = filter hasBytes (r .answers)
+
+      go : (b : Bool) → pair (cond b (x ∷ xs) xs) (cond b (rules .answer x ∷ rs) rs) ≡ map with-reply (cond b (x ∷ xs) xs)
+      go true = rw (reply-answered x z) (ap (λ (l : List Exchange). exchange x (rules .answer x) ∷ l) e)
+      go false = e
+
+  -- and none of the answers is left over
+  abbrev Used : Run → Type 0
+  Used r = filter hasBytes (map replyTo (filter (answers rules) (r .contexts))) ≡ filter hasBytes (r .answers)
+
+  used-refused : (x : Context) → T (not (eqb (refusalBy rules x) 0)) → filter hasBytes (map replyTo (filter (answers rules) (x ∷ []))) ≡ []
+  used-refused x n = go (answers rules x)
+    where
+      go : (b : Bool) → filter hasBytes (map replyTo (cond b (x ∷ []) [])) ≡ []
+      go true = rw (reply-refused x n)
+      go false = refl
+
+  used-then : (x : Context) → refusalBy rules x ≡ 0 → (r : Run) → Used r → Used (answerThen rules x r)
+  used-then x z r e = go (answers rules x) refl
+    where
+      xs : List Context
+      xs = filter (answers rules) (r .contexts)
+
+      rs : List Answer
+      rs = filter hasBytes (r .answers)
+
+      go : (b : Bool) → answers rules x ≡ b → filter hasBytes (map replyTo (cond b (x ∷ xs) xs)) ≡ cond b (rules .answer x ∷ rs) rs
+      go true a = rw (reply-answered x z, a) (ap (λ (l : List Answer). rules .answer x ∷ l) e)
+      go false a = e
+
+-- ---- whole jobs and calls
+
+module _ (rules : Rules) (law : Lawful rules) where
+  pub answered-in : (job : List ℕ) (room : ℕ) → answeredIn rules (runBy rules job room) ≡ map (with-reply rules) (filter (answers rules) (runBy rules job room .contexts))
+  unfolding answeredIn
+  answered-in job room = run-ind rules law (λ q bs free at r. Paired rules r) (λ q free at. refl) (λ q b bs free at n. paired-refused rules (context q b bs free) n)
+      (λ q b bs free at h z e. paired-then rules (context q b bs free) z (stop 0 (at + 1) []) refl) (λ q b bs free at h z e r. paired-then rules (context q b bs free) z r)
+      (Paired rules) job room (λ l. refl) (λ l m r p. p)
+
+  used : (job : List ℕ) (room : ℕ) → Used rules (runBy rules job room)
+  used job room = run-ind rules law (λ q bs free at r. Used rules r) (λ q free at. refl) (λ q b bs free at n. used-refused rules (context q b bs free) n)
+      (λ q b bs free at h z e. used-then rules (context q b bs free) z (stop 0 (at + 1) []) refl) (λ q b bs free at h z e r. used-then rules (context q b bs free) z r)
+      (Used rules) job room (λ l. refl) (λ l m r p. p)
+
+  read-in : (c : Call) → MetBy rules c → readIn rules c ≡ answeredIn rules (ranBy rules c)
+  unfolding readIn answeredIn
+  read-in c m = ap (λ (rs : List Answer). pair (filter (answers rules) (ranBy rules c .contexts)) rs) (caller rules law c m .answers)
+
+  none-over : (c : Call) → MetBy rules c → NoneOver rules c
+  none-over c m =
+      ap (λ (es : List Exchange). filter hasBytes (map (λ e. e .reply) es)) (read-in c m ∙ answered-in (c .job) (length (c .before)))
+      ∙ ap (filter hasBytes) (map-replies rules (filter (answers rules) (ranBy rules c .contexts)))
+      ∙ used (c .job) (length (c .before))
+      ∙ sym (caller rules law c m .answers)
+
+  every-over : (calls : List Call) → All (MetBy rules) calls → All (NoneOver rules) calls
+  every-over [] m = tt
+  every-over (c ∷ calls) m = (none-over c (m .0), every-over calls (m .1))
+
+  every-replied : (calls : List Call) → All (Replied rules) (allAnswered rules calls)
+  every-replied [] = tt
+  every-replied (c ∷ calls) =
+      all-append (Replied rules) (answeredIn rules (ranBy rules c)) (allAnswered rules calls)
+      (subst⁻¹ (All (Replied rules)) (answered-in (c .job) (length (c .before))) (all-replied rules (filter (answers rules) (ranBy rules c .contexts))))
+      (every-replied calls)
+
+  -- what the bytes hold is what the jobs answered
+  pub every-read : (calls : List Call) → All (MetBy rules) calls → allRead rules calls ≡ allAnswered rules calls
+  every-read [] m = refl
+  every-read (c ∷ calls) m = ap₂ (λ (es fs : List Exchange). es ++ fs) (read-in c (m .0)) (every-read calls (m .1))
+
+  -- so a demand is met by calls where it is met by commands with what they are answered
+  pub claim : (Stands : Exchange → Type 0) (Demand : List Exchange → Type 0) → ((es : List Exchange) → All (Replied rules) es → All Stands es → Demand es)
+      → (calls : List Call) → All (MetBy rules) calls → Claim rules Stands Demand calls
+  claim Stands Demand d calls m = record {
+    answers = λ es c. d es (all-sublist (Replied rules) c (every-replied calls));
+    bytes = λ es c. d es (all-sublist (Replied rules) c (subst⁻¹ (All (Replied rules)) (every-read calls m) (every-replied calls)));
+    none-over = every-over calls m;
+  }
+
+-- ---- the pages of any command, of any rising list
+
+module _ (rules : Rules) (k : Kind) (list : List ℕ) where
+  -- where a command of kind k is answered, its page is that of the list
+  abbrev pub Lists : Context → Type 0
+  Lists x = T (is (x .kind) k) → refusalBy rules x ≡ 0 → All (PageOf list) (pageIn x (rules .answer x))
+
+  page-given : (e : Exchange) → Replied rules e → Lists (e .context) → (d : Bool) → is (e .context .kind) k ≡ d → All (PageOf list) (cond d (pageIn (e .context) (e .reply)) [])
+  page-given e r f false i = tt
+  page-given e r f true i = subst⁻¹ (λ (a : Answer). All (PageOf list) (pageIn x a)) r (go (eqb (refusalBy rules x) 0) refl)
+    where
+      x : Context
+      x = e .context
+
+      go : (c : Bool) → eqb (refusalBy rules x) 0 ≡ c → All (PageOf list) (pageIn x (replyTo rules x))
+      go true c = let z = eqb→eq (refusalBy rules x) 0 (rw c tt) in subst⁻¹ (λ (a : Answer). All (PageOf list) (pageIn x a)) (reply-answered rules x z) (f (rw i tt) z)
+      go false c = subst⁻¹ (λ (a : Answer). All (PageOf list) (pageIn x a)) (reply-refused rules x (rw c tt)) tt
+
+  pages-given : (es : List Exchange) → All (Replied rules) es → All (λ e. Lists (e .context)) es → All (PageOf list) (pagesOf k es)
+  pages-given [] r f = tt
+  pages-given (e ∷ es) r f =
+      all-append (PageOf list) (cond (is (e .context .kind) k) (pageIn (e .context) (e .reply)) []) (pagesOf k es) (page-given e (r .0) (f .0) (is (e .context .kind) k) refl) (pages-given es (r .1) (f .1))
+
+  pub gives : (Stands : Exchange → Type 0) → ((e : Exchange) → Stands e → Lists (e .context)) → Rising 0 list → (es : List Exchange) → All (Replied rules) es → All Stands es → Gives k list es
+  gives Stands f up es r s =
+      let a = pages-given es r (all-to Stands (λ e. Lists (e .context)) f es s) in
+      record { rising = up; each = a; joined = joined-list list up (pagesOf k es) a }
