@@ -19,12 +19,12 @@ use Rattle.model.proofs.Lists.{T-true, T-false}
 use Rattle.model.proofs.Sets.{covers-more}
 use Rattle.model.proofs.Cheapest.{best-cheapest}
 use Rattle.model.proofs.Matrix.{rows-cost}
-use Rattle.optimum.specs.declared.cheapest.Optimum.{Optimum}
-use Rattle.optimum.specs.declared.cheapest.Optimum.the-variants.{Cover as AtCover, Nothing}
-use Rattle.search.specs.declared.lister.Filled.{Filled}
+use Rattle.cheapest.specs.declared.search.Optimum.{Optimum}
+use Rattle.cheapest.specs.declared.search.Optimum.the-variants.{Cover as AtCover, Nothing}
+use Rattle.lister.specs.declared.cursor.Filled.{Filled}
 use Rattle.rows.specs.Covers.{rowCovers}
-use Rattle.search.specs.Lister.{Paged}
-use Rattle.optimum.specs.Optimum.{Optimal}
+use Rattle.lister.specs.Lister.{Paged}
+use Rattle.cheapest.specs.Optimum.{Optimal}
 use Rattle.answers.specs.declared.writers.Reply.{Reply}
 use Rattle.answers.specs.declared.writers.Reply.the-variants.{Written, TooLong}
 use Rattle.answers.specs.Writers.{Replied}

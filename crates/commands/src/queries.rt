@@ -11,11 +11,11 @@ use crate::refused;
 use answers::writers;
 use answers::writers::Reply;
 use bits::byte;
-use optimum::cheapest;
-use optimum::cheapest::Optimum;
+use cheapest::search;
+use cheapest::search::Optimum;
+use lister::cursor;
 use problem::Problem;
 use problem::matrix;
-use search::lister;
 
 // A query that was answered with so many bytes, or whose answer is too long.
 fn replied(p: Problem, reply: Reply) -> Effect
@@ -36,7 +36,7 @@ fn page_into(rows: &[u64], n: u64, start: u64, row: &mut [u64], free: &mut [u8])
     requires { ⌜ (n ≤ 64) × (length (now row) ≤ 255) ⌝ }
     ensures { λ r. ⌜ Replied (pageBytes (rowCovers n (now (rows .entry))) start (length (now (row .entry)))) (now (free .entry)) (now (free .exit)) r ⌝ }
 {
-    let page = lister::fill(rows, n, start, row);
+    let page = cursor::fill(rows, n, start, row);
     let filled = page.count;
     writers::put_page(free, row, filled, page.more)
 }
@@ -64,7 +64,7 @@ pub fn least_cost(p: Problem, rows: &[u64], free: &mut [u8]) -> Effect
     let terms = p.terms;
     let count = p.count;
     let costs = matrix::costs(terms, count);
-    match cheapest::cheapest(rows, &costs[..count]) {
+    match search::cheapest(rows, &costs[..count]) {
         Optimum::Nothing => refused(p, 12),
         Optimum::Cover(set, cost) => replied(p, writers::put_cheapest(free, cost, set)),
     }

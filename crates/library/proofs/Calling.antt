@@ -24,9 +24,9 @@ use Rattle.model.proofs.Runs.{Numbered, first-before, first-behind}
 use Rattle.model.proofs.Library.{listed-refused}
 use Rattle.table.specs.Lists.{Filled}
 use Rattle.table.specs.Cubes.{Allowed, MayOf, TellsFormed, TellsNoOff}
-use Rattle.search.specs.declared.lister.Filled as page
+use Rattle.lister.specs.declared.cursor.Filled as page
 use Rattle.rows.specs.Covers.{rowCovers}
-use Rattle.search.specs.Lister.{Paged}
+use Rattle.lister.specs.Lister.{Paged}
 use Rattle.answers.specs.Writers.{InFront}
 use Rattle.answers.proofs.Bytes.{one-more, same-long}
 use Rattle.problem.specs.declared.Problem.{Problem}

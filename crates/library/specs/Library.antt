@@ -15,8 +15,8 @@ use Rattle.model.specs.Refusals.{Refusal, refuse, firstOf, size, badRow}
 use Rattle.model.specs.Library as model-library
 use Rattle.model.specs.Library.{unpack, badVertex, refusalsOfWord}
 use Rattle.table.specs.Cubes.{Allowed}
-use Rattle.search.specs.declared.lister.Filled as page
-use Rattle.search.specs.Lister.{Paged}
+use Rattle.lister.specs.declared.cursor.Filled as page
+use Rattle.lister.specs.Lister.{Paged}
 use Rattle.answers.specs.Writers.{InFront}
 use Rattle.problem.specs.declared.Problem.{Problem}
 use Rattle.problem.specs.Problems.{Holds}

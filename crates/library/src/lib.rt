@@ -11,11 +11,11 @@ ghost use Rattle.table.specs.Lists as lists;
 ghost use Rattle.problem.specs.Problems.{Sized, Holds};
 ghost use Rattle.library.specs.Library.{Answers, tableOf, rightSizes, someBad, TableRefusal, problemOf, Padded, WordRefusal, WordsRefusal, PageOf};
 use bits::byte;
+use lister::cursor;
 use model::Term;
 use problem::Problem;
 use problem::matrix;
 use problem::tests;
-use search::lister;
 use table::cells;
 use table::terms;
 
@@ -172,14 +172,14 @@ fn words_refusal(p: Problem, words: &[u32]) -> u8
 }
 
 // Fills the row with the covers of a problem from `start` on.
-fn fill_row(p: Problem, start: u64, row: &mut [u64]) -> lister::Filled
+fn fill_row(p: Problem, start: u64, row: &mut [u64]) -> cursor::Filled
     requires { ⌜ Sized p ⌝ }
     ensures { λ r. ⌜ PageOf p start (now (row .entry)) (now (row .exit)) r ⌝ }
 {
     let mut rows = [0u64; 2048];
     let count = matrix::prepare(p, &mut rows);
     let n = p.count as u64;
-    lister::fill(&rows[..count], n, start, row)
+    cursor::fill(&rows[..count], n, start, row)
 }
 
 // Puts the irredundant covers at or above `start` into the row, rising, as many as fit; the rest of the row stays. The terms are

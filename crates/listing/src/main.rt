@@ -1,11 +1,11 @@
 // Runs the library call on the paper's cases and on odd parity of 7 inputs, and prints what it finds.
 ghost use Prim.Native.Nat.{_≤_};
+use cheapest::search;
+use cheapest::search::Optimum;
 use incidence::rows;
 use libc::STDOUT_FILENO;
 use library::Listed;
 use model::Term;
-use optimum::cheapest;
-use optimum::cheapest::Optimum;
 use table::cells;
 use table::prime_list;
 
@@ -86,7 +86,7 @@ fn show_cheapest(on: &[u8; 256], terms: [Term; 64], count: usize)
     let k = rows::rows(on, terms, count, 7, 1, &mut all);
     let costs = problem::matrix::costs(terms, count);
     if k <= 2048 {
-        if let Optimum::Cover(set, cost) = cheapest::cheapest(&all[..k], &costs[..count]) {
+        if let Optimum::Cover(set, cost) = search::cheapest(&all[..k], &costs[..count]) {
             io::write_all(STDOUT_FILENO, b"parity of 7 inputs, cheapest and cost: ");
             print_number(set);
             print_number(cost);

@@ -9,7 +9,7 @@ use Rattle.library.proofs.fill_row.Tie as tie
 use Rattle.library.proofs.fill_row.Reads as reads
 use Rattle.library.proofs.fill_row.Lts as lts
 use Rattle.problem.proofs.matrix.prepare.Reads as prepare-reads
-use Rattle.search.proofs.lister.fill.Reads as fill-reads
+use Rattle.lister.proofs.cursor.fill.Reads as fill-reads
 
 -- src/lib.rt:180:36
 slice-aggregate-prepare : tie.Need-slice-aggregate-prepare

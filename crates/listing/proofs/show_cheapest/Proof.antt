@@ -10,7 +10,7 @@ use Rattle.listing.proofs.show_cheapest.Lts as lts
 use Rattle.problem.proofs.matrix.costs.Reads as costs-reads
 use Rattle.io.proofs.write_all.Reads as write-all-reads
 use Rattle.listing.proofs.print_number.Reads as print-number-reads
-use Rattle.optimum.proofs.cheapest.cheapest.Reads as cheapest-reads
+use Rattle.cheapest.proofs.search.cheapest.Reads as cheapest-reads
 use Rattle.incidence.proofs.rows.rows.Reads as rows-reads
 
 -- src/main.rt:86:48

@@ -14,7 +14,7 @@ use Rattle.commands.proofs.refused.Reads as refused-reads
 use Rattle.problem.proofs.matrix.costs.Reads as costs-reads
 use Rattle.commands.proofs.queries.replied.Reads as replied-reads
 use Rattle.answers.proofs.writers.put_cheapest.Reads as put-cheapest-reads
-use Rattle.optimum.proofs.cheapest.cheapest.Reads as cheapest-reads
+use Rattle.cheapest.proofs.search.cheapest.Reads as cheapest-reads
 
 -- src/queries.rt:65:17
 costs-requires : tie.Need-costs-requires

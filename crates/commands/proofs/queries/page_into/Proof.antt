@@ -9,7 +9,7 @@ use Rattle.commands.proofs.queries.page_into.Tie as tie
 use Rattle.commands.proofs.queries.page_into.Reads as reads
 use Rattle.commands.proofs.queries.page_into.Lts as lts
 use Rattle.answers.proofs.writers.put_page.Reads as put-page-reads
-use Rattle.search.proofs.lister.fill.Reads as fill-reads
+use Rattle.lister.proofs.cursor.fill.Reads as fill-reads
 
 -- src/queries.rt:39:9
 fill-requires : tie.Need-fill-requires

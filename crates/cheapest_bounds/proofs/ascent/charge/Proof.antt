@@ -1,0 +1,76 @@
+-- `cheapest_bounds::ascent::charge` meets its contract. The invariant: the members passed have paid y, and the others can.
+use borrow.Author.Needs.{needs}
+use native.Mathlib.Omega.{arith}
+use Rattle.bits.proofs.Parts.{minus-member-less}
+use Rattle.cheapest_bounds.proofs.Ascending.{Charging, charging-none, charging-can, charging-more, charging-all}
+use Rattle.cheapest_bounds.proofs.ascent.charge.Statement.{statement}
+use Rattle.cheapest_bounds.proofs.ascent.charge.Tie as tie
+
+abbrev Inv-loop : tie.InvT-loop
+Inv-loop left₀ x y y16 rest₀ left rest = Charging x y rest left₀ left
+
+abbrev μ-loop : tie.MeasureT-loop
+μ-loop left₀ x y y16 rest₀ left rest = rest
+
+cast-y16 : tie.Need-cast-y16 Inv-loop μ-loop
+cast-y16 c = omega (arith, c .before .pre .1 .small)
+
+loop-holds : tie.Need-loop-holds Inv-loop μ-loop
+loop-holds c = charging-none _ _ _ (c .before .pre .1)
+
+lowest-requires : tie.Need-lowest-requires Inv-loop μ-loop
+lowest-requires c κs = omega (arith, c .loop-test .taken)
+
+number-requires : tie.Need-number-requires Inv-loop μ-loop
+number-requires c κs = c .lowest .ensures .single
+
+mul-left : tie.Need-mul-left Inv-loop μ-loop
+mul-left c = search needs
+
+slice-read-left : tie.Need-slice-read-left Inv-loop μ-loop
+slice-read-left c = omega (arith, c .before .number .ensures .small, c .before .before .before .before .loop .inv .size, c .before .before .before .before .before .before .pre .0)
+
+sub-left : tie.Need-sub-left Inv-loop μ-loop
+sub-left c = charging-can _ _ _ _ _ _ _ (c .before .before .before .before .loop .inv) (c .before .before .lowest .ensures) (c .before .number .ensures)
+
+mul-left-2 : tie.Need-mul-left-2 Inv-loop μ-loop
+mul-left-2 c = search needs
+
+slice-write-left : tie.Need-slice-write-left Inv-loop μ-loop
+slice-write-left c = omega (arith, c .before .number .ensures .small, c .before .before .before .before .loop .inv .size, c .before .before .before .before .before .before .pre .0)
+
+minus-requires : tie.Need-minus-requires Inv-loop μ-loop
+minus-requires c κs = search needs
+
+loop-less : tie.Need-loop-less Inv-loop μ-loop
+loop-less c = minus-member-less _ _ _ (c .before .before .before .lowest .ensures) (c .minus .ensures)
+
+loop-again : tie.Need-loop-again Inv-loop μ-loop
+loop-again c = charging-more _ _ _ _ _ _ _ _ (c .before .before .before .before .before .loop .inv) (c .before .before .before .lowest .ensures) (c .before .before .number .ensures) (c .minus .ensures) (omega (arith, c .before .before .number .ensures .small, c .before .before .before .before .before .loop .inv .size, c .before .before .before .before .before .before .before .pre .0))
+
+same-length : tie.Need-same-length Inv-loop μ-loop
+same-length c = c .before .loop .inv .size
+
+returns : tie.Need-returns Inv-loop μ-loop
+returns c = charging-all _ _ _ _ _ (c .loop-test .left) (c .before .loop .inv)
+
+pub charge-spec : {M : Type 1} → statement M
+charge-spec =
+    tie.close
+    (tie.spec
+    Inv-loop
+    μ-loop
+    cast-y16
+    loop-holds
+    lowest-requires
+    number-requires
+    mul-left
+    slice-read-left
+    sub-left
+    mul-left-2
+    slice-write-left
+    minus-requires
+    loop-less
+    loop-again
+    same-length
+    returns)

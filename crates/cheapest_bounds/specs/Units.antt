@@ -1,0 +1,24 @@
+-- Costs that are multiples of one number.
+use mathlib.Core.Path.{_≡_}
+use mathlib.Core.List.{List}
+use Prim.Native.Nat.{ℕ, _*_, _≤_, _<_}
+use lib.ListN.{length, getD}
+use Rattle.cheapest_bounds.specs.Costs.{costOf}
+
+-- c is a multiple of u
+unfoldable pub Multiple : ℕ → ℕ → Type 0
+Multiple u c = (q : ℕ) × (c ≡ q * u)
+
+-- each of the costs is
+unfoldable pub Measures : List ℕ → ℕ → Type 0
+Measures costs u = (k : ℕ) → k < length costs → Multiple u (getD costs k 0)
+
+-- the cost of each set is
+pub record Unit (costs : List ℕ) (u : ℕ) : Type 0 where
+  pub positive : 0 < u
+  pub whole : (t : ℕ) → Multiple u (costOf costs t)
+
+-- a multiple of u that is below cost is below r, which is not above cost
+pub record Goal (cost u r : ℕ) : Type 0 where
+  pub near : r ≤ cost
+  pub kept : (c : ℕ) → Multiple u c → c < cost → c < r

@@ -1,0 +1,68 @@
+// Costs of candidates and sets.
+ghost use mathlib.Core.Path.{_≡_};
+ghost use Prim.Native.Nat.{_≤_};
+ghost use lib.ListN.{length};
+ghost use Rattle.bits.specs.Bits.{Single};
+ghost use Rattle.cheapest_bounds.specs.Costs.{costOf, Numbered, Price, Floor};
+use bits::set;
+
+// A set and its cost: the best cover known, or a cost to stay below.
+pub struct Best {
+    pub cost: u64,
+    pub set: u64,
+}
+
+// The number of the one candidate in m.
+pub fn number(m: u64) -> usize
+    requires { ⌜ Single m ⌝ }
+    ensures { λ r. ⌜ Numbered m r ⌝ }
+{
+    u64::trailing_zeros(m) as usize
+}
+
+// The cost of the one candidate in m.
+pub fn price(costs: &[u16], m: u64) -> u64
+    requires { ⌜ Single m ⌝ }
+    ensures { λ r. ⌜ Price (now (costs .entry)) m r ⌝ }
+{
+    let i = number(m);
+    if i < costs.len() {
+        return costs[i] as u64;
+    }
+    0
+}
+
+// At most the cost of the cheapest member of x.
+pub fn floor(costs: &[u16], x: u64) -> u64
+    ensures { λ r. ⌜ Floor (now (costs .entry)) x r ⌝ }
+{
+    let mut low: u64 = 65535;
+    let mut rest = x;
+    while rest != 0 {
+        let m = set::lowest(rest);
+        let p = price(costs, m);
+        if p == 0 {
+            return 0;
+        }
+        if p < low {
+            low = p;
+        }
+        rest = set::minus(rest, m);
+    }
+    low
+}
+
+// The cost of x.
+pub fn total(costs: &[u16], x: u64) -> u64
+    requires { ⌜ length (now costs) ≤ 64 ⌝ }
+    ensures { λ r. ⌜ r ≡ costOf (now (costs .entry)) x ⌝ }
+{
+    let mut sum: u64 = 0;
+    let mut rest = x;
+    while rest != 0 {
+        let m = set::lowest(rest);
+        sum = sum + price(costs, m);
+        rest = set::minus(rest, m);
+    }
+    sum
+}

@@ -1,0 +1,45 @@
+// Costs come in steps: where each cost is a multiple of a unit, a cover that costs less than another costs at least a unit less.
+ghost use mathlib.Core.Path.{_≡_};
+ghost use mathlib.Core.Bool.{true};
+ghost use Prim.Native.Nat.{_<_};
+ghost use Rattle.cheapest_bounds.specs.Units.{Measures, Unit, Goal};
+
+// Whether each cost is a multiple of u.
+pub fn measures(costs: &[u16], u: u64) -> bool
+    requires { ⌜ 0 < u ⌝ }
+    ensures { λ r. ⌜ (r ≡ true → Measures (now (costs .entry)) u) ⌝ }
+{
+    let mut i = 0;
+    while i < costs.len() {
+        if costs[i] as u64 % u != 0 {
+            return false;
+        }
+        i += 1;
+    }
+    true
+}
+
+// The greatest number up to 16 of which each cost is a multiple; a term costs no more than 16.
+pub fn unit(costs: &[u16]) -> u64
+    ensures { λ r. ⌜ Unit (now (costs .entry)) r ⌝ }
+{
+    let mut u: u64 = 16;
+    while 1 < u {
+        if measures(costs, u) {
+            return u;
+        }
+        u -= 1;
+    }
+    1
+}
+
+// The least limit above the multiples of u that are below cost.
+pub fn goal(cost: u64, u: u64) -> u64
+    requires { ⌜ 0 < u ⌝ }
+    ensures { λ r. ⌜ Goal cost u r ⌝ }
+{
+    if cost == 0 {
+        return 0;
+    }
+    (cost - 1) / u * u + 1
+}

@@ -1,0 +1,44 @@
+-- Free candidates in two parts that no unmet row links.
+use mathlib.Core.Path.{_≡_, sym, subst}
+use mathlib.Core.Logic.{_⊎_, inr, ⊎-elim}
+use mathlib.Core.List.{List}
+use Prim.Native.Nat.{ℕ, _+_}
+use native.Mathlib.Omega.{arith}
+use lib.ListN.{length, getD}
+use lib.Bits.{bitAnd}
+use Rattle.bits.specs.Bits.{Part}
+use Rattle.cheapest_nodes.specs.Nodes.{Closed, Component}
+use Rattle.bits.proofs.Digits.{eq?}
+use Rattle.bits.proofs.Members.{and-left, and-right}
+use Rattle.bits.proofs.Parts.{by-members, part-self}
+
+module _ (rows : List ℕ) (n s free a : ℕ) (h : Closed rows n s free a) where
+  pub closed-met : (bitAnd (getD rows n 0) s ≡ 0 → ⊥) → Closed rows (n + 1) s free a
+  unfolding Closed
+  closed-met d k lt z =
+      ⊎-elim (λ (e : k ≡ n). absurd (d (subst (λ (j : ℕ). bitAnd (getD rows j 0) s ≡ 0) e z))) (λ (e : k ≡ n → ⊥). h k (omega arith) z) (eq? k n)
+
+  pub closed-more : (bitAnd (bitAnd (getD rows n 0) free) a ≡ 0) ⊎ Part (bitAnd (getD rows n 0) free) a → Closed rows (n + 1) s free a
+  unfolding Closed
+  closed-more d k lt z =
+      ⊎-elim
+      (λ (e : k ≡ n). subst (λ (j : ℕ). (bitAnd (bitAnd (getD rows j 0) free) a ≡ 0) ⊎ Part (bitAnd (getD rows j 0) free) a) (sym e) d)
+      (λ (e : k ≡ n → ⊥). h k (omega arith) z) (eq? k n)
+
+pub closed-none : (rows : List ℕ) (s free a : ℕ) → Closed rows 0 s free a
+unfolding Closed
+closed-none rows s free a k lt = absurd (omega arith)
+
+pub closed-all : (rows : List ℕ) (n s free a : ℕ) → n ≡ length rows → Closed rows n s free a → Closed rows (length rows) s free a
+closed-all rows n s free a e h = subst (λ (j : ℕ). Closed rows j s free a) e h
+
+-- all of free is closed
+pub component-all : (rows : List ℕ) (s free : ℕ) → Component rows s free free
+unfolding Closed
+component-all rows s free = record {
+  part = part-self free;
+  closed = λ k lt z. inr (by-members (bitAnd (getD rows k 0) free) free (λ b m. and-right b (getD rows k 0) free m));
+}
+
+pub component-grown : (rows : List ℕ) (s free g : ℕ) → Closed rows (length rows) s free (bitAnd free g) → Component rows s free (bitAnd free g)
+component-grown rows s free g h = record { part = by-members (bitAnd free g) free (λ b m. and-left b free g m); closed = h }

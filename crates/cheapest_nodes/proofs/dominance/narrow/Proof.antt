@@ -1,0 +1,68 @@
+-- `cheapest_nodes::dominance::narrow` meets its contract. The invariant: the entries of the members passed have only what is in row.
+use borrow.Author.Needs.{needs}
+use native.Mathlib.Omega.{arith}
+use Rattle.bits.proofs.Parts.{minus-member-less}
+use Rattle.cheapest_nodes.proofs.Narrowing.{Narrowing, narrowing-none, narrowing-more, narrowing-all}
+use Rattle.cheapest_nodes.proofs.dominance.narrow.Statement.{statement}
+use Rattle.cheapest_nodes.proofs.dominance.narrow.Tie as tie
+
+abbrev Inv-loop : tie.InvT-loop
+Inv-loop common₀ row x rest₀ common rest = Narrowing row x rest common₀ common
+
+abbrev μ-loop : tie.MeasureT-loop
+μ-loop common₀ row x rest₀ common rest = rest
+
+loop-holds : tie.Need-loop-holds Inv-loop μ-loop
+loop-holds c = narrowing-none _ _ _
+
+lowest-requires : tie.Need-lowest-requires Inv-loop μ-loop
+lowest-requires c κs = omega (arith, c .loop-test .taken)
+
+number-requires : tie.Need-number-requires Inv-loop μ-loop
+number-requires c κs = c .lowest .ensures .single
+
+mul-common : tie.Need-mul-common Inv-loop μ-loop
+mul-common c = search needs
+
+slice-read-common : tie.Need-slice-read-common Inv-loop μ-loop
+slice-read-common c = omega (arith, c .before .number .ensures .small, c .before .before .before .before .loop .inv .size, c .before .before .before .before .before .before .pre)
+
+mul-common-2 : tie.Need-mul-common-2 Inv-loop μ-loop
+mul-common-2 c = search needs
+
+slice-write-common : tie.Need-slice-write-common Inv-loop μ-loop
+slice-write-common c = omega (arith, c .before .number .ensures .small, c .before .before .before .before .loop .inv .size, c .before .before .before .before .before .before .pre)
+
+minus-requires : tie.Need-minus-requires Inv-loop μ-loop
+minus-requires c κs = search needs
+
+loop-less : tie.Need-loop-less Inv-loop μ-loop
+loop-less c = minus-member-less _ _ _ (c .before .before .before .lowest .ensures) (c .minus .ensures)
+
+loop-again : tie.Need-loop-again Inv-loop μ-loop
+loop-again c = narrowing-more _ _ _ _ _ _ _ _ (c .before .before .before .before .before .loop .inv) (c .before .before .number .ensures) (c .minus .ensures) (omega (arith, c .before .before .number .ensures .small, c .before .before .before .before .before .loop .inv .size, c .before .before .before .before .before .before .before .pre))
+
+same-length : tie.Need-same-length Inv-loop μ-loop
+same-length c = c .before .loop .inv .size
+
+returns : tie.Need-returns Inv-loop μ-loop
+returns c = narrowing-all _ _ _ _ _ (c .loop-test .left) (c .before .loop .inv)
+
+pub narrow-spec : {M : Type 1} → statement M
+narrow-spec =
+    tie.close
+    (tie.spec
+    Inv-loop
+    μ-loop
+    loop-holds
+    lowest-requires
+    number-requires
+    mul-common
+    slice-read-common
+    mul-common-2
+    slice-write-common
+    minus-requires
+    loop-less
+    loop-again
+    same-length
+    returns)

@@ -1,0 +1,60 @@
+-- `cheapest_nodes::dominance::wanted` meets its contract. The invariant: acc has the rows passed that s does not meet.
+use borrow.Author.Needs.{needs}
+use mathlib.Core.Path.{sym, subst}
+use mathlib.Core.Logic.{⊎-elim}
+use Prim.Native.Nat.{_-_, _≤_}
+use native.Mathlib.Omega.{arith}
+use lib.ListN.{length}
+use Rattle.cheapest_nodes.specs.Nodes.{Wanted}
+use Rattle.cheapest_nodes.proofs.Narrowing.{wanted-none, wanted-met, wanted-more, wanted-all}
+use Rattle.cheapest_nodes.proofs.dominance.wanted.Statement.{statement}
+use Rattle.cheapest_nodes.proofs.dominance.wanted.Tie as tie
+
+abbrev Inv-loop : tie.InvT-loop
+Inv-loop rows s acc₀ i₀ acc i = (i ≤ length rows) × Wanted rows i s acc
+
+abbrev μ-loop : tie.MeasureT-loop
+μ-loop rows s acc₀ i₀ acc i = length rows - i
+
+loop-holds : tie.Need-loop-holds Inv-loop μ-loop
+loop-holds c = (search needs, wanted-none _ _)
+
+mul-if1 : tie.Need-mul-if1 Inv-loop μ-loop
+mul-if1 c = search needs
+
+shared-slice-read-if1 : tie.Need-shared-slice-read-if1 Inv-loop μ-loop
+shared-slice-read-if1 c = search needs
+
+mul-acc : tie.Need-mul-acc Inv-loop μ-loop
+mul-acc c = search needs
+
+shared-slice-read-acc : tie.Need-shared-slice-read-acc Inv-loop μ-loop
+shared-slice-read-acc c = search needs
+
+add-i : tie.Need-add-i Inv-loop μ-loop
+add-i c = search needs
+
+loop-less : tie.Need-loop-less Inv-loop μ-loop
+loop-less c = search needs
+
+loop-again : tie.Need-loop-again Inv-loop μ-loop
+loop-again c = (search needs, ⊎-elim (λ w. subst (Wanted _ _ _) (sym (w .2)) (wanted-more _ _ _ _ (c .before .before .before .loop .inv .1))) (λ w. subst (Wanted _ _ _) (sym (w .1)) (wanted-met _ _ _ _ (c .before .before .before .loop .inv .1) (w .0 .left))) (c .if1 .came))
+
+returns : tie.Need-returns Inv-loop μ-loop
+returns c = wanted-all _ _ _ _ (omega arith) (c .before .loop .inv .1)
+
+pub wanted-spec : {M : Type 1} → statement M
+wanted-spec =
+    tie.close
+    (tie.spec
+    Inv-loop
+    μ-loop
+    loop-holds
+    mul-if1
+    shared-slice-read-if1
+    mul-acc
+    shared-slice-read-acc
+    add-i
+    loop-less
+    loop-again
+    returns)

@@ -1,0 +1,98 @@
+-- `lister_extension::private_rows` is safe and ends.
+use borrow.Author.Needs.{needs}
+use mathlib.Core.Path.{_≡_, refl, ap, _∙_}
+use mathlib.Core.Logic.{⊎-elim}
+use Prim.Native.Nat.{_-_, _≤_}
+use lib.ListN.{length, length-set}
+use Rattle.bits.proofs.Decide.{decides-true}
+use Rattle.lister_extension.proofs.private_rows.Statement.{statement}
+use Rattle.lister_extension.proofs.private_rows.Tie as tie
+
+abbrev Inv-loop : tie.InvT-loop
+Inv-loop rows s free lightest₀ count₀ i₀ lightest count i = (i ≤ length rows) × (length lightest ≡ 64) × (length count ≡ 64)
+
+abbrev μ-loop : tie.MeasureT-loop
+μ-loop rows s free lightest₀ count₀ i₀ lightest count i = length rows - i
+
+loop-holds : tie.Need-loop-holds Inv-loop μ-loop
+loop-holds c = (search needs, refl, refl)
+
+mul-row : tie.Need-mul-row Inv-loop μ-loop
+mul-row c = search needs
+
+shared-slice-read-row : tie.Need-shared-slice-read-row Inv-loop μ-loop
+shared-slice-read-row c = search needs
+
+is-single-requires : tie.Need-is-single-requires Inv-loop μ-loop
+is-single-requires c κs = search needs
+
+place-requires : tie.Need-place-requires Inv-loop μ-loop
+place-requires c κs = decides-true _ _ (c .before .is-single .ensures) (c .if1 .taken)
+
+mul-lighter : tie.Need-mul-lighter Inv-loop μ-loop
+mul-lighter c = search needs
+
+array-read-lighter : tie.Need-array-read-lighter Inv-loop μ-loop
+array-read-lighter c = c .place .ensures .0
+
+lighter-requires : tie.Need-lighter-requires Inv-loop μ-loop
+lighter-requires c κs = search needs
+
+mul-lightest : tie.Need-mul-lightest Inv-loop μ-loop
+mul-lightest c = search needs
+
+array-write-lightest : tie.Need-array-write-lightest Inv-loop μ-loop
+array-write-lightest c = c .before .place .ensures .0
+
+mul-more : tie.Need-mul-more Inv-loop μ-loop
+mul-more c = search needs
+
+array-read-more : tie.Need-array-read-more Inv-loop μ-loop
+array-read-more c = c .before .place .ensures .0
+
+more-requires : tie.Need-more-requires Inv-loop μ-loop
+more-requires c κs = search needs
+
+mul-count : tie.Need-mul-count Inv-loop μ-loop
+mul-count c = search needs
+
+array-write-count : tie.Need-array-write-count Inv-loop μ-loop
+array-write-count c = c .before .before .place .ensures .0
+
+add-i : tie.Need-add-i Inv-loop μ-loop
+add-i c = search needs
+
+loop-less : tie.Need-loop-less Inv-loop μ-loop
+loop-less c = search needs
+
+loop-again : tie.Need-loop-again Inv-loop μ-loop
+loop-again c = (search needs, ⊎-elim (λ w. ap length (w .4) ∙ simp length-set (c .before .before .before .before .loop .inv .1)) (λ w. ap length (w .1) ∙ c .before .before .before .before .loop .inv .1) (c .if1 .came), ⊎-elim (λ w. ap length (w .5) ∙ simp length-set (c .before .before .before .before .loop .inv .2)) (λ w. ap length (w .2) ∙ c .before .before .before .before .loop .inv .2) (c .if1 .came))
+
+returns : tie.Need-returns Inv-loop μ-loop
+returns c = search needs
+
+pub private-rows-spec : {M : Type 1} → statement M
+private-rows-spec =
+    tie.close
+    (tie.spec
+    Inv-loop
+    μ-loop
+    loop-holds
+    mul-row
+    shared-slice-read-row
+    is-single-requires
+    place-requires
+    mul-lighter
+    array-read-lighter
+    lighter-requires
+    mul-lightest
+    array-write-lightest
+    mul-more
+    array-read-more
+    more-requires
+    mul-count
+    array-write-count
+    add-i
+    loop-less
+    loop-again
+    returns)

@@ -1,0 +1,24 @@
+-- `lister_narrowing::tighten` meets its contract.
+use Rattle.lister_narrowing.proofs.Tightening.{settled}
+use borrow.Author.Needs.{needs}
+use Rattle.lister_narrowing.proofs.tighten.Statement.{statement}
+use Rattle.lister_narrowing.proofs.tighten.Tie as tie
+
+gather-requires : tie.Need-gather-requires
+gather-requires c κs = search needs
+
+minus-requires : tie.Need-minus-requires
+minus-requires c κs = search needs
+
+stuck-requires : tie.Need-stuck-requires
+stuck-requires c κs = search needs
+
+minus-requires-2 : tie.Need-minus-requires-2
+minus-requires-2 c κs = search needs
+
+returns : tie.Need-returns
+returns c = settled _ _ _ _ (c .before .before .before .before .before .gather .ensures) _ _ _ (c .before .before .before .minus .ensures) (c .minus2 .ensures) (c .before .before .stuck .ensures)
+
+pub tighten-spec : {M : Type 1} → statement M
+tighten-spec =
+    tie.close (tie.spec gather-requires minus-requires stuck-requires minus-requires-2 returns)
