@@ -84,16 +84,16 @@ pub init-good : (n m r : ℕ) (q : Problem) → r ≡ firstOf (refuse 6 (not (si
 unfolding refusalsOf answerFor
 init-good n m r q o z s x free a b = handled-silent x model.Kind.I free q refl (rw (a, b) (sym z ∙ o)) (subst⁻¹ (λ (y : Problem). Holds y (problemAfter x model.Kind.I)) s (after-I x n m a b))
 
-row-vertex : (x : Context) → 0 ≡ firstOf (refusalsOf x model.Kind.R) → operand x 0 < 2 ^ x .problem .table .n
+row-vertex : (x : Context) → 0 ≡ firstOf (refusalsOf x model.Kind.R) → operand x 0 < 2 ^ x .problem .settings .n
 unfolding refusalsOf
-row-vertex x e = go (leb (2 ^ x .problem .table .n) (operand x 0)) refl e
+row-vertex x e = go (leb (2 ^ x .problem .settings .n) (operand x 0)) refl e
   where
     rest : ℕ
-    rest = firstOf (refuse 8 (badRow (x .problem .table .m) (operand x 1) (operand x 2)) ∷ [])
+    rest = firstOf (refuse 8 (badRow (x .problem .settings .m) (operand x 1) (operand x 2)) ∷ [])
 
-    go : (b : Bool) → leb (2 ^ x .problem .table .n) (operand x 0) ≡ b → 0 ≡ cond (b || some (eqb (operand x 0)) (x .problem .rowsAt)) 7 rest → operand x 0 < 2 ^ x .problem .table .n
+    go : (b : Bool) → leb (2 ^ x .problem .settings .n) (operand x 0) ≡ b → 0 ≡ cond (b || some (eqb (operand x 0)) (x .problem .rows .given)) 7 rest → operand x 0 < 2 ^ x .problem .settings .n
     go true q z = absurd (omega arith)
-    go false q z = leb-false (2 ^ x .problem .table .n) (operand x 0) q
+    go false q z = leb-false (2 ^ x .problem .settings .n) (operand x 0) q
 
 module _ (p : Problem) (v on dc r : ℕ) (o : RowRefusal p v on dc r) where
   pub row-refused : (e : Effect) → (r ≡ 0 → ⊥) → e ≡ refusedAs p r → HandlesR p v on dc e
@@ -104,7 +104,7 @@ module _ (p : Problem) (v on dc r : ℕ) (o : RowRefusal p v on dc r) where
   row-kept q z s x free f a b c =
       let own : 0 ≡ firstOf (refusalsOf x model.Kind.R) = sym z ∙ o x (f .holds) a b c in
       handled-silent x model.Kind.R free q refl own
-      (subst⁻¹ (λ (y : Problem). Holds y (problemAfter x model.Kind.R)) s (after-R x p v on dc (f .holds) (f .valid) (f .begun) a b c (subst (λ (w : ℕ). w < 2 ^ x .problem .table .n) a (row-vertex x own))))
+      (subst⁻¹ (λ (y : Problem). Holds y (problemAfter x model.Kind.R)) s (after-R x p v on dc (f .holds) (f .valid) (f .begun) a b c (subst (λ (w : ℕ). w < 2 ^ x .problem .settings .n) a (row-vertex x own))))
 
 module _ (p : Problem) (t : Term) (r : ℕ) (o : TermRefusal p t r) where
   pub term-refused : (e : Effect) → (r ≡ 0 → ⊥) → e ≡ refusedAs p r → HandlesT p t e
@@ -119,13 +119,13 @@ module _ (p : Problem) (t : Term) (r : ℕ) (o : TermRefusal p t r) where
 -- ---- P
 
 module _ (p : Problem) (z : Sized p) (may : List ℕ) (of : MayOf (p .on) (p .dc) may) (list : PrimeList) (all : AllPrimes may (p .n) list) where
-  primes-here : (x : Context) → Found p x → Listed (primes (x .problem .table)) list
-  primes-here x f = all (x .problem .table) (of (x .problem .table) (p .n) (z .inputs) (held-bytes p (x .problem) z (f .holds) (f .valid)))
+  primes-here : (x : Context) → Found p x → Listed (primes (tableOf (x .problem))) list
+  primes-here x f = all (tableOf (x .problem)) (of (tableOf (x .problem)) (p .n) (z .inputs) (held-bytes p (x .problem) z (f .holds) (f .valid)))
 
   pub few-primes : Reached p → list .count ≤ 64
   few-primes r =
-      let l = all (r .problem .table) (of (r .problem .table) (p .n) (z .inputs) (held-bytes p (r .problem) z (r .holds) (r .valid))) in
-      omega (arith, l .stored .counted, length-take 64 (primes (r .problem .table)))
+      let l = all (tableOf (r .problem)) (of (tableOf (r .problem)) (p .n) (z .inputs) (held-bytes p (r .problem) z (r .holds) (r .valid))) in
+      omega (arith, l .stored .counted, length-take 64 (primes (tableOf (r .problem))))
 
   pub primes-many : (old : List ℕ) (e : Effect) → list .full ≡ true → e ≡ refusedAs p 11 → HandlesP p old old e
   unfolding refusalsOf
@@ -138,8 +138,8 @@ module _ (p : Problem) (z : Sized p) (may : List ℕ) (of : MayOf (p .on) (p .dc
     unfolding refusalsOf
     own-none x f = rw (← primes-here x f .more, g)
 
-    whole : (x : Context) → Found p x → Filled 64 (primes (x .problem .table)) (list .terms) (list .count)
-    whole x f = whole-list (primes (x .problem .table)) list (primes-here x f) g
+    whole : (x : Context) → Found p x → Filled 64 (primes (tableOf (x .problem))) (list .terms) (list .count)
+    whole x f = whole-list (primes (tableOf (x .problem))) list (primes-here x f) g
 
     replied : (x : Context) → Found p x → Replied (answerBytes x model.Kind.P) old new r
     unfolding answerFor

@@ -235,7 +235,7 @@ module _ (may : List ℕ) (n m : ℕ) (words : List ℕ) where
 
 -- in the table that p holds
 pub words-here : (p : Problem) (may words : List ℕ) (r : ℕ) → Sized p → MayOf (p .on) (p .dc) may → ((t : Table) → Allowed t (p .n) may → t .m ≡ p .m → r ≡ firstOf (join (map (refusalsOfWord t) words))) → WordsRefusal p words r
-words-here p may words r z of f q h g = f (q .table) (of (q .table) (p .n) (z .inputs) (held-rows p q z h g)) (sym (h .outputs))
+words-here p may words r z of f q h g = f (tableOf q) (of (tableOf q) (p .n) (z .inputs) (held-rows p q z h g)) (sym (h .outputs))
 
 -- ---- the sets
 

@@ -102,7 +102,7 @@ WordRefusal may n m w r = (p : Table) → Allowed p n may → p .m ≡ m → r �
 -- r is the first refusal of some terms, where the rows of the table that p holds are well formed; 0 where they meet none
 abbrev pub WordsRefusal : Problem → List ℕ → ℕ → Type 0
 WordsRefusal p words r =
-    (q : model.Problem) → Holds p q → ((v : ℕ) → v < 2 ^ q .table .n → T (not (badVertex (q .table) v))) → r ≡ firstOf (join (map (refusalsOfWord (q .table)) words))
+    (q : model.Problem) → Holds p q → ((v : ℕ) → v < 2 ^ q .settings .n → T (not (badVertex (tableOf q) v))) → r ≡ firstOf (join (map (refusalsOfWord (tableOf q)) words))
 
 -- ---- the sets
 

@@ -15,7 +15,7 @@ use Rattle.model.specs.Primes.{primes}
 use Rattle.model.specs.Sets.{Covering, members, coverable, irredundant, irredundants, cost, cheapest}
 use Rattle.model.specs.Pages.{atOrAbove, page, more}
 use Rattle.model.specs.Candidates.{termCost}
-use Rattle.model.specs.Commands.{queried, Kind, kindOf, width, Problem, atPlace, Context, low, operand, operandTerm, start, count, coveringOf, problemAfter}
+use Rattle.model.specs.Commands.{queried, Kind, kindOf, width, Problem, atPlace, Context, low, operand, operandTerm, start, count, coveringOf, problemAfter, tableOf}
 use Rattle.model.specs.Answers.{Answer, bytesOf, answerFor, answer}
 use Rattle.model.specs.Refusals.{size, refusalsOf}
 use Rattle.model.specs.Rules.{Rules, engine}
@@ -125,12 +125,12 @@ sound-T t a s = record {
   inputs = s .inputs;
   outputs = s .outputs;
   few = omega (arith, nleb→lt 64 (length (t .problem .cands)) (a .1 .1 .0), length-append (t .problem .cands) (operandTerm t ∷ []));
-  small = all-append Small (t .problem .cands) (operandTerm t ∷ []) (s .small) (formed-small (t .problem .table) (operandTerm t) (s .inputs) (s .outputs) (formed-e (t .problem .table) (operandTerm t) (twice (formed (t .problem .table) (operandTerm t)) (a .0))), tt);
+  small = all-append Small (t .problem .cands) (operandTerm t ∷ []) (s .small) (formed-small (tableOf (t .problem)) (operandTerm t) (s .inputs) (s .outputs) (formed-e (tableOf (t .problem)) (operandTerm t) (twice (formed (tableOf (t .problem)) (operandTerm t)) (a .0))), tt);
 }
 
 fits-P : (t : Context) → NoneApplies (refusalsOf t Kind.P) → Sound (t .problem) → FitsBehind (t .rest) (answerFor t Kind.P)
 unfolding refusalsOf answerFor
-fits-P t a s = (tt, λ b. (omega arith, (omega (arith, nltb→le 64 (length (primes (t .problem .table))) (a .0)), terms-bytes (primes (t .problem .table)) (primes-small (t .problem .table) (s .inputs) (s .outputs)))))
+fits-P t a s = (tt, λ b. (omega arith, (omega (arith, nltb→le 64 (length (primes (tableOf (t .problem)))) (a .0)), terms-bytes (primes (tableOf (t .problem))) (primes-small (tableOf (t .problem)) (s .inputs) (s .outputs)))))
 
 fits-C : (t : Context) → NoneApplies (refusalsOf t Kind.C) → Sound (t .problem) → FitsBehind (t .rest) (answerFor t Kind.C)
 unfolding refusalsOf answerFor cost
@@ -147,7 +147,7 @@ lawful-at t Kind.R = record { numbered = (omega arith, (omega arith, tt)); sound
 lawful-at t Kind.T = record { numbered = (omega arith, (omega arith, (omega arith, tt))); sound = sound-T t; fits = λ a s. (tt, λ b. tt) }
 lawful-at t Kind.P = record {
   numbered = (omega arith, tt);
-  sound = λ a s. record { inputs = s .inputs; outputs = s .outputs; few = nltb→le 64 (length (primes (t .problem .table))) (a .0); small = primes-small (t .problem .table) (s .inputs) (s .outputs) };
+  sound = λ a s. record { inputs = s .inputs; outputs = s .outputs; few = nltb→le 64 (length (primes (tableOf (t .problem)))) (a .0); small = primes-small (tableOf (t .problem)) (s .inputs) (s .outputs) };
   fits = fits-P t;
 }
 lawful-at t Kind.L = record {

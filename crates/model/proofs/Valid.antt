@@ -16,7 +16,7 @@ use Rattle.model.specs.Table.{Table, Term, formed, holdsNoOff, legal}
 use Rattle.model.specs.Primes.{primes}
 use Rattle.model.specs.Sets.{coverable}
 use Rattle.model.specs.Candidates.{basis, covering}
-use Rattle.model.specs.Commands.{atStart, begun, inRows, inTerms, queried, Kind, is, allowed, Problem, Context, operand, operandTerm, start, count, coveringOf, withRow, atPlace, withCands, problemAfter, empty}
+use Rattle.model.specs.Commands.{atStart, begun, inRows, inTerms, queried, Kind, is, allowed, Problem, Context, operand, operandTerm, start, count, coveringOf, withRow, withRows, atPlace, withCands, problemAfter, empty, tableOf}
 use Rattle.model.specs.Answers.{Answer, answerFor, answer}
 use Rattle.model.specs.Refusals.{size, badRow, Refusal, refuse, firstOf, refusalsOf}
 use Rattle.model.specs.Rules.{Rules, engine}
@@ -45,12 +45,13 @@ zero-row n v = go (decLt v n)
     go (yes h) = getD-replicate n v 0 0 h
     go (no h) = List·getD-eq-default (replicate n 0) 0 (omega (arith, length-replicate {A = ℕ} n 0))
 
-set-good : (p : Table) (u x y : ℕ) → u < length (p .on) → u < length (p .dc) → T (not (badRow (p .m) x y)) → ((v : ℕ) → T (not (badVertex p v))) → (v : ℕ) → T (not (badVertex (withRow p u x y) v))
-set-good p u x y h k g f v = go (ℕ-discrete v u)
+set-good : (q : Problem) (u x y : ℕ) → u < length (q .rows .on) → u < length (q .rows .dc) → T (not (badRow (q .settings .m) x y)) → ((v : ℕ) → T (not (badVertex (tableOf q) v)))
+    → (v : ℕ) → T (not (badVertex (tableOf (withRows (withRow (q .rows) u x y) q)) v))
+set-good q u x y h k g f v = go (ℕ-discrete v u)
   where
-    go : Dec (v ≡ u) → T (not (badVertex (withRow p u x y) v))
-    go (yes e) = rw (e, getD-set-same (p .on) u x 0 h, getD-set-same (p .dc) u y 0 k) g
-    go (no d) = rw (getD-set-other (p .on) u v x 0 d, getD-set-other (p .dc) u v y 0 d) (f v)
+    go : Dec (v ≡ u) → T (not (badVertex (tableOf (withRows (withRow (q .rows) u x y) q)) v))
+    go (yes e) = rw (e, getD-set-same (q .rows .on) u x 0 h, getD-set-same (q .rows .dc) u y 0 k) g
+    go (no d) = rw (getD-set-other (q .rows .on) u v x 0 d, getD-set-other (q .rows .dc) u v y 0 d) (f v)
 
 -- ---- one command
 
@@ -85,25 +86,25 @@ valid-R : (t : Context) → T (allowed Kind.R (t .problem .place)) → NoneAppli
 unfolding refusalsOf problemAfter
 valid-R t p a s =
     let o = place-one Kind.R (t .problem .place) tt p in
-    let l = nleb→lt (2 ^ t .problem .table .n) (operand t 0) (not-or-l (leb (2 ^ t .problem .table .n) (operand t 0)) (some (eqb (operand t 0)) (t .problem .rowsAt)) (a .0)) in
+    let l = nleb→lt (2 ^ t .problem .settings .n) (operand t 0) (not-or-l (leb (2 ^ t .problem .settings .n) (operand t 0)) (some (eqb (operand t 0)) (t .problem .rows .given)) (a .0)) in
     let none = s .early (place-low (t .problem .place) p) in
     record {
       sound = after-sound t Kind.R a (s .sound);
       sizes = λ q. s .sizes o;
-      rows = λ q. (length-set (t .problem .table .on) (operand t 0) (operand t 1) ∙ s .rows o .0, length-set (t .problem .table .dc) (operand t 0) (operand t 2) ∙ s .rows o .1);
-      good = set-good (t .problem .table) (operand t 0) (operand t 1) (operand t 2) (omega (arith, s .rows o .0)) (omega (arith, s .rows o .1)) (a .1 .0) (s .good);
+      rows = λ q. (length-set (t .problem .rows .on) (operand t 0) (operand t 1) ∙ s .rows o .0, length-set (t .problem .rows .dc) (operand t 0) (operand t 2) ∙ s .rows o .1);
+      good = set-good (t .problem) (operand t 0) (operand t 1) (operand t 2) (omega (arith, s .rows o .0)) (omega (arith, s .rows o .1)) (a .1 .0) (s .good);
       early = λ q. none;
-      legal = subst⁻¹ (All (λ u. T (legal (withRow (t .problem .table) (operand t 0) (operand t 1) (operand t 2)) u))) none tt;
+      legal = subst⁻¹ (All (λ u. T (legal (tableOf (problemAfter t Kind.R)) u))) none tt;
     }
 
 -- other candidates, behind the rows
-valid-cands : (q : Problem) (place : ℕ) (ts : List Term) → inTerms ≤ place → begun ≤ q .place → Valid q → All (λ u. T (legal (q .table) u)) ts → Sound (atPlace place (withCands ts q)) → Valid (atPlace place (withCands ts q))
+valid-cands : (q : Problem) (place : ℕ) (ts : List Term) → inTerms ≤ place → begun ≤ q .place → Valid q → All (λ u. T (legal (tableOf q) u)) ts → Sound (atPlace place (withCands ts q)) → Valid (atPlace place (withCands ts q))
 valid-cands q place ts i o v l s = record { sound = s; sizes = λ h. v .sizes o; rows = λ h. v .rows o; good = v .good; early = λ h. absurd (omega (arith, h)); legal = l }
 
-legal-term : (t : Context) → NoneApplies (refusalsOf t Kind.T) → T (legal (t .problem .table) (operandTerm t))
+legal-term : (t : Context) → NoneApplies (refusalsOf t Kind.T) → T (legal (tableOf (t .problem)) (operandTerm t))
 unfolding refusalsOf legal
 legal-term t a =
-    let p = t .problem .table in
+    let p = tableOf (t .problem) in
     and-i (formed p (operandTerm t)) (holdsNoOff p (operandTerm t)) (twice (formed p (operandTerm t)) (a .0)) (twice (holdsNoOff p (operandTerm t)) (a .1 .0))
 
 primes-legal : (p : Table) → All (λ u. T (legal p u)) (primes p)
@@ -115,8 +116,8 @@ after-valid t Kind.I p a s = valid-I t a s
 after-valid t Kind.R p a s = valid-R t p a s
 after-valid t Kind.T p a s =
     valid-cands (t .problem) inTerms (t .problem .cands ++ (operandTerm t ∷ [])) (omega arith) (place-one Kind.T (t .problem .place) tt p) s
-    (all-append (λ (u : Term). T (legal (t .problem .table) u)) (t .problem .cands) (operandTerm t ∷ []) (s .legal) (legal-term t a, tt)) (after-sound t Kind.T a (s .sound))
-after-valid t Kind.P p a s = valid-cands (t .problem) queried (primes (t .problem .table)) (omega arith) (place-one Kind.P (t .problem .place) tt p) s (primes-legal (t .problem .table)) (after-sound t Kind.P a (s .sound))
+    (all-append (λ (u : Term). T (legal (tableOf (t .problem)) u)) (t .problem .cands) (operandTerm t ∷ []) (s .legal) (legal-term t a, tt)) (after-sound t Kind.T a (s .sound))
+after-valid t Kind.P p a s = valid-cands (t .problem) queried (primes (tableOf (t .problem))) (omega arith) (place-one Kind.P (t .problem .place) tt p) s (primes-legal (tableOf (t .problem))) (after-sound t Kind.P a (s .sound))
 after-valid t Kind.L p a s = valid-cands (t .problem) queried (t .problem .cands) (omega arith) (place-one Kind.L (t .problem .place) tt p) s (s .legal) (after-sound t Kind.L a (s .sound))
 after-valid t Kind.C p a s = valid-cands (t .problem) queried (t .problem .cands) (omega arith) (place-one Kind.C (t .problem .place) tt p) s (s .legal) (after-sound t Kind.C a (s .sound))
 after-valid t Kind.E p a s = s
@@ -191,12 +192,12 @@ words-pass p (t ∷ ts) s l =
     (rw (top, unpack-pack t (s .0)) (not-not (formed p t) f), (rw (unpack-pack t (s .0)) (not-not (holdsNoOff p t) h), words-pass p ts (s .1) (l .1)))
 
 -- no refusal of the library call applies where none applies to an L
-library-passes : (q : Problem) → Valid q → begun ≤ q .place → T (coverable (covering (basis (q .table) (q .cands)))) → firstOf (callRefusals (q .table) (map pack (q .cands))) ≡ 0
+library-passes : (q : Problem) → Valid q → begun ≤ q .place → T (coverable (covering (basis (tableOf q) (q .cands)))) → firstOf (callRefusals (tableOf q) (map pack (q .cands))) ≡ 0
 unfolding callRefusals
 library-passes q v o c = none-first (callRefusals p words) (not-not (size (p .n) && size (p .m) && (eqb (length (p .on)) (2 ^ p .n) && eqb (length (p .dc)) (2 ^ p .n))) shape, (clean, (few, rest)))
   where
     p : Table
-    p = q .table
+    p = tableOf q
 
     words : List ℕ
     words = map pack (q .cands)
@@ -222,11 +223,11 @@ library-passes q v o c = none-first (callRefusals p words) (not-not (size (p .n)
 
 -- an L answers what the library call fills into a row of `count` entries
 pub page-library : (t : Context) → t .kind ≡ Kind.L → Valid (t .problem) → Passed engine t → (old : List ℕ) → length old ≡ count t
-    → let l = listCovers (t .problem .table) (map pack (t .problem .cands)) (start t) old in (l .number ≡ 0) × (answer t ≡ Answer.paged (setsOf l) (l .above))
+    → let l = listCovers (tableOf (t .problem)) (map pack (t .problem .cands)) (start t) old in (l .number ≡ 0) × (answer t ≡ Answer.paged (setsOf l) (l .above))
 unfolding answer answerFor refusalsOf
 page-library t e v h old n =
     let a : T (allowed Kind.L (t .problem .place)) = subst (λ (k : Kind). T (allowed k (t .problem .place))) e (h .place) in
     let w : NoneApplies (refusalsOf t Kind.L) = subst (λ (k : Kind). NoneApplies (refusalsOf t k)) e (h .own) in
     let z = library-passes (t .problem) v (place-one Kind.L (t .problem .place) tt a) (twice (coverable (coveringOf t)) (w .0)) in
-    let d = listed-told (t .problem .table) (map pack (t .problem .cands)) (start t) old z in
+    let d = listed-told (tableOf (t .problem)) (map pack (t .problem .cands)) (start t) old z in
     (d .number, rw (e, d .sets, d .above, unpack-all (t .problem .cands) (v .sound .small), n))

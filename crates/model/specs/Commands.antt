@@ -92,18 +92,41 @@ isQueryKind k = some (is k) queryKinds
 
 -- ---- the problem so far
 
--- "the problem so far is one record that holds its rows and its candidates": rowsAt are the vertices that have a row
+-- what I sets: "n, m"
+pub record Settings : Type 0 where
+  pub n : ℕ
+  pub m : ℕ
+
+-- the rows: on and dc of vertex v stand at v, 0 and 0 for "a vertex with no row"; given are the vertices that have one
+pub record TableRows : Type 0 where
+  pub on : List ℕ
+  pub dc : List ℕ
+  pub given : List ℕ
+
+-- "the problem so far is one record that holds its rows and its candidates"
 pub record Problem : Type 0 where
   pub place : ℕ
-  pub table : Table
-  pub rowsAt : List ℕ
+  pub settings : Settings
+  pub rows : TableRows
   pub cands : List Term
 
+-- no row yet
+abbrev pub emptyRows : ℕ → TableRows
+emptyRows k = record { on = replicate k 0; dc = replicate k 0; given = [] }
+
+-- n inputs and m outputs, with no row for any of so many vertices
+abbrev pub started : ℕ → ℕ → ℕ → ℕ → Problem
+started place n m vertices = record { place = place; settings = record { n = n; m = m }; rows = emptyRows vertices; cands = [] }
+
 abbrev pub empty : Problem
-empty = record { place = atStart; table = record { n = 0; m = 0; on = []; dc = [] }; rowsAt = []; cands = [] }
+empty = started atStart 0 0 0
+
+-- the table so far
+abbrev pub tableOf : Problem → Table
+tableOf q = record { n = q .settings .n; m = q .settings .m; on = q .rows .on; dc = q .rows .dc }
 
 abbrev pub basisOf : Problem → Basis
-basisOf q = basis (q .table) (q .cands)
+basisOf q = basis (tableOf q) (q .cands)
 
 -- the context of a command: the problem it finds, its kind, the job's bytes behind the command byte, and the length of the free
 -- part of the answer buffer
@@ -135,30 +158,24 @@ count x = operand x 8
 
 -- ---- the problem after a command that is answered
 
--- I: "n, m", and no rows yet
-abbrev pub emptyTable : ℕ → ℕ → Table
-emptyTable n m = record { n = n; m = m; on = replicate (2 ^ n) 0; dc = replicate (2 ^ n) 0 }
-
 -- R: "vertex, on, dc"
-abbrev pub withRow : Table → ℕ → ℕ → ℕ → Table
-withRow p v x y = record { n = p .n; m = p .m; on = set (p .on) v x; dc = set (p .dc) v y }
+abbrev pub withRow : TableRows → ℕ → ℕ → ℕ → TableRows
+withRow rows v x y = record { on = set (rows .on) v x; dc = set (rows .dc) v y; given = v ∷ rows .given }
 
 abbrev pub atPlace : ℕ → Problem → Problem
-atPlace place q = record { place = place; table = q .table; rowsAt = q .rowsAt; cands = q .cands }
+atPlace place q = record { place = place; settings = q .settings; rows = q .rows; cands = q .cands }
+
+abbrev pub withRows : TableRows → Problem → Problem
+withRows rows q = record { place = q .place; settings = q .settings; rows = rows; cands = q .cands }
 
 abbrev pub withCands : List Term → Problem → Problem
-withCands ts q = record { place = q .place; table = q .table; rowsAt = q .rowsAt; cands = ts }
+withCands ts q = record { place = q .place; settings = q .settings; rows = q .rows; cands = ts }
 
 unfoldable pub problemAfter : Context → Kind → Problem
-problemAfter x I = record { place = begun; table = emptyTable (operand x 0) (operand x 1); rowsAt = []; cands = [] }
-problemAfter x R = record {
-  place = inRows;
-  table = withRow (x .problem .table) (operand x 0) (operand x 1) (operand x 2);
-  rowsAt = operand x 0 ∷ x .problem .rowsAt;
-  cands = x .problem .cands;
-}
+problemAfter x I = started begun (operand x 0) (operand x 1) (2 ^ operand x 0)
+problemAfter x R = atPlace inRows (withRows (withRow (x .problem .rows) (operand x 0) (operand x 1) (operand x 2)) (x .problem))
 problemAfter x T = atPlace inTerms (withCands (x .problem .cands ++ (operandTerm x ∷ [])) (x .problem))
-problemAfter x P = atPlace queried (withCands (primes (x .problem .table)) (x .problem))
+problemAfter x P = atPlace queried (withCands (primes (tableOf (x .problem))) (x .problem))
 problemAfter x L = atPlace queried (x .problem)
 problemAfter x C = atPlace queried (x .problem)
 problemAfter x E = x .problem

@@ -85,7 +85,7 @@ given-more xs at v w h e = go (ℕ-discrete w v)
     go (yes q) = rw (eq-eqb w v q) (ap (λ (u : ℕ). ltb 0 (getD (set xs v 1) u 0)) q ∙ ap (λ (y : ℕ). ltb 0 y) (getD-set-same xs v 1 0 h))
     go (no d) = rw (ne-eqb w v d) (ap (λ (y : ℕ). ltb 0 y) (getD-set-other xs v w 1 0 d) ∙ e)
 
-pub after-R : (x : Context) (p : Problem) (v on dc : ℕ) → Holds p (x .problem) → Valid (x .problem) → 1 ≤ x .problem .place → operand x 0 ≡ v → operand x 1 ≡ on → operand x 2 ≡ dc → v < 2 ^ x .problem .table .n
+pub after-R : (x : Context) (p : Problem) (v on dc : ℕ) → Holds p (x .problem) → Valid (x .problem) → 1 ≤ x .problem .place → operand x 0 ≡ v → operand x 1 ≡ on → operand x 2 ≡ dc → v < 2 ^ x .problem .settings .n
     → Holds (rowPut p v on dc) (problemAfter x model.Kind.R)
 unfolding rowPut problemAfter
 after-R x p v on dc h w o e f g l = rw (e, f, g) record {
@@ -95,9 +95,9 @@ after-R x p v on dc h w o e f g l = rw (e, f, g) record {
   on-size = length-set (p .on) v on ∙ h .on-size;
   dc-size = length-set (p .dc) v dc ∙ h .dc-size;
   given-size = length-set (p .given) v 1 ∙ h .given-size;
-  on-bytes = λ u k. set-both (p .on) (x .problem .table .on) 256 v on u (omega (arith, small, h .on-size)) (omega (arith, w .rows o .0)) k (h .on-bytes);
-  dc-bytes = λ u k. set-both (p .dc) (x .problem .table .dc) 256 v dc u (omega (arith, small, h .dc-size)) (omega (arith, w .rows o .1)) k (h .dc-bytes);
-  rows = λ u k. given-more (p .given) (x .problem .rowsAt) v u (omega (arith, small, h .given-size)) (h .rows u k);
+  on-bytes = λ u k. set-both (p .on) (x .problem .rows .on) 256 v on u (omega (arith, small, h .on-size)) (omega (arith, w .rows o .0)) k (h .on-bytes);
+  dc-bytes = λ u k. set-both (p .dc) (x .problem .rows .dc) 256 v dc u (omega (arith, small, h .dc-size)) (omega (arith, w .rows o .1)) k (h .dc-bytes);
+  rows = λ u k. given-more (p .given) (x .problem .rows .given) v u (omega (arith, small, h .given-size)) (h .rows u k);
   cands = h .cands;
 }
   where
@@ -127,7 +127,7 @@ after-T x p t h e l = rw e record {
 
 -- ---- P, L and C
 
-pub after-P : (x : Context) (p : Problem) (terms : List Term) (count : ℕ) → Holds p (x .problem) → Filled 64 (primes (x .problem .table)) terms count → Holds (candidatesPut p terms count) (problemAfter x model.Kind.P)
+pub after-P : (x : Context) (p : Problem) (terms : List Term) (count : ℕ) → Holds p (x .problem) → Filled 64 (primes (tableOf (x .problem))) terms count → Holds (candidatesPut p terms count) (problemAfter x model.Kind.P)
 unfolding candidatesPut problemAfter
 after-P x p terms count h f = record { place = refl; inputs = h .inputs; outputs = h .outputs; on-size = h .on-size; dc-size = h .dc-size; given-size = h .given-size; on-bytes = h .on-bytes; dc-bytes = h .dc-bytes; rows = h .rows; cands = f }
 

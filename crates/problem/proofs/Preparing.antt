@@ -31,7 +31,7 @@ use Rattle.problem.specs.Problems.{Sized, Holds}
 use Rattle.problem.specs.Matrix.{TellsCovered, RowsOf, Prepares, Refreshed}
 
 -- the on bytes of the table that p holds
-pub held-on : (p : Problem) (q : model.Problem) → Sized p → Holds p q → OnBytes (q .table) (p .n) (p .m) (p .on)
+pub held-on : (p : Problem) (q : model.Problem) → Sized p → Holds p q → OnBytes (tableOf q) (p .n) (p .m) (p .on)
 held-on p q z h = record { inputs = sym (h .inputs); outputs = sym (h .outputs); bytes = λ v l. h .on-bytes v (omega (arith, pow-mono (z .inputs))) }
 
 -- the candidates are those that p holds
@@ -39,7 +39,7 @@ held-cands : (p : Problem) (q : model.Problem) → Holds p q → take (p .count)
 held-cands p q h = h .cands .same
 
 pub covered : (p : Problem) (r : Bool) → Sized p → TellsCoverable (p .on) (p .n) (p .m) (take (p .count) (p .terms)) r → TellsCovered p r
-covered p r z c q h = c (q .table) (held-on p q z h) ∙ ap (λ (ts : List Term). coverable (covering (basis (q .table) ts))) (held-cands p q h)
+covered p r z c q h = c (tableOf q) (held-on p q z h) ∙ ap (λ (ts : List Term). coverable (covering (basis (tableOf q) ts))) (held-cands p q h)
 
 -- ---- costs play no part in the listing
 
@@ -91,8 +91,8 @@ module _ (p : Problem) (z : Sized p) (old all : List ℕ) (k : ℕ) (a : AllRows
     rows = λ q h. rows-ordered (basisOf q) (take r out) (take r new) (rows-of (basisOf q) (take k all) out r (rows-are q h) d) (subst⁻¹ (SameRows (take r out)) e s);
   }
     where
-      rows-are : (q : model.Problem) → Holds p q → take k all ≡ map (rowOf holds (q .cands)) (onCells (q .table))
-      rows-are q h = put-front _ old all k (a (q .table) (held-on p q z h)) ∙ ap (λ (ts : List Term). map (rowOf holds ts) (onCells (q .table))) (held-cands p q h)
+      rows-are : (q : model.Problem) → Holds p q → take k all ≡ map (rowOf holds (q .cands)) (onCells (tableOf q))
+      rows-are q h = put-front _ old all k (a (tableOf q) (held-on p q z h)) ∙ ap (λ (ts : List Term). map (rowOf holds ts) (onCells (tableOf q))) (held-cands p q h)
 
 -- the covers of the rows are those of the problem
 pub rows-listed : (p : Problem) (q : model.Problem) (rows : List ℕ) (n : ℕ) → Holds p q → RowsOf (basisOf q) rows → n ≡ p .count → rowCovers n rows ≡ irredundants (covering (basisOf q))

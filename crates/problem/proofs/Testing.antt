@@ -55,15 +55,15 @@ bad-on m on dc top w e f l = rw (← e, ← f, le-leb top w l) (sym (or-true (lt
 pub bad-dc : (m on dc top w u : ℕ) → bitAnd on dc ≤ 0 → top ≡ 2 ^ m → w ≡ on → w < top → u ≡ dc → leb top u ≡ badRow m on dc
 bad-dc m on dc top w u n e f l g = rw (le-ltb 0 (bitAnd on dc) n, ← e, ← f, lt-leb top w l, g)
 
-taken-law : (p : Problem) (v : ℕ) (q : model.Problem) → Holds p q → 2 ^ p .n ≡ 2 ^ q .table .n
+taken-law : (p : Problem) (v : ℕ) (q : model.Problem) → Holds p q → 2 ^ p .n ≡ 2 ^ q .settings .n
 taken-law p v q h = ap (λ (n : ℕ). 2 ^ n) (h .inputs)
 
 pub taken-past : (p : Problem) (v top i : ℕ) → top ≡ 2 ^ p .n → i ≡ v → top ≤ i → TellsTaken p v true
-taken-past p v top i e f l q h = rw (le-leb (2 ^ q .table .n) v (omega (arith, taken-law p v q h)))
+taken-past p v top i e f l q h = rw (le-leb (2 ^ q .settings .n) v (omega (arith, taken-law p v q h)))
 
 pub taken-row : (p : Problem) (v top i : ℕ) → Sized p → top ≡ 2 ^ p .n → i ≡ v → i < top → TellsTaken p v (ltb 0 (getD (p .given) i 0))
 taken-row p v top i z e f l q h =
-    rw (lt-leb (2 ^ q .table .n) v (omega (arith, taken-law p v q h)))
+    rw (lt-leb (2 ^ q .settings .n) v (omega (arith, taken-law p v q h)))
     (ap (λ (k : ℕ). ltb 0 (getD (p .given) k 0)) f ∙ h .rows v (omega (arith, pow-mono (z .inputs))))
 
 module _ (p : Problem) (v on dc : ℕ) (t : Bool) (taken : TellsTaken p v t) where
@@ -72,7 +72,7 @@ module _ (p : Problem) (v on dc : ℕ) (t : Bool) (taken : TellsTaken p v t) whe
   row-taken e x h a b c = rw (a, b, c, ← taken (x .problem) h, e)
 
   module _ (b : Bool) (bad : b ≡ badRow (p .m) on dc) where
-    same-row : (q : model.Problem) → Holds p q → b ≡ badRow (q .table .m) on dc
+    same-row : (q : model.Problem) → Holds p q → b ≡ badRow (q .settings .m) on dc
     same-row q h = bad ∙ ap (λ (m : ℕ). badRow m on dc) (h .outputs)
 
     pub row-bad : t ≡ false → b ≡ true → RowRefusal p v on dc 8
@@ -86,37 +86,37 @@ module _ (p : Problem) (v on dc : ℕ) (t : Bool) (taken : TellsTaken p v t) whe
 -- ---- terms
 
 -- the bytes of the table that p holds, where its rows are well formed
-pub held-rows : (p : Problem) (q : model.Problem) → Sized p → Holds p q → ((v : ℕ) → v < 2 ^ q .table .n → T (not (badVertex (q .table) v))) → TableBytes (q .table) (p .n) (p .on) (p .dc)
+pub held-rows : (p : Problem) (q : model.Problem) → Sized p → Holds p q → ((v : ℕ) → v < 2 ^ q .settings .n → T (not (badVertex (tableOf q) v))) → TableBytes (tableOf q) (p .n) (p .on) (p .dc)
 held-rows p q z h g = record {
   inputs = sym (h .inputs);
   on-bytes = λ w l. h .on-bytes w (small w l);
   dc-bytes = λ w l. h .dc-bytes w (small w l);
-  on-lt = λ w l. subst⁻¹ (λ (x : ℕ). x < 2 ^ q .table .m) (h .on-bytes w (small w l)) (bytes w l .0);
-  dc-lt = λ w l. subst⁻¹ (λ (x : ℕ). x < 2 ^ q .table .m) (h .dc-bytes w (small w l)) (bytes w l .1);
+  on-lt = λ w l. subst⁻¹ (λ (x : ℕ). x < 2 ^ q .settings .m) (h .on-bytes w (small w l)) (bytes w l .0);
+  dc-lt = λ w l. subst⁻¹ (λ (x : ℕ). x < 2 ^ q .settings .m) (h .dc-bytes w (small w l)) (bytes w l .1);
 }
   where
     small : (w : ℕ) → w < 2 ^ p .n → w < 256
     small w l = omega (arith, pow-mono (z .inputs))
 
-    bytes : (w : ℕ) → w < 2 ^ p .n → (getD (q .table .on) w 0 < 2 ^ q .table .m) × (getD (q .table .dc) w 0 < 2 ^ q .table .m)
-    bytes w l = small-bytes (q .table) w (g w (omega (arith, taken-law p w q h)))
+    bytes : (w : ℕ) → w < 2 ^ p .n → (getD (q .rows .on) w 0 < 2 ^ q .settings .m) × (getD (q .rows .dc) w 0 < 2 ^ q .settings .m)
+    bytes w l = small-bytes (tableOf q) w (g w (omega (arith, taken-law p w q h)))
 
-pub held-bytes : (p : Problem) (q : model.Problem) → Sized p → Holds p q → Valid q → TableBytes (q .table) (p .n) (p .on) (p .dc)
+pub held-bytes : (p : Problem) (q : model.Problem) → Sized p → Holds p q → Valid q → TableBytes (tableOf q) (p .n) (p .on) (p .dc)
 held-bytes p q z h v = held-rows p q z h (λ w l. v .good w)
 
 module _ (p : Problem) (t : Term) (z : Sized p) (f : Bool) (formed-is : TellsFormed (p .n) (p .m) t f) where
-  formed-here : (x : Context) → Holds p (x .problem) → f ≡ formed (x .problem .table) t
-  formed-here x h = formed-is (x .problem .table) (sym (h .inputs)) (sym (h .outputs))
+  formed-here : (x : Context) → Holds p (x .problem) → f ≡ formed (tableOf (x .problem)) t
+  formed-here x h = formed-is (tableOf (x .problem)) (sym (h .inputs)) (sym (h .outputs))
 
   pub term-malformed : f ≡ false → TermRefusal p t 9
   unfolding refusalsOf
   term-malformed e = record { room = λ z. absurd (omega (arith, z)); refusal = λ x h v o. rw (o, ← formed-here x h, e) }
 
   module _ (may : List ℕ) (of : MayOf (p .on) (p .dc) may) (g : Bool) (no-off : TellsNoOff may (p .n) t g) (e : f ≡ true) where
-    no-off-here : (x : Context) → Holds p (x .problem) → Valid (x .problem) → g ≡ holdsNoOff (x .problem .table) t
+    no-off-here : (x : Context) → Holds p (x .problem) → Valid (x .problem) → g ≡ holdsNoOff (tableOf (x .problem)) t
     no-off-here x h v =
-        no-off (x .problem .table) (of (x .problem .table) (p .n) (z .inputs) (held-bytes p (x .problem) z h v))
-        (formed-e (x .problem .table) t (subst (λ (b : Bool). T b) (sym e ∙ formed-here x h) tt) .outputs-lt)
+        no-off (tableOf (x .problem)) (of (tableOf (x .problem)) (p .n) (z .inputs) (held-bytes p (x .problem) z h v))
+        (formed-e (tableOf (x .problem)) t (subst (λ (b : Bool). T b) (sym e ∙ formed-here x h) tt) .outputs-lt)
 
     pub term-off : g ≡ false → TermRefusal p t 10
     unfolding refusalsOf

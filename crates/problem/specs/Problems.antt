@@ -50,14 +50,14 @@ pub record Sized (p : Problem) : Type 0 where
 -- p holds the problem q of the definitions
 pub record Holds (p : Problem) (q : model.Problem) : Type 0 where
   pub place : p .place ≡ q .place
-  pub inputs : p .n ≡ q .table .n
-  pub outputs : p .m ≡ q .table .m
+  pub inputs : p .n ≡ q .settings .n
+  pub outputs : p .m ≡ q .settings .m
   pub on-size : length (p .on) ≡ 256
   pub dc-size : length (p .dc) ≡ 256
   pub given-size : length (p .given) ≡ 256
-  pub on-bytes : (v : ℕ) → v < 256 → getD (p .on) v 0 ≡ getD (q .table .on) v 0
-  pub dc-bytes : (v : ℕ) → v < 256 → getD (p .dc) v 0 ≡ getD (q .table .dc) v 0
-  pub rows : (v : ℕ) → v < 256 → ltb 0 (getD (p .given) v 0) ≡ some (eqb v) (q .rowsAt)
+  pub on-bytes : (v : ℕ) → v < 256 → getD (p .on) v 0 ≡ getD (q .rows .on) v 0
+  pub dc-bytes : (v : ℕ) → v < 256 → getD (p .dc) v 0 ≡ getD (q .rows .dc) v 0
+  pub rows : (v : ℕ) → v < 256 → ltb 0 (getD (p .given) v 0) ≡ some (eqb v) (q .rows .given)
   pub cands : Filled 64 (q .cands) (p .terms) (p .count)
 
 -- p holds a problem that a job can come to

@@ -14,7 +14,7 @@ use Rattle.problem.specs.Problems.{Holds}
 
 -- r tells whether v is no vertex of the problem that p holds, or one that has a row
 abbrev pub TellsTaken : Problem → ℕ → Bool → Type 0
-TellsTaken p v r = (q : model.Problem) → Holds p q → r ≡ (leb (2 ^ q .table .n) v || some (eqb v) (q .rowsAt))
+TellsTaken p v r = (q : model.Problem) → Holds p q → r ≡ (leb (2 ^ q .settings .n) v || some (eqb v) (q .rows .given))
 
 -- r is the refusal of an R with these operands, 7 or 8, 0 where it meets none
 abbrev pub RowRefusal : Problem → ℕ → ℕ → ℕ → ℕ → Type 0
