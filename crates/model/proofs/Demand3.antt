@@ -32,7 +32,7 @@ use Rattle.model.proofs.Exchanges.{reply-refused, reply-answered, Repli
 named-query : (k : Kind) → T (isQueryKind k) → is k Kind.none ≡ false
 named-query = any-query (λ k. is k Kind.none ≡ false) (refl, (refl, tt))
 
-refusalsOf-query : (x : Context) (k : Kind) → T (isQueryKind k) → refusalsOf x k ≡ refuse 12 (not (coverable (coveringOf x))) ∷ []
+pub refusalsOf-query : (x : Context) (k : Kind) → T (isQueryKind k) → refusalsOf x k ≡ refuse 12 (not (coverable (coveringOf x))) ∷ []
 unfolding refusalsOf
 refusalsOf-query x = any-query (λ k. refusalsOf x k ≡ refuse 12 (not (coverable (coveringOf x))) ∷ []) (refl, (refl, tt))
 

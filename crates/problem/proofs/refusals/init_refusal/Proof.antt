@@ -1,29 +1,21 @@
--- `problem::tests::init_refusal` meets its contract.
-use Rattle.problem.proofs.Testing.{init-passed, init-outputs, init-inputs}
+-- `problem::refusals::init_refusal` meets its contract.
+use Rattle.problem.proofs.Refusing.{init-passed, init-outputs, init-inputs}
 use borrow.Author.Needs.{needs}
-use Rattle.problem.proofs.tests.init_refusal.Statement.{statement}
-use Rattle.problem.proofs.tests.init_refusal.Tie as tie
-use Rattle.problem.proofs.tests.init_refusal.Reads as reads
-use Rattle.problem.proofs.tests.init_refusal.Lts as lts
-use Rattle.problem.proofs.tests.is_size.Reads as is-size-reads
+use Rattle.problem.proofs.refusals.init_refusal.Statement.{statement}
+use Rattle.problem.proofs.refusals.init_refusal.Tie as tie
 
--- src/tests.rt:29:8
 is-size-requires : tie.Need-is-size-requires
 is-size-requires c κs = search needs
 
--- src/tests.rt:30:12
 is-size-requires-2 : tie.Need-is-size-requires-2
 is-size-requires-2 c κs = search needs
 
--- src/tests.rt:31:13
 returns : tie.Need-returns
 returns c = init-passed (c .before .before .before .before .args .n) (c .before .before .before .before .args .m) _ _ (c .before .before .before .is-size .ensures) (c .before .is-size2 .ensures) (c .before .before .if1 .taken) (c .if2 .taken)
 
--- src/tests.rt:33:9
 returns-2 : tie.Need-returns-2
 returns-2 c = init-outputs (c .before .before .before .before .args .n) (c .before .before .before .before .args .m) _ _ (c .before .before .before .is-size .ensures) (c .before .is-size2 .ensures) (c .before .before .if1 .taken) (c .if2 .left)
 
--- src/tests.rt:26:1
 returns-3 : tie.Need-returns-3
 returns-3 c = init-inputs (c .before .before .args .n) (c .before .before .args .m) _ (c .before .is-size .ensures) (c .if1 .left)
 

@@ -1,15 +1,13 @@
-// The refusals that a command's operands can meet, each tested in the paper's order. 0 is none.
+// The refusals that a command's operands can meet, each tested in the paper's order. 0 is none. A test takes what it reads of the record.
 ghost use mathlib.Core.Path.{_≡_};
 ghost use Prim.Native.Nat.{_≤_};
 ghost use Rattle.model.specs.Refusals.{badRow, firstOf, refuse, size};
 ghost use mathlib.Core.Bool.{not, _&&_};
 ghost use mathlib.Core.List.{[], _∷_};
-ghost use Rattle.problem.specs.Problems.{Sized};
-ghost use Rattle.problem.specs.Tests.{TellsTaken, RowRefusal, TermRefusal};
-use crate::Problem;
+ghost use Rattle.problem.specs.Refusing.{isTaken, rowRefusals, TermRefusal};
+use crate::Settings;
 use bits::byte;
 use model::Term;
-use table::cells;
 use table::terms;
 
 // Whether k is 1 to 8.
@@ -50,47 +48,39 @@ pub fn bad_row(m: u8, on: u8, dc: u8) -> bool
     top <= byte::wide(dc)
 }
 
-// Whether v is no vertex, or one that has a row.
-fn is_taken(p: Problem, v: u8) -> bool
-    requires { ⌜ Sized p ⌝ }
-    ensures { λ r. ⌜ TellsTaken p v r ⌝ }
+// Whether v is no vertex of n inputs, or one that has a row.
+fn is_taken(n: u8, given: &[u8; 256], v: u8) -> bool
+    requires { ⌜ n ≤ 8 ⌝ }
+    ensures { λ r. ⌜ r ≡ isTaken n (now (given .entry)) v ⌝ }
 {
     let i = byte::wide(v);
-    if byte::bound(p.n) <= i {
+    if byte::bound(n) <= i {
         return true;
     }
-    let given = p.given[i];
-    0 < given
+    0 < given[i]
 }
 
 // R: 7, 8.
-pub fn row_refusal(p: Problem, v: u8, on: u8, dc: u8) -> u8
-    requires { ⌜ Sized p ⌝ }
-    ensures { λ r. ⌜ RowRefusal p v on dc r ⌝ }
+pub fn row_refusal(s: Settings, given: &[u8; 256], v: u8, on: u8, dc: u8) -> u8
+    requires { ⌜ (s .n ≤ 8) × (s .m ≤ 8) ⌝ }
+    ensures { λ r. ⌜ r ≡ firstOf (rowRefusals (s .n) (s .m) (now (given .entry)) v on dc) ⌝ }
 {
-    if is_taken(p, v) {
+    if is_taken(s.n, given, v) {
         return 7;
     }
-    if bad_row(p.m, on, dc) {
+    if bad_row(s.m, on, dc) {
         return 8;
     }
     0
 }
 
-// T: 9, 10, 11.
-pub fn term_refusal(p: Problem, t: Term) -> u8
-    requires { ⌜ Sized p ⌝ }
-    ensures { λ r. ⌜ TermRefusal p t r ⌝ }
+// A term of T or of the library call: 9, 10. `may` has what each vertex may drive.
+pub fn term_refusal(may: &[u8; 256], n: u8, m: u8, t: Term) -> u8
+    requires { ⌜ (n ≤ 8) × (m ≤ 8) ⌝ }
+    ensures { λ r. ⌜ TermRefusal (now (may .entry)) n m t r ⌝ }
 {
-    if terms::formed(p.n, p.m, t) {
-        let on = p.on;
-        let dc = p.dc;
-        let may = cells::allowed(&on, &dc);
-        if terms::holds_no_off(&may, p.n, t) {
-            let count = p.count;
-            if 64 <= count {
-                return 11;
-            }
+    if terms::formed(n, m, t) {
+        if terms::holds_no_off(may, n, t) {
             return 0;
         }
         return 10;
