@@ -14,6 +14,8 @@
 //! moved or doubled commands go by the table, and a run fails where a command was never accepted
 //! or never met one of the refusals that its entry names (`tally.rs`).
 
+use Operand::{Inputs, Number, Outputs, Size};
+
 /// The largest number of a refusal. Each from 0 on must come in every run.
 pub const LAST_NUMBER: u64 = 14;
 
@@ -56,8 +58,6 @@ pub struct Command {
     /// The numbers that it can meet behind 4 and 5: by operands, problem and answer.
     pub refusals: &'static [u64],
 }
-
-use Operand::{Inputs, Number, Outputs, Size};
 
 /// The seven commands of paper 01.
 pub const COMMANDS: &[Command] = &[

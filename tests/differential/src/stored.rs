@@ -140,7 +140,8 @@ fn problem(head: &[&[u8]]) -> Result<Problem, String> {
                 value,
                 outputs,
             }),
-            _ => candidates = table.primes(),
+            [b'P'] => candidates = table.primes(),
+            _ => return Err("a command before the queries has no meaning here".into()),
         }
     }
     Ok(Problem {

@@ -1,6 +1,6 @@
 //! What a run has met: how often each number came, and what became of each command.
 
-use crate::format::{self, COMMANDS, LAST_NUMBER};
+use crate::format::{self, Command, COMMANDS, LAST_NUMBER};
 use crate::reference::Outcome;
 use std::collections::BTreeMap;
 
@@ -55,26 +55,28 @@ impl Tally {
                 list.push(format!("number {number} never came"));
             }
         }
-        let wanted = |byte| {
-            let command = COMMANDS.iter().find(|command| command.byte == byte);
-            command.map_or(vec![], |command| [vec![0], command.numbers()].concat())
-        };
-        for command in COMMANDS {
-            for number in wanted(command.byte) {
-                if !self.commands.contains_key(&(command.byte, number)) {
-                    let byte = char::from(command.byte);
-                    list.push(format!("{byte} never met number {number}"));
-                }
+        let wanted = wanted();
+        for &(byte, number) in &wanted {
+            if !self.commands.contains_key(&(byte, number)) {
+                list.push(format!("{} never met number {number}", char::from(byte)));
             }
         }
-        for &(byte, number) in self.commands.keys() {
-            if !wanted(byte).contains(&number) {
-                let byte = char::from(byte);
-                list.push(format!(
-                    "{byte} met number {number}, which format.rs does not name"
-                ));
-            }
+        for pair in self.commands.keys().filter(|pair| !wanted.contains(pair)) {
+            let (byte, number) = (char::from(pair.0), pair.1);
+            list.push(format!(
+                "{byte} met number {number}, not named in format.rs"
+            ));
         }
         list
     }
+}
+
+/// Each command with each number that it must meet, 0 among them.
+fn wanted() -> Vec<(u8, u64)> {
+    let of_command = |command: &Command| {
+        let numbers = [vec![0], command.numbers()].concat();
+        let byte = command.byte;
+        numbers.into_iter().map(move |number| (byte, number))
+    };
+    COMMANDS.iter().flat_map(of_command).collect()
 }

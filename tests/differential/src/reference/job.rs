@@ -111,10 +111,11 @@ impl Problem {
             b'P' => self.primes()?,
             b'L' => self.page(ops)?,
             b'C' => self.cheapest()?,
-            _ => {
+            b'E' => {
                 refuse_if(at + 1 != job.len(), 13)?;
                 vec![0x65]
             }
+            _ => unreachable!("format.rs has a command that has no meaning here"),
         };
         refuse_if(answer.len() > free, 14)?;
         Ok((width, answer))
@@ -126,7 +127,8 @@ impl Problem {
             b'I' => self.table.is_none(),
             b'R' | b'P' => self.table.is_some() && candidates_open && !self.terms_came,
             b'T' => self.table.is_some() && candidates_open,
-            _ => self.table.is_some(),
+            b'L' | b'C' | b'E' => self.table.is_some(),
+            _ => unreachable!("format.rs has a command that has no place here"),
         }
     }
 
