@@ -14,7 +14,7 @@ use Rattle.model.specs.Rules.{Rules, refusalBy}
 use Rattle.model.specs.Job.{Run, stop, answerThen, runBy}
 use Rattle.model.specs.Calls.{Call, ranBy, MetBy}
 use Rattle.model.specs.Exchanges.{answers, Exchange, exchange, pair, answeredIn, readIn, NoneOver, allAnswered, allRead, Claim, pageIn, pagesOf, Gives}
-use Rattle.model.proofs.Lists.{T-false, all-append, all-to, all-sublist}
+use Rattle.model.proofs.Lists.{T-false, all-append, all-filter, all-of, all-to, all-sublist}
 use Rattle.model.proofs.Joined.{joined-list}
 use Rattle.model.proofs.Runs.{Lawful, context, run-ind}
 use Rattle.model.proofs.Caller.{caller}
@@ -41,9 +41,13 @@ module _ (rules : Rules) where
   abbrev pub Replied : Exchange → Type 0
   Replied e = e .reply ≡ replyTo (e .context)
 
-  all-replied : (xs : List Context) → All Replied (map with-reply xs)
-  all-replied [] = tt
-  all-replied (x ∷ xs) = (refl, all-replied xs)
+  -- with what its command was found to be, where each command of a job is so
+  abbrev pub RepliedIn : (Context → Type 0) → Exchange → Type 0
+  RepliedIn Known e = Replied e × Known (e .context)
+
+  all-replied : (Known : Context → Type 0) (xs : List Context) → All Known xs → All (RepliedIn Known) (map with-reply xs)
+  all-replied Known [] a = tt
+  all-replied Known (x ∷ xs) a = ((refl, a .0), all-replied Known xs (a .1))
 
   map-replies : (xs : List Context) → map (λ e. e .reply) (map with-reply xs) ≡ map replyTo xs
   map-replies [] = refl
@@ -127,26 +131,32 @@ module _ (rules : Rules) (law : Lawful rules) where
   every-over [] m = tt
   every-over (c ∷ calls) m = (none-over c (m .0), every-over calls (m .1))
 
-  every-replied : (calls : List Call) → All (Replied rules) (allAnswered rules calls)
-  every-replied [] = tt
-  every-replied (c ∷ calls) =
-      all-append (Replied rules) (answeredIn rules (ranBy rules c)) (allAnswered rules calls)
-      (subst⁻¹ (All (Replied rules)) (answered-in (c .job) (length (c .before))) (all-replied rules (filter (answers rules) (ranBy rules c .contexts))))
-      (every-replied calls)
+  -- each command is answered so, and is what all commands of its job are known to be
+  pub every-replied : (Known : Context → Type 0) (calls : List Call) → All (λ c. All Known (ranBy rules c .contexts)) calls → All (RepliedIn rules Known) (allAnswered rules calls)
+  every-replied Known [] f = tt
+  every-replied Known (c ∷ calls) f =
+      let xs = ranBy rules c .contexts in
+      all-append (RepliedIn rules Known) (answeredIn rules (ranBy rules c)) (allAnswered rules calls)
+      (subst⁻¹ (All (RepliedIn rules Known)) (answered-in (c .job) (length (c .before))) (all-replied rules Known (filter (answers rules) xs) (all-filter Known (answers rules) xs (f .0))))
+      (every-replied Known calls (f .1))
 
   -- what the bytes hold is what the jobs answered
   pub every-read : (calls : List Call) → All (MetBy rules) calls → allRead rules calls ≡ allAnswered rules calls
   every-read [] m = refl
   every-read (c ∷ calls) m = ap₂ (λ (es fs : List Exchange). es ++ fs) (read-in c (m .0)) (every-read calls (m .1))
 
-  -- so a demand is met by calls where it is met by commands with what they are answered
-  pub claim : (Stands : Exchange → Type 0) (Demand : List Exchange → Type 0) → ((es : List Exchange) → All (Replied rules) es → All Stands es → Demand es)
+  -- so a demand is met by calls where it is met by commands with what they are answered; each command is what the rules keep it
+  pub claim : (Known : Context → Type 0) → ((job : List ℕ) (room : ℕ) → All Known (runBy rules job room .contexts))
+      → (Stands : Exchange → Type 0) (Demand : List Exchange → Type 0) → ((es : List Exchange) → All (RepliedIn rules Known) es → All Stands es → Demand es)
       → (calls : List Call) → All (MetBy rules) calls → Claim rules Stands Demand calls
-  claim Stands Demand d calls m = record {
-    answers = λ es c. d es (all-sublist (Replied rules) c (every-replied calls));
-    bytes = λ es c. d es (all-sublist (Replied rules) c (subst⁻¹ (All (Replied rules)) (every-read calls m) (every-replied calls)));
+  claim Known known Stands Demand d calls m = record {
+    answers = λ es c. d es (all-sublist (RepliedIn rules Known) c replied);
+    bytes = λ es c. d es (all-sublist (RepliedIn rules Known) c (subst⁻¹ (All (RepliedIn rules Known)) (every-read calls m) replied));
     none-over = every-over calls m;
   }
+    where
+      replied : All (RepliedIn rules Known) (allAnswered rules calls)
+      replied = every-replied Known calls (all-of (λ (c : Call). All Known (ranBy rules c .contexts)) calls (λ c i. known (c .job) (length (c .before))))
 
 -- ---- the pages of any command, of any rising list
 

@@ -25,7 +25,7 @@ use Rattle.model.proofs.Lists.{twice, all-append, all-left, all-right}
 abbrev pub Numbered : Refusal → Type 0
 Numbered r = (3 ≤ r .no) × (r .no ≤ largestNumber)
 
-first-none : (rs : List Refusal) → All Numbered rs → firstOf rs ≡ 0 → All (λ r. T (not (r .applies))) rs
+pub first-none : (rs : List Refusal) → All Numbered rs → firstOf rs ≡ 0 → All (λ r. T (not (r .applies))) rs
 first-none [] a e = tt
 first-none (r ∷ rs) a e = go (r .applies) e (first-none rs (a .1))
   where

@@ -11,7 +11,7 @@ use Rattle.model.specs.Table.{Term, represents}
 use Rattle.model.specs.Primes.{prime}
 use Rattle.model.specs.Sets.{Irredundant, coverable, irredundants, Best}
 use Rattle.model.specs.Pages.{page, more}
-use Rattle.model.specs.Candidates.{Basis, covering, listCost}
+use Rattle.model.specs.Candidates.{Basis, covering, listCost, LegalBasis}
 use Rattle.model.specs.Commands.{Kind, is, isQueryKind, allowed, width, basisOf, Context, start, count}
 use Rattle.model.specs.Answers.{Answer, bytesOf, hasBytes, answer}
 use Rattle.model.specs.Rules.{engine}
@@ -60,8 +60,10 @@ pub record Correct (b : Basis) (x : Context) (a : Answer) : Type 0 where
   pub page : T (is (x .kind) Kind.L) → a ≡ Answer.paged (page (coversOf b) (start x) (count x)) (more (coversOf b) (start x) (count x))
   pub cheapest : T (is (x .kind) Kind.C) → (c : ℕ) × (s : ℕ) × (a ≡ Answer.cheapestIs c s) × Best (covering b) c s × NoCheaperList b c
 
--- it is answered exactly where no refusal applies, and the answer is right
+-- every candidate that it finds is legal, so each set that it is answered holds every wanted cell and no off cell; it is answered exactly
+-- where no refusal applies, and the answer is right
 pub record CorrectExchange (b : Basis) (e : Exchange) : Type 0 where
+  pub legal : LegalBasis b
   pub answered : T (hasBytes (e .reply)) ↔ Acceptable b (e .context)
   pub correct : Acceptable b (e .context) → Correct b (e .context) (e .reply)
 
