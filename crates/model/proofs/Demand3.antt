@@ -105,7 +105,7 @@ correct-exchange b e r s = go (eqb (refusal x) 0) refl
     iff = acceptable-iff b x a (and-r (isQueryKind (x .kind)) (allowed (x .kind) (x .problem .place)) (s .0)) (s .1)
 
     lawful : LegalBasis b
-    lawful = subst LegalBasis (s .1) (legal-basis (basisOf (x .problem)) (r .1 .legal))
+    lawful = subst LegalBasis (s .1) (legal-basis (basisOf (x .problem)) (r .2 .legal))
 
     go : (c : Bool) → eqb (refusal x) 0 ≡ c → CorrectExchange b e
     go true c =

@@ -1,7 +1,7 @@
 -- By any rules: the replies in order are what the commands are answered, in the answers of a job and in the bytes of a call; and the
 -- pages among them give any rising list that each of them is a page of.
 use Prim.Native.Nat.{ℕ, _+_}
-use mathlib.Core.Path.{_≡_, refl, sym, ap, ap₂, _∙_, subst⁻¹}
+use mathlib.Core.Path.{_≡_, refl, sym, ap, ap₂, _∙_, subst, subst⁻¹}
 use mathlib.Core.Bool.{Bool, true, false, not, cond}
 use mathlib.Core.List.{List, [], _∷_, _++_, map}
 use lib.Dec.{T, eqb, eqb→eq}
@@ -13,10 +13,10 @@ use Rattle.model.specs.Answers.{Answer, hasBytes}
 use Rattle.model.specs.Rules.{Rules, refusalBy}
 use Rattle.model.specs.Job.{Run, stop, answerThen, runBy}
 use Rattle.model.specs.Calls.{Call, ranBy, MetBy}
-use Rattle.model.specs.Exchanges.{answers, Exchange, exchange, pair, answeredIn, readIn, NoneOver, allAnswered, allRead, Claim, pageIn, pagesOf, Gives}
-use Rattle.model.proofs.Lists.{T-false, all-append, all-filter, all-of, all-to, all-sublist}
+use Rattle.model.specs.Exchanges.{answers, Exchange, exchange, pair, answeredIn, readIn, NoneOver, Answered, JudgedCall, allAnswered, allRead, Claim, pageIn, pagesOf, Gives}
+use Rattle.model.proofs.Lists.{T-false, all-append, all-of, all-kept, all-to, all-sublist}
 use Rattle.model.proofs.Joined.{joined-list}
-use Rattle.model.proofs.Runs.{Lawful, context, run-ind}
+use Rattle.model.proofs.Runs.{Lawful, context, run-ind, judged}
 use Rattle.model.proofs.Caller.{caller}
 
 -- ---- one command
@@ -41,13 +41,27 @@ module _ (rules : Rules) where
   abbrev pub Replied : Exchange → Type 0
   Replied e = e .reply ≡ replyTo (e .context)
 
-  -- with what its command was found to be, where each command of a job is so
+  -- one of the commands that answer, and what each command of a job is known to be
   abbrev pub RepliedIn : (Context → Type 0) → Exchange → Type 0
-  RepliedIn Known e = Replied e × Known (e .context)
+  RepliedIn Known e = Replied e × T (answers rules (e .context)) × Known (e .context)
 
-  all-replied : (Known : Context → Type 0) (xs : List Context) → All Known xs → All (RepliedIn Known) (map with-reply xs)
+  has-reply : (Known : Context → Type 0) (e : Exchange) → RepliedIn Known e → Answered rules e
+  has-reply Known e r = go (eqb (refusalBy rules x) 0) refl
+    where
+      x : Context
+      x = e .context
+
+      go : (c : Bool) → eqb (refusalBy rules x) 0 ≡ c → Answered rules e
+      go true c =
+          let z = eqb→eq (refusalBy rules x) 0 (rw c tt) in
+          (λ h. z, λ h. subst⁻¹ (λ (a : Answer). T (hasBytes a)) (r .0 ∙ reply-answered x z) (r .1))
+      go false c =
+          let n : T (not (eqb (refusalBy rules x) 0)) = rw c tt in
+          (λ h. absurd (subst (λ (a : Answer). T (hasBytes a)) (r .0 ∙ reply-refused x n) h), λ z. absurd (rw z at n))
+
+  all-replied : (Known : Context → Type 0) (xs : List Context) → All (λ x. T (answers rules x) × Known x) xs → All (RepliedIn Known) (map with-reply xs)
   all-replied Known [] a = tt
-  all-replied Known (x ∷ xs) a = ((refl, a .0), all-replied Known xs (a .1))
+  all-replied Known (x ∷ xs) a = ((refl, a .0 .0, a .0 .1), all-replied Known xs (a .1))
 
   map-replies : (xs : List Context) → map (λ e. e .reply) (map with-reply xs) ≡ map replyTo xs
   map-replies [] = refl
@@ -127,9 +141,10 @@ module _ (rules : Rules) (law : Lawful rules) where
       ∙ used (c .job) (length (c .before))
       ∙ sym (caller rules law c m .answers)
 
-  every-over : (calls : List Call) → All (MetBy rules) calls → All (NoneOver rules) calls
-  every-over [] m = tt
-  every-over (c ∷ calls) m = (none-over c (m .0), every-over calls (m .1))
+  judged-call : (c : Call) → MetBy rules c → JudgedCall rules c
+  judged-call c m =
+      let r = caller rules law c m in
+      rw (r .number, r .offset) (judged rules law (c .job) (length (c .before)))
 
   -- each command is answered so, and is what all commands of its job are known to be
   pub every-replied : (Known : Context → Type 0) (calls : List Call) → All (λ c. All Known (ranBy rules c .contexts)) calls → All (RepliedIn rules Known) (allAnswered rules calls)
@@ -137,7 +152,7 @@ module _ (rules : Rules) (law : Lawful rules) where
   every-replied Known (c ∷ calls) f =
       let xs = ranBy rules c .contexts in
       all-append (RepliedIn rules Known) (answeredIn rules (ranBy rules c)) (allAnswered rules calls)
-      (subst⁻¹ (All (RepliedIn rules Known)) (answered-in (c .job) (length (c .before))) (all-replied rules Known (filter (answers rules) xs) (all-filter Known (answers rules) xs (f .0))))
+      (subst⁻¹ (All (RepliedIn rules Known)) (answered-in (c .job) (length (c .before))) (all-replied rules Known (filter (answers rules) xs) (all-kept Known (answers rules) xs (all-to Known (λ x. T (answers rules x) → Known x) (λ x k t. k) xs (f .0)))))
       (every-replied Known calls (f .1))
 
   -- what the bytes hold is what the jobs answered
@@ -151,12 +166,17 @@ module _ (rules : Rules) (law : Lawful rules) where
       → (calls : List Call) → All (MetBy rules) calls → Claim rules Stands Demand calls
   claim Known known Stands Demand d calls m = record {
     answers = λ es c. d es (all-sublist (RepliedIn rules Known) c replied);
-    bytes = λ es c. d es (all-sublist (RepliedIn rules Known) c (subst⁻¹ (All (RepliedIn rules Known)) (every-read calls m) replied));
-    none-over = every-over calls m;
+    bytes = λ es c. d es (all-sublist (RepliedIn rules Known) c read);
+    none-over = all-to (MetBy rules) (NoneOver rules) none-over calls m;
+    answered = all-to (RepliedIn rules Known) (Answered rules) (has-reply rules Known) (allRead rules calls) read;
+    judged = all-to (MetBy rules) (JudgedCall rules) judged-call calls m;
   }
     where
       replied : All (RepliedIn rules Known) (allAnswered rules calls)
       replied = every-replied Known calls (all-of (λ (c : Call). All Known (ranBy rules c .contexts)) calls (λ c i. known (c .job) (length (c .before))))
+
+      read : All (RepliedIn rules Known) (allRead rules calls)
+      read = subst⁻¹ (All (RepliedIn rules Known)) (every-read calls m) replied
 
 -- ---- the pages of any command, of any rising list
 

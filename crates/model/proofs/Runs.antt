@@ -2,7 +2,7 @@
 use Prim.Native.Nat.{ℕ, zero, suc, _+_, _-_, _≤_, _<_}
 use native.Mathlib.Omega.{arith}
 use native.Mathlib.Nat.{le-refl}
-use mathlib.Core.Path.{_≡_, refl, sym, ap, _∙_}
+use mathlib.Core.Path.{_≡_, refl, sym, ap, _∙_, subst}
 use mathlib.Core.Logic.{_⊎_, inl, inr}
 use mathlib.Core.Bool.{Bool, true, false, not, cond, _||_}
 use mathlib.Core.List.{List, [], _∷_, _++_, map}
@@ -14,7 +14,7 @@ use Rattle.model.specs.Commands.{Kind, is, kindOf, width, allowed, Probl
 use Rattle.model.specs.Answers.{bytesOf}
 use Rattle.model.specs.Refusals.{largestNumber, Refusal, refuse, firstOf}
 use Rattle.model.specs.Rules.{Rules, refusalsBy, refusalBy}
-use Rattle.model.specs.Job.{Run, stop, answerThen, commands, runBy, written}
+use Rattle.model.specs.Job.{Run, stop, answerThen, commands, runBy, RefusedAt, Judged, written}
 use Rattle.model.specs.Invariants.{Sound}
 use Rattle.model.proofs.Read.{Fits}
 use Rattle.model.proofs.Lists.{twice, all-append, all-left, all-right}
@@ -220,6 +220,10 @@ module _ (rules : Rules) (law : Lawful rules) where
       same : at + 1 + width (kindOf b) + length (drop (width (kindOf b)) bs) ≡ at + suc (length bs)
       same = omega (arith, h .operands, length-drop (width (kindOf b)) bs)
 
+not-one : (n : ℕ) → (n ≡ 0) ⊎ (2 ≤ n) → n ≡ 1 → ⊥
+not-one n (inl e) f = omega arith
+not-one n (inr h) f = omega arith
+
 pub record Ends (job : List ℕ) (room : ℕ) (r : Run) : Type 0 where
   pub accepted : r .number ≡ 0 → r .offset ≡ length job
   pub too-long : r .number ≡ 1 → (r .offset ≡ 0) × (length (written r) ≡ 0)
@@ -238,10 +242,6 @@ module _ (rules : Rules) (law : Lawful rules) where
       (λ l. record { accepted = λ e. absurd (omega (arith, e)); too-long = λ e. (refl, refl); cut = λ e. absurd (omega (arith, e)); refused = λ g. absurd (omega (arith, g)); fits = omega arith; number-small = omega arith; offset-small = omega arith; written-small = omega arith })
       (λ l m r s. record { accepted = λ e. omega (arith, s .accepted e); too-long = λ e. absurd (not-one (r .number) (s .numbers) e); cut = λ e. omega (arith, s .cut e); refused = λ g. omega (arith, s .refused g); fits = s .fits; number-small = s .number-le; offset-small = offs r s l; written-small = omega (arith, s .fits) })
     where
-      not-one : (n : ℕ) → (n ≡ 0) ⊎ (2 ≤ n) → n ≡ 1 → ⊥
-      not-one n (inl e) f = omega arith
-      not-one n (inr h) f = omega arith
-
       offs : (r : Run) → Where empty job room 0 r → length job ≤ 32768 → r .offset ≤ 32768
       offs r s l = go (r .number) (s .numbers) (λ e. omega (arith, s .accepted e)) (λ e. omega (arith, s .cut e)) (λ g. omega (arith, s .refused g))
         where
@@ -254,57 +254,61 @@ module _ (rules : Rules) (law : Lawful rules) where
 -- ---- the command that is refused
 
 module _ (rules : Rules) where
-  -- the last command, at the offset, is the one refused, by the number; those before it are answered
-  pub record Refused (at : ℕ) (bs : List ℕ) (r : Run) : Type 0 where
-    pub before : List Context
-    pub refused : Context
-    pub byte : ℕ
-    pub contexts : r .contexts ≡ before ++ (refused ∷ [])
-    pub answered : All (λ x. refusalBy rules x ≡ 0) before
-    pub number : refusalBy rules refused ≡ r .number
-    pub behind : at ≤ r .offset
-    pub there : drop (r .offset - at) bs ≡ byte ∷ refused .rest
-    pub kind : kindOf byte ≡ refused .kind
+  -- of bytes from `at` on
+  record JudgedFrom (at : ℕ) (bs : List ℕ) (r : Run) : Type 0 where
+    answered : r .number < 3 → All (λ x. refusalBy rules x ≡ 0) (r .contexts)
+    refused : 3 ≤ r .number → (at ≤ r .offset) × RefusedAt rules bs (r .contexts) (r .number) (r .offset - at)
 
-  abbrev Judged : OnRuns
-  Judged q bs free at r = (r .number ≡ 0 → All (λ x. refusalBy rules x ≡ 0) (r .contexts)) × (3 ≤ r .number → Refused at bs r)
+  abbrev Judges : OnRuns
+  Judges q bs free at r = JudgedFrom at bs r
 
 module _ (rules : Rules) (law : Lawful rules) where
-  judged-refused : IfRefused rules (Judged rules)
-  judged-refused q b bs free at n = (
-    (λ z. absurd (omega (arith, refusal-ge rules law (context q b bs free) n, z))),
-    λ g. record { before = []; refused = context q b bs free; byte = b; contexts = refl; answered = tt; number = refl; behind = le-refl at; there = ap (λ (i : ℕ). drop i (b ∷ bs)) none; kind = refl },
-  )
+  judged-refused : IfRefused rules (Judges rules)
+  judged-refused q b bs free at n = record {
+    answered = λ l. absurd (omega (arith, refusal-ge rules law x n, l));
+    refused = λ g. (le-refl at, record { before = []; refused = x; byte = b; read = refl; answered = tt; first = refl; there = ap (λ (i : ℕ). drop i (b ∷ bs)) none; kind = refl });
+  }
     where
+      x : Context
+      x = context q b bs free
+
       none : at - at ≡ 0
       none = omega arith
 
-  judged-goes : IfGoes rules (Judged rules)
-  judged-goes q b bs free at h z n r j = ((λ y. (z, j .0 y)), λ g. up (j .1 g))
+  judged-goes : IfGoes rules (Judges rules)
+  judged-goes q b bs free at h z n r j = record { answered = λ l. (z, j .answered l); refused = λ g. let f = j .refused g in (omega (arith, f .0), up (f .0) (f .1)) }
     where
+      x : Context
+      x = context q b bs free
+
       w : ℕ
       w = width (kindOf b)
 
-      up : Refused rules (at + 1 + w) (drop w bs) r → Refused rules at (b ∷ bs) (answerThen rules (context q b bs free) r)
-      up f = record {
-        before = context q b bs free ∷ f .before;
+      up : at + 1 + w ≤ r .offset → RefusedAt rules (drop w bs) (r .contexts) (r .number) (r .offset - (at + 1 + w)) → RefusedAt rules (b ∷ bs) (x ∷ r .contexts) (r .number) (r .offset - at)
+      up l f = record {
+        before = x ∷ f .before;
         refused = f .refused;
         byte = f .byte;
-        contexts = ap (λ (l : List Context). context q b bs free ∷ l) (f .contexts);
+        read = ap (λ (xs : List Context). x ∷ xs) (f .read);
         answered = (z, f .answered);
-        number = f .number;
-        behind = omega (arith, f .behind);
+        first = f .first;
         there = ap (λ (i : ℕ). drop i (b ∷ bs)) far ∙ sym (drop-drop (r .offset - (at + 1 + w)) w bs) ∙ f .there;
         kind = f .kind;
       }
         where
           far : r .offset - at ≡ suc (w + (r .offset - (at + 1 + w)))
-          far = omega (arith, f .behind)
+          far = omega (arith, l)
 
-  pub judged : (job : List ℕ) (room : ℕ) → (runBy rules job room .number ≡ 0 → All (λ x. refusalBy rules x ≡ 0) (runBy rules job room .contexts)) × (3 ≤ runBy rules job room .number → Refused rules 0 job (runBy rules job room))
-  judged job room = run-ind rules law (Judged rules) (λ q free at. (λ z. absurd (omega (arith, z)), λ g. absurd (omega (arith, g)))) judged-refused
-      (λ q b bs free at h z e. (λ y. (z, tt), λ g. absurd (omega (arith, g)))) judged-goes
-      (λ r. (r .number ≡ 0 → All (λ x. refusalBy rules x ≡ 0) (r .contexts)) × (3 ≤ r .number → Refused rules 0 job r)) job room (λ l. (λ z. tt, λ g. never g)) (λ l m r j. j)
+  -- every job: what its number and offset say of its commands
+  pub judged : (job : List ℕ) (room : ℕ) → let r = runBy rules job room in Judged rules job (r .contexts) (r .number) (r .offset)
+  judged job room = run-ind rules law (λ q bs free at r. Judges rules q bs free at r × ((r .number ≡ 0) ⊎ (2 ≤ r .number)))
+      (λ q free at. (record { answered = λ l. tt; refused = λ g. absurd (omega (arith, g)) }, inr (omega arith)))
+      (λ q b bs free at n. (judged-refused q b bs free at n, inr (omega (arith, refusal-ge rules law (context q b bs free) n))))
+      (λ q b bs free at h z e. (record { answered = λ l. (z, tt); refused = λ g. absurd (omega (arith, g)) }, inl refl))
+      (λ q b bs free at h z n r j. (judged-goes q b bs free at h z n r (j .0), j .1))
+      (λ r. Judged rules job (r .contexts) (r .number) (r .offset)) job room
+      (λ l. record { answered = λ l. tt; unread = λ e. refl; refused = λ g. absurd (omega (arith, g)) })
+      (λ l m r j. record { answered = j .0 .answered; unread = λ e. absurd (not-one (r .number) (j .1) e); refused = λ g. subst (RefusedAt rules job (r .contexts) (r .number)) (all-of-it r) (j .0 .refused g .1) })
     where
-      never : 3 ≤ 1 → Refused rules 0 job (stop 1 0 [])
-      never g = absurd (omega (arith, g))
+      all-of-it : (r : Run) → r .offset - 0 ≡ r .offset
+      all-of-it r = omega arith

@@ -41,7 +41,7 @@ whole b calls m f = record {
 
     stand : All (StandsOn b) (filter isAsked answered)
     stand = all-kept (λ (e : Exchange). HasBasis b (e .context)) isAsked answered
-        (all-to (RepliedIn engine Finds) (λ e. Finds (e .context)) (λ e h. h .1) answered (every-replied engine engine-lawful Finds calls (all-find b calls f)))
+        (all-to (RepliedIn engine Finds) (λ e. Finds (e .context)) (λ e h. h .2) answered (every-replied engine engine-lawful Finds calls (all-find b calls f)))
 
     stand-read : All (StandsOn b) (filter isAsked (allRead engine calls))
     stand-read = subst⁻¹ (λ (es : List Exchange). All (StandsOn b) (filter isAsked es)) (every-read engine engine-lawful calls m) stand

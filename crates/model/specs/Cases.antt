@@ -89,7 +89,7 @@ exampleAnswers =
     ∷ 0x00 ∷ 0x00 ∷ 0x00 ∷ 0x34 ∷ 0x00 ∷ 0x00 ∷ 0x00 ∷ 0x00 ∷ 0x00 ∷ 0x00 ∷ 0x00 ∷ 0x38 ∷ 0x00 ∷ 0x00 ∷ 0x00 ∷ 0x00
     ∷ 0x00 ∷ 0x00 ∷ 0x00 ∷ 0x63 ∷ 0x06 ∷ 0x00 ∷ 0x29 ∷ 0x00 ∷ 0x00 ∷ 0x00 ∷ 0x00 ∷ 0x00 ∷ 0x00 ∷ 0x00 ∷ 0x65 ∷ []
 
--- ---- refusals: jobs that stop, each with its number, offset and written. Where two refusals apply, the first in the paper's order is given
+-- ---- jobs with their number, offset and written. Where two refusals apply, the first in the paper's order is given
 
 pub record Stopped : Type 0 where
   pub job : List ℕ
@@ -115,10 +115,21 @@ t care value outputs bs = 0x54 ∷ care ∷ value ∷ outputs ∷ bs
 abbrev l : ℕ → List ℕ → List ℕ
 l count bs = 0x4c ∷ 0 ∷ 0 ∷ 0 ∷ 0 ∷ 0 ∷ 0 ∷ 0 ∷ 0 ∷ count ∷ bs
 
--- k times the same term, both cells free
-abbrev times : ℕ → List ℕ → List ℕ
-times zero bs = bs
-times (suc k) bs = t 0 0 1 (times k bs)
+-- k times the same term
+abbrev times : ℕ → (List ℕ → List ℕ) → List ℕ → List ℕ
+times zero one bs = bs
+times (suc k) one bs = one (times k one bs)
+
+-- 64 candidates: one term each, both cells free; and vertex 0 free, vertex 1 off
+abbrev sixtyFour : List ℕ → List ℕ
+sixtyFour bs = i11 (row 0 0 1 (row 1 0 1 (times 64 (t 0 0 1) bs)))
+
+abbrev sixtyFourAtZero : List ℕ → List ℕ
+sixtyFourAtZero bs = i11 (row 0 0 1 (times 64 (t 1 0 1) bs))
+
+-- an L of count 0, and E
+abbrev pub countZeroJob : List ℕ
+countZeroJob = i11 (l 0 (0x45 ∷ []))
 
 abbrev pub stops : List Stopped
 stops =
@@ -155,15 +166,27 @@ stops =
     ∷ stopped (i11 (t 0 1 1 [])) 9 9 3 0
     ∷ stopped (i11 (t 0 0 0 [])) 9 9 3 0
     ∷ stopped (i11 (t 0 0 2 [])) 9 9 3 0
-    -- 10: before 11: vertex 1 is off
+    -- 9: before 11: 64 candidates stand
+    ∷ stopped (sixtyFour (t 0 0 0 [])) 9 9 267 0
+    -- 10: vertex 1 is off
     ∷ stopped (i11 (row 0 1 0 (t 0 0 1 []))) 9 10 7 0
-    -- 11: the 65th candidate
-    ∷ stopped (i11 (row 0 0 1 (row 1 0 1 (times 65 [])))) 9 11 267 0
-    -- 12: before 14
+    -- 10: before 11: 64 candidates stand
+    ∷ stopped (sixtyFourAtZero (t 0 0 1 [])) 9 10 263 0
+    -- 11: the 65th candidate. That 11 is before 14 at P is the law `primes-before-room`: 65 primes are too many for this table
+    ∷ stopped (sixtyFour (t 0 0 1 [])) 9 11 267 0
+    -- 12: before 14, at L, at an L of count 0, at C
     ∷ stopped (i11 (row 0 1 0 (l 1 []))) 0 12 7 0
+    ∷ stopped (i11 (row 0 1 0 (l 0 []))) 0 12 7 0
     ∷ stopped (i11 (row 0 1 0 (0x43 ∷ []))) 0 12 7 0
     -- 13: before 14; the offset is E's
     ∷ stopped (i11 (0x45 ∷ 0x45 ∷ [])) 0 13 3 0
-    -- 14: the finished C stands
+    -- 14: the finished C stands; an L of count 0 has three bytes
     ∷ stopped (i11 (0x43 ∷ l 1 [])) 21 14 4 11
+    ∷ stopped (i11 (l 0 [])) 2 14 3 0
+    -- 0: that L where it fits
+    ∷ stopped countZeroJob 4 0 14 4
     ∷ []
+
+-- "count 0 holds none and tells whether one stands there"
+abbrev pub countZeroAnswers : List ℕ
+countZeroAnswers = 0x6c ∷ 0 ∷ 1 ∷ 0x65 ∷ []
