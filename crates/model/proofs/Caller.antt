@@ -1,5 +1,5 @@
 -- What a caller reads from the result and the buffer of a call that meets its contract, by any rules.
-use Prim.Native.Nat.{ℕ, _^_, _<_}
+use Prim.Native.Nat.{ℕ, _<_}
 use native.Mathlib.Omega.{arith}
 use mathlib.Core.Path.{_≡_, sym, ap, ap₂, _∙_, subst⁻¹}
 use mathlib.Core.List.{List}
@@ -20,11 +20,6 @@ module _ (rules : Rules) (law : Lawful rules) where
   pub read-written : (job : List ℕ) (room : ℕ) → read (written (runBy rules job room)) ≡ filter hasBytes (runBy rules job room .answers)
   unfolding written
   read-written job room = read-answers (runBy rules job room .answers) (run-fits rules law job room)
-
-  -- what a call returns fits a 64-bit number
-  pub packed-lt : (job : List ℕ) (room : ℕ) → packed (runBy rules job room) < 2 ^ 64
-  unfolding packed
-  packed-lt job room = let e = ends rules law job room in omega (arith, e .number-small, e .offset-small, e .written-small)
 
 module _ (rules : Rules) (law : Lawful rules) (c : Call) (m : MetBy rules c) where
   e : Ends (c .job) (length (c .before)) (ranBy rules c)

@@ -48,7 +48,7 @@ leastOf-small f b [] r x m h = elim m [ ]
 leastOf-small f b (s ∷ ss) r x m h = least-small f s ss (r .1) x m h
 
 module _ {A X : Type 0} (k : Covering A X) where
-  pub cheapest-smallest : (s : ℕ) → Irredundant k s → cost k s ≤ cost k (cheapest k) → cheapest k ≤ s
+  cheapest-smallest : (s : ℕ) → Irredundant k s → cost k s ≤ cost k (cheapest k) → cheapest k ≤ s
   unfolding cheapest
   cheapest-smallest s r h = leastOf-small (cost k) 0 (irredundants k) (rising k) s (listed k s .1 r) h
 
@@ -72,7 +72,7 @@ module _ {A X : Type 0} (k : Covering A X) where
   }
 
   -- there is only one
-  pub best-one : (c d s t : ℕ) → Best k c s → Best k d t → (c ≡ d) × (s ≡ t)
+  best-one : (c d s t : ℕ) → Best k c s → Best k d t → (c ≡ d) × (s ≡ t)
   best-one c d s t p q =
       let a = p .least-cost t (q .tight .among) (q .tight .covering) in
       let b = q .least-cost s (p .tight .among) (p .tight .covering) in

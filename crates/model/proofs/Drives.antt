@@ -36,7 +36,7 @@ every-grid f m (v ∷ vs) h =
     (every-map f (cell v) (below m) (λ j k. h v j (List·Memᴰ·head refl) (below-e m k)))
     (every-grid f m vs (λ w j k l. h w j (List·Memᴰ·tail k) l))
 
-pub cells-every : (p : Table) (f : Cell → Bool) → ((v j : ℕ) → v < 2 ^ p .n → j < p .m → T (f (cell v j))) → T (every f (cells p))
+cells-every : (p : Table) (f : Cell → Bool) → ((v j : ℕ) → v < 2 ^ p .n → j < p .m → T (f (cell v j))) → T (every f (cells p))
 unfolding cells
 cells-every p f h = every-grid f (p .m) (below (2 ^ p .n)) (λ v j k l. h v j (below-e (2 ^ p .n) k) l)
 
@@ -48,19 +48,19 @@ flag-low : (b : Bool) (x : ℕ) → eqb ((x * 2 + cond b 1 0) % 2) 1 ≡ b
 flag-low true x = let e : (x * 2 + 1) % 2 ≡ 1 = omega arith in rw e
 flag-low false x = let e : (x * 2 + 0) % 2 ≡ 0 = omega arith in rw e
 
-pub fromBits-e : (f : ℕ → Bool) (j k : ℕ) → T (bit j (fromBits f k)) → (j < k) × T (f j)
+fromBits-e : (f : ℕ → Bool) (j k : ℕ) → T (bit j (fromBits f k)) → (j < k) × T (f j)
 fromBits-e f j zero t = absurd (omega (arith, bit-le j 0 t, pow-pos j))
 fromBits-e f zero (suc k) t = (omega arith, rw (flag-low (f 0) (fromBits (λ j. f (suc j)) k)) at t)
 fromBits-e f (suc j) (suc k) t =
     let r = fromBits-e (λ i. f (suc i)) j k (rw (flag (f 0) (fromBits (λ i. f (suc i)) k)) at t) in
     (omega (arith, r .0), r .1)
 
-pub fromBits-i : (f : ℕ → Bool) (j k : ℕ) → j < k → T (f j) → T (bit j (fromBits f k))
+fromBits-i : (f : ℕ → Bool) (j k : ℕ) → j < k → T (f j) → T (bit j (fromBits f k))
 fromBits-i f j zero l t = absurd (omega arith)
 fromBits-i f zero (suc k) l t = rw (flag-low (f 0) (fromBits (λ i. f (suc i)) k)) t
 fromBits-i f (suc j) (suc k) l t = rw (flag (f 0) (fromBits (λ i. f (suc i)) k)) (fromBits-i (λ i. f (suc i)) j k (omega arith) t)
 
-pub fromBits-lt : (f : ℕ → Bool) (k : ℕ) → fromBits f k < 2 ^ k
+fromBits-lt : (f : ℕ → Bool) (k : ℕ) → fromBits f k < 2 ^ k
 fromBits-lt f zero = omega arith
 fromBits-lt f (suc k) = go (f 0) (fromBits-lt (λ j. f (suc j)) k)
   where
@@ -158,7 +158,7 @@ drives-halves p c w i n o = bits-ext (drives p c w) (bitAnd lo hi) (λ j. bool-e
         pick v l a x y (inl z) = y v l (λ k b. high v k a z (ℕ-discrete k i) b)
         pick v l a x y (inr z) = x v l (λ k b. low v k a z (ℕ-discrete k i) b)
 
-pub formed-i : (p : Table) (t : Term) → Formed p t → T (formed p t)
+formed-i : (p : Table) (t : Term) → Formed p t → T (formed p t)
 unfolding formed
 formed-i p t f =
     let a = ltb (t .care) (2 ^ p .n) in
@@ -177,16 +177,16 @@ formed-i p t f =
         go true false h = absurd (h tt)
         go false y h = refl
 
-pub legal-i : (p : Table) (t : Term) → Formed p t → Within (t .outputs) (drives p (t .care) (t .value)) → T (legal p t)
+legal-i : (p : Table) (t : Term) → Formed p t → Within (t .outputs) (drives p (t .care) (t .value)) → T (legal p t)
 unfolding legal
 legal-i p t f w = and-i (formed p t) (holdsNoOff p t) (formed-i p t f) (no-off-i p t w)
 
-pub legal-drives : (p : Table) (t : Term) → T (legal p t) → Within (t .outputs) (drives p (t .care) (t .value))
+legal-drives : (p : Table) (t : Term) → T (legal p t) → Within (t .outputs) (drives p (t .care) (t .value))
 unfolding legal
 legal-drives p t l = no-off-e p t (legal-formed p t l .outputs-lt) (and-r (formed p t) (holdsNoOff p t) l)
 
 -- the converse of `wider`
-pub contains-wider : (p : Table) (t u : Term) → Wider t u → T (contains p t u)
+contains-wider : (p : Table) (t u : Term) → Wider t u → T (contains p t u)
 contains-wider p t u w = contains-i p t u (λ c m h.
     let q = holds-e u c h in
     holds-i t c (λ i b. q .0 i (w .care-in i b) ∙ w .agree i b) (w .outputs-in (c .j) (q .1)))

@@ -119,7 +119,7 @@ module _ (rules : Rules) where
 -- ---- whole jobs and calls
 
 module _ (rules : Rules) (law : Lawful rules) where
-  pub answered-in : (job : List ℕ) (room : ℕ) → answeredIn rules (runBy rules job room) ≡ map (with-reply rules) (filter (answers rules) (runBy rules job room .contexts))
+  answered-in : (job : List ℕ) (room : ℕ) → answeredIn rules (runBy rules job room) ≡ map (with-reply rules) (filter (answers rules) (runBy rules job room .contexts))
   unfolding answeredIn
   answered-in job room = run-ind rules law (λ q bs free at r. Paired rules r) (λ q free at. refl) (λ q b bs free at n. paired-refused rules (context q b bs free) n)
       (λ q b bs free at h z e. paired-then rules (context q b bs free) z (stop 0 (at + 1) []) refl) (λ q b bs free at h z e r. paired-then rules (context q b bs free) z r)

@@ -137,7 +137,7 @@ module _ {A X : Type 0} (k : Covering A X) where
       (λ t. b .1 (subst (λ (q : ℕ). 0 < bitAnd s q) e (a .0 t)))
       (λ t. a .1 (subst⁻¹ (λ (q : ℕ). 0 < bitAnd s q) e (b .0 t)))
 
-  pub rows-cover : (s : ℕ) → cover byRows s ≡ cover k s
+  rows-cover : (s : ℕ) → cover byRows s ≡ cover k s
   unfolding cover covers
   rows-cover s = every-map _ (rowOf (k .holds) (k .cands)) (k .points) ∙ every-same _ _ (k .points) (rows-held s)
 

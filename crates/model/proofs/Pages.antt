@@ -60,7 +60,7 @@ joined-below b [] ys r = none-below b b ys r (le-refl b)
 joined-below b (x ∷ xs) ys r = rw (T-true {b = ltb x (oneAbove (suc x) xs)} (lt→ltb x (oneAbove (suc x) xs) (oneAbove-ge (suc x) xs ys (r .1))), joined-below (suc x) xs ys (r .1))
 
 module _ (all : List ℕ) (up : Rising 0 all) where
-  pub atOrAbove-left : (got left : List ℕ) → all ≡ got ++ left → atOrAbove all (nextStart got) ≡ left
+  atOrAbove-left : (got left : List ℕ) → all ≡ got ++ left → atOrAbove all (nextStart got) ≡ left
   unfolding atOrAbove
   atOrAbove-left got left e =
       let r = rest 0 got left (subst (λ (l : List ℕ). Rising 0 l) e up) in

@@ -24,14 +24,14 @@ use Rattle.model.proofs.Cubes.{contains-e, Over, prime-over}
 -- ---- set s and the candidate t besides
 
 module _ {A : Type 0} (w : A → ℕ) where
-  pub record Pick (ts : List A) (t : A) (s : ℕ) : Type 0 where
-    pub pick : ℕ
-    pub small : s < 2 ^ length ts → pick < 2 ^ length ts
-    pub keeps : Within s pick
-    pub has : List·Memᴰ t (members ts pick)
-    pub price : sum w (members ts pick) ≤ sum w (members ts s) + w t
+  record Pick (ts : List A) (t : A) (s : ℕ) : Type 0 where
+    pick : ℕ
+    small : s < 2 ^ length ts → pick < 2 ^ length ts
+    keeps : Within s pick
+    has : List·Memᴰ t (members ts pick)
+    price : sum w (members ts pick) ≤ sum w (members ts s) + w t
 
-  pub picked : {t : A} {ts : List A} (m : List·Memᴰ t ts) (s : ℕ) → Pick ts t s
+  picked : {t : A} {ts : List A} (m : List·Memᴰ t ts) (s : ℕ) → Pick ts t s
   picked {t} (List·Memᴰ·head {x = u} {xs = us} e) s = go (yes-or-no (bit 0 s))
     where
       go : T (bit 0 s) ⊎ T (not (bit 0 s)) → Pick (u ∷ us) t s
@@ -88,11 +88,11 @@ module _ {A : Type 0} (w : A → ℕ) where
 
 module _ {A B X : Type 0} (k : Covering A X) (held-by : B → X → Bool) (price-of : B → ℕ) where
   -- a candidate that holds the points that q holds, and costs no more
-  pub record Dominated (q : B) : Type 0 where
-    pub by : A
-    pub listed : List·Memᴰ by (k .cands)
-    pub wider : (x : X) → List·Memᴰ x (k .points) → T (held-by q x) → T (k .holds by x)
-    pub fewer : k .weight by ≤ price-of q
+  record Dominated (q : B) : Type 0 where
+    by : A
+    listed : List·Memᴰ by (k .cands)
+    wider : (x : X) → List·Memᴰ x (k .points) → T (held-by q x) → T (k .holds by x)
+    fewer : k .weight by ≤ price-of q
 
   -- a set of candidates that outdoes a list
   record Match (qs : List B) : Type 0 where
@@ -116,7 +116,7 @@ module _ {A B X : Type 0} (k : Covering A X) (held-by : B → X → Bool) (price
   matched (q ∷ qs) f = add q qs (matched qs (λ r m. f r (List·Memᴰ·tail m))) (f q (List·Memᴰ·head refl))
 
   -- a list of any length that holds each point, each of it dominated, costs at least as much as the cheapest set
-  pub dominated : (qs : List B) → ((q : B) → List·Memᴰ q qs → Dominated q) → T (covers held-by (k .points) qs) → cost k (cheapest k) ≤ sum price-of qs
+  dominated : (qs : List B) → ((q : B) → List·Memᴰ q qs → Dominated q) → T (covers held-by (k .points) qs) → cost k (cheapest k) ≤ sum price-of qs
   unfolding cover cost
   dominated qs f c =
       let m = matched qs f in

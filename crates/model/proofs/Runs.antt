@@ -90,12 +90,12 @@ module _ (rules : Rules) (law : Lawful rules) where
   unfolding refusalsBy
   all-numbered x = (omega arith, (omega arith, (omega arith, all-append Numbered (rules .own x) (refuse 14 (ltb (x .free) (length (bytesOf (rules .answer x)))) ∷ []) (law .numbered x) (omega arith, tt))))
 
-  pub refusal-le : (x : Context) → refusalBy rules x ≤ largestNumber
+  refusal-le : (x : Context) → refusalBy rules x ≤ largestNumber
   unfolding refusalBy
   refusal-le x = first-le (refusalsBy rules x) (all-numbered x)
 
   -- a refusal at a command has a number of 3 or more
-  pub refusal-ge : (x : Context) → T (not (eqb (refusalBy rules x) 0)) → 3 ≤ refusalBy rules x
+  refusal-ge : (x : Context) → T (not (eqb (refusalBy rules x) 0)) → 3 ≤ refusalBy rules x
   unfolding refusalBy
   refusal-ge x n = go (first-ge (refusalsBy rules x) (all-numbered x))
     where
@@ -142,7 +142,7 @@ module _ (rules : Rules) (P : OnRuns) where
       → (r : Run) → P (rules .after x) (drop (width (kindOf b)) bs) (free - length (bytesOf (rules .answer x))) (at + 1 + width (kindOf b)) r → P q (b ∷ bs) free at (answerThen rules x r)
 
 module _ (rules : Rules) (law : Lawful rules) (P : OnRuns) (short : IfShort rules P) (refused : IfRefused rules P) (ends : IfEnds rules P) (goes : IfGoes rules P) where
-  pub commands-ind : (k : ℕ) (q : Problem) (bs : List ℕ) (free at : ℕ) → length bs < k → P q bs free at (commands rules k q bs free at)
+  commands-ind : (k : ℕ) (q : Problem) (bs : List ℕ) (free at : ℕ) → length bs < k → P q bs free at (commands rules k q bs free at)
   commands-ind zero q bs free at l = absurd (omega arith)
   commands-ind (suc k) q [] free at l = short q free at
   commands-ind (suc k) q (b ∷ bs) free at l =
@@ -180,13 +180,13 @@ module _ (rules : Rules) (law : Lawful rules) (P : OnRuns) (short : IfShort rule
 -- ---- where a job stops, and how much it writes
 
 -- with `end` where the job's bytes end
-pub record Stops (end free : ℕ) (r : Run) : Type 0 where
-  pub accepted : r .number ≡ 0 → r .offset ≡ end
-  pub cut : r .number ≡ 2 → r .offset ≡ end
-  pub refused : 3 ≤ r .number → r .offset < end
-  pub numbers : (r .number ≡ 0) ⊎ (2 ≤ r .number)
-  pub number-le : r .number ≤ largestNumber
-  pub fits : length (join (map bytesOf (r .answers))) ≤ free
+record Stops (end free : ℕ) (r : Run) : Type 0 where
+  accepted : r .number ≡ 0 → r .offset ≡ end
+  cut : r .number ≡ 2 → r .offset ≡ end
+  refused : 3 ≤ r .number → r .offset < end
+  numbers : (r .number ≡ 0) ⊎ (2 ≤ r .number)
+  number-le : r .number ≤ largestNumber
+  fits : length (join (map bytesOf (r .answers))) ≤ free
 
 abbrev Where : OnRuns
 Where q bs free at r = Stops (at + length bs) free r
