@@ -1,4 +1,4 @@
--- The commands: which is which.
+-- The commands: which is which, and that a query changes neither table nor candidates.
 use Prim.Native.Nat.{ℕ}
 use mathlib.Core.Path.{_≡_, refl, sym, ap, _∙_, subst}
 use mathlib.Core.Logic.{_⊎_, inl, inr}
@@ -6,7 +6,7 @@ use mathlib.Core.Bool.{Bool, true, false, cond}
 use mathlib.Core.List.{List, [], _∷_, List·Memᴰ, List·Memᴰ·head, List·Memᴰ·tail}
 use lib.Dec.{T, eqb, eqb→eq}
 use Rattle.model.specs.Base.{All}
-use Rattle.model.specs.Commands.{Kind, formOf, is, firstKind, kinds, kindOf, queryKinds, isQueryKind}
+use Rattle.model.specs.Commands.{Kind, formOf, is, firstKind, kinds, kindOf, queryKinds, isQueryKind, Context, basisOf, problemAfter}
 use Rattle.model.proofs.Lists.{filter-i, all-e}
 
 kind-of-code : (k : Kind) → kindOf (formOf k .code) ≡ k
@@ -43,3 +43,8 @@ any-query P a k t = go (first-in (formOf k .code) kinds) (kind-of-code k)
     go : (firstKind (formOf k .code) kinds ≡ Kind.none) ⊎ List·Memᴰ (firstKind (formOf k .code) kinds) kinds → firstKind (formOf k .code) kinds ≡ k → P k
     go (inl n) e = absurd (subst (λ (x : Kind). T (isQueryKind x)) (sym e ∙ n) t)
     go (inr m) e = all-e P queryKinds a (filter-i isQueryKind (subst (λ (x : Kind). List·Memᴰ x kinds) e m) t)
+
+-- a query changes neither table nor candidates
+pub query-keeps : (x : Context) (k : Kind) → T (isQueryKind k) → basisOf (problemAfter x k) ≡ basisOf (x .problem)
+unfolding problemAfter
+query-keeps x = any-query (λ k. basisOf (problemAfter x k) ≡ basisOf (x .problem)) (refl, (refl, tt))

@@ -17,7 +17,7 @@ use Rattle.model.specs.Rules.{Rules, refusalsBy, refusalBy}
 use Rattle.model.specs.Job.{Run, stop, answerThen, commands, runBy, RefusedAt, Judged, written}
 use Rattle.model.specs.Invariants.{Sound}
 use Rattle.model.proofs.Read.{Fits}
-use Rattle.model.proofs.Lists.{twice, all-append, all-left, all-right}
+use Rattle.model.proofs.Lists.{twice, T-false, all-append, all-left, all-right}
 
 -- ---- what an answered command has passed
 
@@ -85,6 +85,11 @@ pub record Lawful (rules : Rules) : Type 0 where
   pub sound : (x : Context) → NoneApplies (rules .own x) → Sound (x .problem) → Sound (rules .after x)
   pub fits : (x : Context) → NoneApplies (rules .own x) → Sound (x .problem) → Fits (rules .answer x) × (Bytes (x .rest) → Bytes (bytesOf (rules .answer x)))
 
+-- "tried in this order": a command at a wrong place is refused by 4, its operands missing or not
+pub place-first : (rules : Rules) (x : Context) → T (not (is (x .kind) Kind.none)) → T (not (allowed (x .kind) (x .problem .place))) → refusalBy rules x ≡ 4
+unfolding refusalBy refusalsBy
+place-first rules x n a = rw (T-false {b = is (x .kind) Kind.none} n, T-false {b = allowed (x .kind) (x .problem .place)} a)
+
 module _ (rules : Rules) (law : Lawful rules) where
   all-numbered : (x : Context) → All Numbered (refusalsBy rules x)
   unfolding refusalsBy
@@ -121,6 +126,10 @@ module _ (rules : Rules) (law : Lawful rules) where
 -- what the command at byte b finds
 abbrev pub context : Problem → ℕ → List ℕ → ℕ → Context
 context q b bs free = record { problem = q; kind = kindOf b; rest = bs; free = free }
+
+-- a refused command ends the run at the "offset of the command's first byte"
+pub refused-here : (rules : Rules) (k : ℕ) (q : Problem) (b : ℕ) (bs : List ℕ) (free at : ℕ) → T (not (eqb (refusalBy rules (context q b bs free)) 0)) → commands rules (suc k) q (b ∷ bs) free at .offset ≡ at
+refused-here rules k q b bs free at n = rw (T-false {b = eqb (refusalBy rules (context q b bs free)) 0} n)
 
 -- a claim on the run of some bytes from a problem, a free part and an offset on; and what it asks where the first command is refused,
 -- where it is the last, and where others follow
