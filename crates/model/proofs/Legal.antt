@@ -8,7 +8,7 @@ use Rattle.model.specs.Table.{Table, Cell, Term, cells, isOn, isOff, onC
 use Rattle.model.specs.Sets.{members, cover}
 use Rattle.model.specs.Candidates.{Basis, covering, HoldsExactly, LegalBasis}
 use Rattle.model.proofs.Lists.{and-r, and-i, every-e, filter-e, filter-i, all-e}
-use Rattle.model.proofs.Sets.{covers-e, covers-i}
+use Rattle.model.proofs.Sets.{cover-e, cover-i}
 
 -- a member is one of the candidates
 member-in : {A : Type 0} (ts : List A) (s : ℕ) {t : A} → List·Memᴰ t (members ts s) → List·Memᴰ t ts
@@ -28,7 +28,7 @@ unfolding legal holdsNoOff
 legal-no-off p t l c m o h = T-not (holds t c && isOff p c) (every-e (λ c. not (holds t c && isOff p c)) m (and-r (formed p t) (holdsNoOff p t) l)) (and-i (holds t c) (isOff p c) h o)
 
 pub legal-basis : (b : Basis) → All (λ t. T (legal (b .table) t)) (b .cands) → LegalBasis b
-unfolding cover onCells
+unfolding onCells
 legal-basis b l = record { legal-cands = l; covers = λ s. (to s, back s) }
   where
     p : Table
@@ -36,9 +36,9 @@ legal-basis b l = record { legal-cands = l; covers = λ s. (to s, back s) }
 
     to : (s : ℕ) → T (cover (covering b) s) → HoldsExactly b s
     to s c = record {
-      every-wanted = λ x m o. covers-e holds (onCells p) (members (b .cands) s) c (filter-i (isOn p) m o);
+      every-wanted = λ x m o. cover-e (covering b) s c (filter-i (isOn p) m o);
       no-off = λ x m o t i. legal-no-off p t (all-e (λ (t : Term). T (legal p t)) (b .cands) l (member-in (b .cands) s i)) x m o;
     }
 
     back : (s : ℕ) → HoldsExactly b s → T (cover (covering b) s)
-    back s h = covers-i holds (onCells p) (members (b .cands) s) (λ x m. let q = filter-e (isOn p) (cells p) m in h .every-wanted x (q .0) (q .1))
+    back s h = cover-i (covering b) s (λ x m. let q = filter-e (isOn p) (cells p) m in h .every-wanted x (q .0) (q .1))

@@ -37,6 +37,11 @@ pub rising : {A X : Type 0} (k : Covering A X) → Rising 0 (irredundants k)
 unfolding irredundants
 rising k = rising-filter (irredundant k) 0 (from 0 (2 ^ length (k .cands))) (rising-from 0 (2 ^ length (k .cands)))
 
+-- "the next start is .. one above the last"
+pub oneAbove-last : (b : ℕ) (xs : List ℕ) (s : ℕ) → oneAbove b (xs ++ (s ∷ [])) ≡ suc s
+oneAbove-last b [] s = refl
+oneAbove-last b (x ∷ xs) s = oneAbove-last (suc x) xs s
+
 oneAbove-ge : (b : ℕ) (xs ys : List ℕ) → Rising b (xs ++ ys) → b ≤ oneAbove b xs
 oneAbove-ge b [] ys r = le-refl b
 oneAbove-ge b (x ∷ xs) ys r = omega (arith, r .0, oneAbove-ge (suc x) xs ys (r .1))

@@ -114,6 +114,15 @@ leastOf-in f (s ∷ ss) m = least-in f s ss
 -- ---- irredundant: the test and the proposition
 
 module _ {A X : Type 0} (k : Covering A X) where
+  -- "each wanted cell is held by a member", both ways
+  pub cover-e : (s : ℕ) → T (cover k s) → {x : X} → List·Memᴰ x (k .points) → (t : A) × List·Memᴰ t (members (k .cands) s) × T (k .holds t x)
+  unfolding cover
+  cover-e s c = covers-e (k .holds) (k .points) (members (k .cands) s) c
+
+  pub cover-i : (s : ℕ) → ((x : X) → List·Memᴰ x (k .points) → (t : A) × List·Memᴰ t (members (k .cands) s) × T (k .holds t x)) → T (cover k s)
+  unfolding cover
+  cover-i s f = covers-i (k .holds) (k .points) (members (k .cands) s) f
+
   pub cover-more : (a s : ℕ) → Within a s → T (cover k a) → T (cover k s)
   unfolding cover
   cover-more a s w t = covers-more (k .holds) (k .points) (members (k .cands) a) (members (k .cands) s) (λ u m. members-more (k .cands) a s w m) t
