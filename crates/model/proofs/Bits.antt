@@ -18,7 +18,7 @@ bit0-e s t = eqb→eq (s % 2) 1 t
 pub bit0-i : (s : ℕ) → s % 2 ≡ 1 → T (bit 0 s)
 bit0-i s e = rw e tt
 
--- the other way: an even number has no bit 0
+-- a number without bit 0 is even
 pub bit0-n : (s : ℕ) → T (not (bit 0 s)) → s % 2 ≡ 0
 bit0-n s t = go (s % 2) (omega arith) refl t
   where

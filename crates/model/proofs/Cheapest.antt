@@ -55,7 +55,7 @@ module _ {A X : Type 0} (k : Covering A X) where
   pub cheapest-best : T (coverable k) → Best k (cost k (cheapest k)) (cheapest k)
   cheapest-best c = record { tight = cheapest-irredundant k c; price = refl; least-cost = cheapest-le k; smallest = cheapest-smallest }
 
-  -- what a search has to find: the least number among the covers of least cost. It is irredundant by itself, at prices of 0 too
+  -- what a search has to find: the least number among the covers of least cost. It is irredundant by itself, at weights of 0 too
   pub least-is-best : (s : ℕ) → s < 2 ^ length (k .cands) → T (cover k s)
       → ((a : ℕ) → a < 2 ^ length (k .cands) → T (cover k a) → (cost k s ≤ cost k a) × (cost k a ≤ cost k s → s ≤ a)) → Best k (cost k s) s
   least-is-best s l c f = record {

@@ -162,7 +162,7 @@ pub contains-i : (p : Table) (t u : Term) → ((c : Cell) → List·Memᴰ c (ce
 unfolding contains
 contains-i p t u f = every-i (λ d. implies (holds u d) (holds t d)) (cells p) (λ c m. implies-i (holds u c) (holds t c) (f c m))
 
--- a term that contains another has fewer literals, and more outputs
+-- a term that contains another has some of its literals, and all of its outputs
 pub record Wider (t u : Term) : Type 0 where
   pub care-in : Within (t .care) (u .care)
   pub outputs-in : Within (u .outputs) (t .outputs)

@@ -41,7 +41,7 @@ module _ (rules : Rules) where
   abbrev pub Replied : Exchange → Type 0
   Replied e = e .reply ≡ replyTo (e .context)
 
-  -- one of the commands that answer, and what each command of a job is known to be
+  -- and the command is one that answers, of which is known what is known of each command of a job
   abbrev pub RepliedIn : (Context → Type 0) → Exchange → Type 0
   RepliedIn Known e = Replied e × T (answers rules (e .context)) × Known (e .context)
 
@@ -146,7 +146,7 @@ module _ (rules : Rules) (law : Lawful rules) where
       let r = caller rules law c m in
       rw (r .number, r .offset) (judged rules law (c .job) (length (c .before)))
 
-  -- each command is answered so, and is what all commands of its job are known to be
+  -- all of some calls are so
   pub every-replied : (Known : Context → Type 0) (calls : List Call) → All (λ c. All Known (ranBy rules c .contexts)) calls → All (RepliedIn rules Known) (allAnswered rules calls)
   every-replied Known [] f = tt
   every-replied Known (c ∷ calls) f =
@@ -160,7 +160,7 @@ module _ (rules : Rules) (law : Lawful rules) where
   every-read [] m = refl
   every-read (c ∷ calls) m = ap₂ (λ (es fs : List Exchange). es ++ fs) (read-in c (m .0)) (every-read calls (m .1))
 
-  -- so a demand is met by calls where it is met by commands with what they are answered; each command is what the rules keep it
+  -- so a demand is met by calls where it is met by commands with what they are answered, of each of which `Known` holds
   pub claim : (Known : Context → Type 0) → ((job : List ℕ) (room : ℕ) → All Known (runBy rules job room .contexts))
       → (Stands : Exchange → Type 0) (Demand : List Exchange → Type 0) → ((es : List Exchange) → All (RepliedIn rules Known) es → All Stands es → Demand es)
       → (calls : List Call) → All (MetBy rules) calls → Claim rules Stands Demand calls

@@ -1,6 +1,4 @@
--- The theorems over paper 01: first the marked cases, so that a definition that misses one is refused there; then each file behind those that
--- it cites.
-pub mod Marked
+-- The theorems over paper 01, each file behind those that it cites.
 pub mod Lists
 pub mod Bits
 pub mod Sets
@@ -25,4 +23,5 @@ pub mod Exchanges
 pub mod Demand3
 pub mod SameBasis
 pub mod Whole
+pub mod Marked
 pub mod Example

@@ -16,7 +16,8 @@ use Rattle.model.proofs.Bits.{bit0-e, bit0-n}
 use Rattle.model.proofs.Sets.{members-all}
 use Rattle.model.proofs.Rows.{held-iff}
 
--- ---- the row of a row
+-- ---- rows as numbers
+
 pub rowOf-lt : {A X : Type 0} (holds : A → X → Bool) (ts : List A) (x : X) → rowOf holds ts x < 2 ^ length ts
 unfolding rowOf
 rowOf-lt holds [] x = omega arith

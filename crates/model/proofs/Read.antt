@@ -14,7 +14,7 @@ use Rattle.model.specs.Commands.{low, number}
 use Rattle.model.specs.Answers.{Answer, termBytes, bytesOf, hasBytes}
 use Rattle.model.specs.Calls.{readTerms, readSets, decoded, readUpTo, read}
 
--- the sets and the cost have as many bytes as the answer gives them
+-- the sets and the cost fit the bytes that the answer has for them
 abbrev pub Fits : Answer → Type 0
 Fits Answer.nothing = Unit {0}
 Fits (Answer.primesAre ts) = Unit {0}

@@ -18,7 +18,7 @@ use Rattle.model.specs.Sets.{Covering, Within, members, covers, cover, c
 use Rattle.model.specs.Candidates.{termCost, listCost, Basis, covering}
 use Rattle.model.proofs.Lists.{yes-or-no, and-l, and-r, every-e, filter-e, T-true, T-false}
 use Rattle.model.proofs.Bits.{bit0-e, bit0-n}
-use Rattle.model.proofs.Sets.{members-more, covers-e, covers-i, cheapest-le}
+use Rattle.model.proofs.Sets.{members-more, covers-e, cover-i, cheapest-le}
 use Rattle.model.proofs.Cubes.{contains-e, Over, prime-over}
 
 -- ---- set s and the candidate t besides
@@ -117,10 +117,10 @@ module _ {A B X : Type 0} (k : Covering A X) (held-by : B → X → Bool) (price
 
   -- a list of any length that holds each point, each of it dominated, costs at least as much as the cheapest set
   dominated : (qs : List B) → ((q : B) → List·Memᴰ q qs → Dominated q) → T (covers held-by (k .points) qs) → cost k (cheapest k) ≤ sum price-of qs
-  unfolding cover cost
+  unfolding cost
   dominated qs f c =
       let m = matched qs f in
-      let d : T (cover k (m .set)) = covers-i (k .holds) (k .points) (members (k .cands) (m .set)) (λ x i. let h = covers-e held-by (k .points) qs c i in m .over (h .0) (h .1) x i (h .2)) in
+      let d : T (cover k (m .set)) = cover-i k (m .set) (λ x i. let h = covers-e held-by (k .points) qs c i in m .over (h .0) (h .1) x i (h .2)) in
       omega (arith, cheapest-le k (m .set) (m .small) d, m .price)
 
 -- ---- terms, at any weight that more literals do not lower

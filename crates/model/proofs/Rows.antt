@@ -74,7 +74,7 @@ module _ {A X : Type 0} (holds : A → X → Bool) where
       back (inl k) ih = keep (bit 0 s) (ih .1 k)
       back (inr k) ih = rw (T-true {b = bit 0 s} (k .0)) (or-l (holds t c) (some (λ u. holds u c) r) (k .1))
 
--- a set is a cover where it meets the number of each point
+-- a set is a cover where it meets the row of each point
 pub cover-iff : {A X : Type 0} (k : Covering A X) (s : ℕ) → T (cover k s) ↔ T (every (λ x. ltb 0 (bitAnd s (rowOf (k .holds) (k .cands) x))) (k .points))
 unfolding cover covers
 cover-iff {X = X} k s = (to, back)

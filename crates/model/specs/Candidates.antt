@@ -22,7 +22,7 @@ pub record Basis : Type 0 where
 abbrev pub basis : Table → List Term → Basis
 basis p ts = record { table = p; cands = ts; weight = termCost }
 
--- "of a list, the sum over its entries"
+-- the cost "of a set or list, the sum over its entries"
 unfoldable pub listCost : Basis → List Term → ℕ
 listCost b ts = sum (b .weight) ts
 

@@ -41,7 +41,7 @@ queried = 4
 
 -- ---- commands
 
--- "commands of one byte"; none is a byte that is no command
+-- "commands of one byte"; `none` is a byte that is no command
 pub data Kind : Type 0 where
   I R T P L C E none : Kind
 

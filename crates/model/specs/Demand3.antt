@@ -41,11 +41,11 @@ StandsOn b e = T (isAsked e) × HasBasis b (e .context)
 abbrev pub coversOf : Basis → List ℕ
 coversOf b = irredundants (covering b)
 
--- "where the candidates are the primes": "every prime stands among them and nothing else does"
+-- "the candidates are the primes when every prime stands among them and nothing else does"
 abbrev pub ArePrimes : Basis → Type 0
 ArePrimes b = (t : Term) → T (prime (b .table) t) ↔ List·Memᴰ t (b .cands)
 
--- then no list of product terms that represents the table is cheaper than c
+-- where they are, no list of product terms that represents the table is cheaper than c
 abbrev pub NoCheaperList : Basis → ℕ → Type 0
 NoCheaperList b c = ArePrimes b → (qs : List Term) → T (represents (b .table) qs) → c ≤ listCost b qs
 

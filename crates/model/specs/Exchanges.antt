@@ -13,7 +13,7 @@ use Rattle.model.specs.Rules.{Rules, refusalBy}
 use Rattle.model.specs.Job.{Run, Judged}
 use Rattle.model.specs.Calls.{Call, ranBy, numberOf, offsetOf, replies}
 
--- a command and its reply, `nothing` where none came: "a refused command gives no page and no cheapest"
+-- a command and its reply, `nothing` where none came: "a refused command .. gives no page and no cheapest"
 pub record Exchange : Type 0 where
   pub context : Context
   pub reply : Answer

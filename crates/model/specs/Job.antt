@@ -1,4 +1,4 @@
--- Paper 01, "Job stream": a whole job by some rules, its result and the answer buffer after it.
+-- Paper 01, "Job stream": a whole job by some rules, its result, which command is refused, and the answer buffer after it.
 use Prim.Native.Nat.{ℕ, zero, suc, _+_, _-_, _*_, _^_, _≤_, _<_}
 use mathlib.Core.Path.{_≡_}
 use mathlib.Core.Bool.{cond, _||_}
