@@ -57,7 +57,8 @@ lacks (suc k) a s l w d = go (yes-or-no (bit 0 s)) (yes-or-no (bit 0 a)) (lacks 
     up : (i : ℕ) × (i < k) × T (bit i (s / 2)) × T (not (bit i (a / 2))) → (i : ℕ) × (i < suc k) × T (bit i s) × T (not (bit i a))
     up q = (suc (q .0), omega (arith, q .1), q .2, q .3)
 
-    go : T (bit 0 s) ⊎ T (not (bit 0 s)) → T (bit 0 a) ⊎ T (not (bit 0 a)) → (a / 2 ≢ s / 2 → (i : ℕ) × (i < k) × T (bit i (s / 2)) × T (not (bit i (a / 2)))) → (i : ℕ) × (i < suc k) × T (bit i s) × T (not (bit i a))
+    go : T (bit 0 s) ⊎ T (not (bit 0 s)) → T (bit 0 a) ⊎ T (not (bit 0 a)) → (a / 2 ≢ s / 2 → (i : ℕ) × (i < k) × T (bit i (s / 2)) × T (not (bit i (a / 2))))
+        → (i : ℕ) × (i < suc k) × T (bit i s) × T (not (bit i a))
     go (inl t) (inr u) r = (0, omega arith, t, u)
     go (inl t) (inl u) r = up (r (λ e. d (omega (arith, bit0-e s t, bit0-e a u))))
     go (inr t) (inr u) r = up (r (λ e. d (omega (arith, bit0-n s t, bit0-n a u))))

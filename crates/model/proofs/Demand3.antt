@@ -111,7 +111,11 @@ correct-exchange b e r s = go (eqb (refusal x) 0) refl
     go true c =
         let z = eqb→eq (refusal x) 0 (rw c tt) in
         let y : e .reply ≡ answer x = r .0 ∙ reply-answered engine x z in
-        record { legal = lawful; answered = (λ h. iff .0 z, λ h. subst⁻¹ (λ (u : Answer). T (hasBytes u)) y (has-bytes x (x .kind) a)); correct = λ h. subst⁻¹ (Correct b x) y (correct b x (s .1) (h .coverable)) }
+        record {
+          legal = lawful;
+          answered = (λ h. iff .0 z, λ h. subst⁻¹ (λ (u : Answer). T (hasBytes u)) y (has-bytes x (x .kind) a));
+          correct = λ h. subst⁻¹ (Correct b x) y (correct b x (s .1) (h .coverable));
+        }
     go false c =
         let n : T (not (eqb (refusal x) 0)) = rw c tt in
         let y : e .reply ≡ Answer.nothing = r .0 ∙ reply-refused engine x n in

@@ -153,7 +153,8 @@ drives-halves p c w i n o = bits-ext (drives p c w) (bitAnd lo hi) (λ j. bool-e
         let y = drives-e p (setBit i c) (setBit i w) j (and-r (bit j lo) (bit j hi) t) in
         drives-i p c w j (x .0) (λ v l a. pick v l a (x .1) (y .1) (yes-or-no (bit i v)))
       where
-        pick : (v : ℕ) → v < 2 ^ p .n → Agree c v w → ((v : ℕ) → v < 2 ^ p .n → Agree (setBit i c) v w → T (isOff p (cell v j)) → ⊥) → ((v : ℕ) → v < 2 ^ p .n → Agree (setBit i c) v (setBit i w) → T (isOff p (cell v j)) → ⊥)
+        pick : (v : ℕ) → v < 2 ^ p .n → Agree c v w → ((v : ℕ) → v < 2 ^ p .n → Agree (setBit i c) v w → T (isOff p (cell v j)) → ⊥)
+            → ((v : ℕ) → v < 2 ^ p .n → Agree (setBit i c) v (setBit i w) → T (isOff p (cell v j)) → ⊥)
             → T (bit i v) ⊎ T (not (bit i v)) → T (isOff p (cell v j)) → ⊥
         pick v l a x y (inl z) = y v l (λ k b. high v k a z (ℕ-discrete k i) b)
         pick v l a x y (inr z) = x v l (λ k b. low v k a z (ℕ-discrete k i) b)
@@ -204,11 +205,20 @@ pub record Locally (p : Table) (t : Term) : Type 0 where
 
 without-formed : (p : Table) (t : Term) (i : ℕ) → T (bit i (t .care)) → Formed p t → Formed p (without t i)
 unfolding without
-without-formed p t i b f = record { care-lt = omega (arith, f .care-lt); value-in = λ j q. and-r (bit j (t .value)) (bit j (t .care - 2 ^ i)) (subst (λ (x : Bool). T x) (bit-and j (t .value) (t .care - 2 ^ i)) q); outputs-pos = f .outputs-pos; outputs-lt = f .outputs-lt }
+without-formed p t i b f = record {
+  care-lt = omega (arith, f .care-lt);
+  value-in = λ j q. and-r (bit j (t .value)) (bit j (t .care - 2 ^ i)) (subst (λ (x : Bool). T x) (bit-and j (t .value) (t .care - 2 ^ i)) q);
+  outputs-pos = f .outputs-pos;
+  outputs-lt = f .outputs-lt;
+}
 
 without-wider : (t : Term) (i : ℕ) → T (bit i (t .care)) → Wider (without t i) t
 unfolding without
-without-wider t i b = record { care-in = without-within i (t .care) b; outputs-in = λ j q. q; agree = λ j q. sym (bit-and j (t .value) (t .care - 2 ^ i) ∙ rw (T-true {b = bit j (t .care - 2 ^ i)} q) (keep (bit j (t .value)))) }
+without-wider t i b = record {
+  care-in = without-within i (t .care) b;
+  outputs-in = λ j q. q;
+  agree = λ j q. sym (bit-and j (t .value) (t .care - 2 ^ i) ∙ rw (T-true {b = bit j (t .care - 2 ^ i)} q) (keep (bit j (t .value))));
+}
   where
     keep : (x : Bool) → (x && true) ≡ x
     keep true = refl
@@ -231,7 +241,8 @@ prime-local p t h =
         let c = contains-wider p u t (record { care-in = λ i q. q; outputs-in = w; agree = λ i q. refl }) in
         sym (ap (λ (x : Term). x .outputs) (e .1 u l c))
 
-    tight : T (legal p t) × ((u : Term) → T (legal p u) → T (contains p u t) → u ≡ t) → Formed p t → (i : ℕ) → T (bit i (t .care)) → Within (t .outputs) (drives p (t .care - 2 ^ i) (bitAnd (t .value) (t .care - 2 ^ i))) → ⊥
+    tight : T (legal p t) × ((u : Term) → T (legal p u) → T (contains p u t) → u ≡ t) → Formed p t → (i : ℕ) → T (bit i (t .care))
+        → Within (t .outputs) (drives p (t .care - 2 ^ i) (bitAnd (t .value) (t .care - 2 ^ i))) → ⊥
     tight e f i b w =
         let l = legal-i p (without t i) (without-formed p t i b f) w in
         let q = ap (λ (x : Term). x .care) (e .1 (without t i) l (contains-wider p (without t i) t (without-wider t i b))) in

@@ -46,7 +46,8 @@ pub record Told (all : List ℕ) (a : ℕ) (old : List ℕ) (l : Listed) : Type 
   pub rest : drop (l .filled) (l .row) ≡ drop (l .filled) old
   pub some : 1 ≤ length old → 1 ≤ length (atOrAbove all a) → 1 ≤ l .filled
 
-pub listed-told : (p : Table) (words : List ℕ) (a : ℕ) (old : List ℕ) → firstOf (callRefusals p words) ≡ 0 → Told (irredundants (covering (basis p (map unpack words)))) a old (listCovers p words a old)
+pub listed-told : (p : Table) (words : List ℕ) (a : ℕ) (old : List ℕ) → firstOf (callRefusals p words) ≡ 0
+    → Told (irredundants (covering (basis p (map unpack words)))) a old (listCovers p words a old)
 unfolding listCovers
 listed-told p words a old z = rw z (record {
   number = refl;

@@ -135,7 +135,12 @@ module _ (b : Basis) (dearer : (t u : Term) → ones (t .care) ≤ ones (u .care
       p = b .table
 
       one : (q : Term) → Over p q → Dominated (covering b) holds (b .weight) q
-      one q o = record { by = o .top; listed = all (o .top) (o .prime-top); wider = λ x i h. contains-e p (o .top) q (o .containing) x (filter-e (isOn p) (cells p) i .0) h; fewer = dearer (o .top) q (o .fewer) }
+      one q o = record {
+        by = o .top;
+        listed = all (o .top) (o .prime-top);
+        wider = λ x i h. contains-e p (o .top) q (o .containing) x (filter-e (isOn p) (cells p) i .0) h;
+        fewer = dearer (o .top) q (o .fewer);
+      }
 
 -- the paper's cost is such a weight
 pub cost-dearer : (t u : Term) → ones (t .care) ≤ ones (u .care) → termCost t ≤ termCost u

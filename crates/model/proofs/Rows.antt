@@ -58,7 +58,8 @@ module _ {A X : Type 0} (holds : A → X → Bool) where
       r : List A
       r = members ts (s / 2)
 
-      to : T (bit 0 s) ⊎ T (not (bit 0 s)) → T (some (λ u. holds u c) (cond (bit 0 s) (t ∷ r) r)) → T (some (λ u. holds u c) r) ↔ (0 < bitAnd (s / 2) (rowOf holds ts c)) → (0 < bitAnd (s / 2) (rowOf holds ts c)) ⊎ (T (bit 0 s) × T (holds t c))
+      to : T (bit 0 s) ⊎ T (not (bit 0 s)) → T (some (λ u. holds u c) (cond (bit 0 s) (t ∷ r) r))
+          → T (some (λ u. holds u c) r) ↔ (0 < bitAnd (s / 2) (rowOf holds ts c)) → (0 < bitAnd (s / 2) (rowOf holds ts c)) ⊎ (T (bit 0 s) × T (holds t c))
       to (inl o) h ih = go (or-cases (holds t c) (some (λ u. holds u c) r) (rw (T-true {b = bit 0 s} o) at h))
         where
           go : T (holds t c) ⊎ T (some (λ u. holds u c) r) → (0 < bitAnd (s / 2) (rowOf holds ts c)) ⊎ (T (bit 0 s) × T (holds t c))
@@ -70,7 +71,8 @@ module _ {A X : Type 0} (holds : A → X → Bool) where
       keep true x = or-r (holds t c) (some (λ u. holds u c) r) x
       keep false x = x
 
-      back : (0 < bitAnd (s / 2) (rowOf holds ts c)) ⊎ (T (bit 0 s) × T (holds t c)) → T (some (λ u. holds u c) r) ↔ (0 < bitAnd (s / 2) (rowOf holds ts c)) → T (some (λ u. holds u c) (cond (bit 0 s) (t ∷ r) r))
+      back : (0 < bitAnd (s / 2) (rowOf holds ts c)) ⊎ (T (bit 0 s) × T (holds t c)) → T (some (λ u. holds u c) r) ↔ (0 < bitAnd (s / 2) (rowOf holds ts c))
+          → T (some (λ u. holds u c) (cond (bit 0 s) (t ∷ r) r))
       back (inl k) ih = keep (bit 0 s) (ih .1 k)
       back (inr k) ih = rw (T-true {b = bit 0 s} (k .0)) (or-l (holds t c) (some (λ u. holds u c) r) (k .1))
 

@@ -128,7 +128,8 @@ abbrev pub context : Problem → ℕ → List ℕ → ℕ → Context
 context q b bs free = record { problem = q; kind = kindOf b; rest = bs; free = free }
 
 -- a refused command ends the run at the "offset of the command's first byte"
-pub refused-here : (rules : Rules) (k : ℕ) (q : Problem) (b : ℕ) (bs : List ℕ) (free at : ℕ) → T (not (eqb (refusalBy rules (context q b bs free)) 0)) → commands rules (suc k) q (b ∷ bs) free at .offset ≡ at
+pub refused-here : (rules : Rules) (k : ℕ) (q : Problem) (b : ℕ) (bs : List ℕ) (free at : ℕ) → T (not (eqb (refusalBy rules (context q b bs free)) 0))
+    → commands rules (suc k) q (b ∷ bs) free at .offset ≡ at
 refused-here rules k q b bs free at n = rw (T-false {b = eqb (refusalBy rules (context q b bs free)) 0} n)
 
 -- a claim on the run of some bytes from a problem, a free part and an offset on; and what it asks where the first command is refused,
@@ -204,7 +205,14 @@ module _ (rules : Rules) (law : Lawful rules) where
   stops-refused : IfRefused rules Where
   stops-refused q b bs free at n =
       let g = refusal-ge rules law (context q b bs free) n in
-      record { accepted = λ e. absurd (omega (arith, g, e)); cut = λ e. absurd (omega (arith, g, e)); refused = λ h. omega arith; numbers = inr (omega (arith, g)); number-le = refusal-le rules law (context q b bs free); fits = omega arith }
+      record {
+        accepted = λ e. absurd (omega (arith, g, e));
+        cut = λ e. absurd (omega (arith, g, e));
+        refused = λ h. omega arith;
+        numbers = inr (omega (arith, g));
+        number-le = refusal-le rules law (context q b bs free);
+        fits = omega arith;
+      }
 
   stops-ends : IfEnds rules Where
   stops-ends q b bs free at h z i = record {

@@ -57,7 +57,8 @@ module _ (z : Basis) where
       t : Context
       t = context q b bs free
 
-      go : (d : Bool) → isQuery t ≡ d → First (HasBasis z) (cond d (t ∷ filter isQuery (r .contexts)) (filter isQuery (r .contexts))) → All (HasBasis z) (cond d (t ∷ filter isQuery (r .contexts)) (filter isQuery (r .contexts)))
+      go : (d : Bool) → isQuery t ≡ d → First (HasBasis z) (cond d (t ∷ filter isQuery (r .contexts)) (filter isQuery (r .contexts)))
+          → All (HasBasis z) (cond d (t ∷ filter isQuery (r .contexts)) (filter isQuery (r .contexts)))
       go true e g =
           let a : T (isQuery t) = rw e tt in
           let y = after-query z t g (kindOf b) (and-l (isQueryKind (kindOf b)) (allowed (kindOf b) (q .place)) a) in

@@ -143,7 +143,11 @@ fits-C t a s =
 lawful-at : (t : Context) (k : Kind) → LawfulAt t k
 unfolding refusalsOf problemAfter answerFor
 lawful-at t Kind.I = record { numbered = (omega arith, tt); sound = λ a s. sound-I t a; fits = λ a s. (tt, λ b. tt) }
-lawful-at t Kind.R = record { numbered = (omega arith, (omega arith, tt)); sound = λ a s. record { inputs = s .inputs; outputs = s .outputs; few = s .few; small = s .small }; fits = λ a s. (tt, λ b. tt) }
+lawful-at t Kind.R = record {
+  numbered = (omega arith, (omega arith, tt));
+  sound = λ a s. record { inputs = s .inputs; outputs = s .outputs; few = s .few; small = s .small };
+  fits = λ a s. (tt, λ b. tt);
+}
 lawful-at t Kind.T = record { numbered = (omega arith, (omega arith, (omega arith, tt))); sound = sound-T t; fits = λ a s. (tt, λ b. tt) }
 lawful-at t Kind.P = record {
   numbered = (omega arith, tt);

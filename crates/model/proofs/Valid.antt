@@ -86,7 +86,8 @@ valid-R t p a s =
     }
 
 -- other candidates, behind the rows
-valid-cands : (q : Problem) (place : ℕ) (ts : List Term) → inTerms ≤ place → begun ≤ q .place → Valid q → All (λ u. T (legal (tableOf q) u)) ts → Sound (atPlace place (withCands ts q)) → Valid (atPlace place (withCands ts q))
+valid-cands : (q : Problem) (place : ℕ) (ts : List Term) → inTerms ≤ place → begun ≤ q .place → Valid q → All (λ u. T (legal (tableOf q) u)) ts
+    → Sound (atPlace place (withCands ts q)) → Valid (atPlace place (withCands ts q))
 valid-cands q place ts i o v l s = record { sound = s; sizes = λ h. v .sizes o; rows = λ h. v .rows o; good = v .good; early = λ h. absurd (omega (arith, h)); legal = l }
 
 legal-term : (t : Context) → NoneApplies (refusalsOf t Kind.T) → T (legal (tableOf (t .problem)) (operandTerm t))
