@@ -47,11 +47,16 @@ module _ (rules : Rules) (law : Lawful rules) (c : Call) (m : MetBy rules c) whe
 
   whole-is : length (c .after) ≡ length (c .before)
   unfolding bufferAfter
-  whole-is = ap length (m .after) ∙ length-append (written (ranBy rules c)) (drop (length (written (ranBy rules c))) (c .before)) ∙ omega (arith, length-drop (length (written (ranBy rules c))) (c .before), e .fits)
+  whole-is =
+      let own = written (ranBy rules c) in
+      ap length (m .after) ∙ length-append own (drop (length own) (c .before)) ∙ omega (arith, length-drop (length own) (c .before), e .fits)
 
   small-is : Bytes (c .job) → Bytes (c .before) → Bytes (c .after)
   unfolding bufferAfter
-  small-is a b = subst⁻¹ Bytes (m .after) (all-append (λ (b : ℕ). b < 256) (written (ranBy rules c)) (drop (length (written (ranBy rules c))) (c .before)) (run-bytes rules law (c .job) (length (c .before)) a) (all-drop (λ (b : ℕ). b < 256) (length (written (ranBy rules c))) (c .before) b))
+  small-is a b =
+      let own = written (ranBy rules c) in
+      let rest = all-drop (λ (b : ℕ). b < 256) (length own) (c .before) b in
+      subst⁻¹ Bytes (m .after) (all-append (λ (b : ℕ). b < 256) own (drop (length own) (c .before)) (run-bytes rules law (c .job) (length (c .before)) a) rest)
 
   answers-are : replies c ≡ filter hasBytes (ranBy rules c .answers)
   answers-are = ap read bytes-are ∙ read-written rules law (c .job) (length (c .before))

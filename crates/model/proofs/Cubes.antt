@@ -306,7 +306,9 @@ prime-over p t l = climb p (suc (size p t)) t l (le-refl _)
 -- what the test says: a prime is legal and contained in no other legal term
 pub prime-e : (p : Table) (t : Term) → T (prime p t) → T (legal p t) × ((u : Term) → T (legal p u) → T (contains p u t) → u ≡ t)
 unfolding prime containedIn
-prime-e p t h = (and-l (legal p t) none h, λ u l c. same-e u t (go (legal p u) (contains p u t) (sameTerm u t) l c (every-e (λ w. not (containedIn p t w)) (legal-listed p u l) (and-r (legal p t) none h))))
+prime-e p t h =
+    let rest = and-r (legal p t) none h in
+    (and-l (legal p t) none h, λ u l c. same-e u t (go (legal p u) (contains p u t) (sameTerm u t) l c (every-e (λ w. not (containedIn p t w)) (legal-listed p u l) rest)))
   where
     none : Bool
     none = every (λ u. not (containedIn p t u)) (terms p)

@@ -78,10 +78,15 @@ acceptable-iff b x a p s = (λ e. to (n .0 (sym (refusal-query x a p) ∙ e)), �
 
 correct : (b : Basis) (x : Context) → HasBasis b x → T (coverable (covering b)) → Correct b x (answer x)
 unfolding answer answerFor
-correct b x s h = subst (λ (z : Basis). T (coverable (covering z)) → Correct z x (answer x)) s (λ c. record { page = λ l. rw (is-kind (x .kind) Kind.L l); cheapest = λ k. best c (is-kind (x .kind) Kind.C k) }) h
+correct b x s h = subst (λ (z : Basis). T (coverable (covering z)) → Correct z x (answer x)) s own h
   where
     best : T (coverable (coveringOf x)) → x .kind ≡ Kind.C → (c : ℕ) × (s : ℕ) × (answer x ≡ Answer.cheapestIs c s) × Best (coveringOf x) c s × NoCheaperList (basisOf (x .problem)) c
-    best c e = (cost (coveringOf x) (cheapest (coveringOf x)), cheapest (coveringOf x), rw e, cheapest-best (coveringOf x) c, λ f. no-cheaper-list (basisOf (x .problem)) cost-dearer (λ u. f u .0))
+    best c e =
+        let s = cheapest (coveringOf x) in
+        (cost (coveringOf x) s, s, rw e, cheapest-best (coveringOf x) c, λ f. no-cheaper-list (basisOf (x .problem)) cost-dearer (λ u. f u .0))
+
+    own : T (coverable (coveringOf x)) → Correct (basisOf (x .problem)) x (answer x)
+    own c = record { page = λ l. rw (is-kind (x .kind) Kind.L l); cheapest = λ k. best c (is-kind (x .kind) Kind.C k) }
 
 has-bytes : (x : Context) (k : Kind) → T (isQueryKind k) → T (hasBytes (answerFor x k))
 unfolding answerFor

@@ -91,7 +91,9 @@ drives-e p c w j t =
 
 pub drives-i : (p : Table) (c w j : ℕ) → j < p .m → ((v : ℕ) → v < 2 ^ p .n → Agree c v w → T (isOff p (cell v j)) → ⊥) → T (bit j (drives p c w))
 unfolding drives drivable
-drives-i p c w j l f = fromBits-i (drivable p c w) j (p .m) l (every-i (λ v. not (inCube c w v && isOff p (cell v j))) (below (2 ^ p .n)) (λ v m. neither (inCube c w v) (isOff p (cell v j)) (λ a o. f v (below-e (2 ^ p .n) m) (agree-e c v w a) o)))
+drives-i p c w j l f =
+    let none = every-i (λ v. not (inCube c w v && isOff p (cell v j))) (below (2 ^ p .n)) in
+    fromBits-i (drivable p c w) j (p .m) l (none (λ v m. neither (inCube c w v) (isOff p (cell v j)) (λ a o. f v (below-e (2 ^ p .n) m) (agree-e c v w a) o)))
 
 pub drives-lt : (p : Table) (c w : ℕ) → drives p c w < 2 ^ p .m
 unfolding drives
@@ -236,7 +238,8 @@ prime-local p t h =
         let d : ℕ = drives p (t .care) (t .value) in
         let w = legal-drives p t (e .0) in
         let u : Term = term (t .care) (t .value) d in
-        let g : Formed p u = record { care-lt = f .care-lt; value-in = f .value-in; outputs-pos = omega (arith, f .outputs-pos, within-le (t .outputs) d w); outputs-lt = drives-lt p (t .care) (t .value) } in
+        let some : 0 < d = omega (arith, f .outputs-pos, within-le (t .outputs) d w) in
+        let g : Formed p u = record { care-lt = f .care-lt; value-in = f .value-in; outputs-pos = some; outputs-lt = drives-lt p (t .care) (t .value) } in
         let l = legal-i p u g (λ j q. q) in
         let c = contains-wider p u t (record { care-in = λ i q. q; outputs-in = w; agree = λ i q. refl }) in
         sym (ap (λ (x : Term). x .outputs) (e .1 u l c))
@@ -271,7 +274,9 @@ local-prime p t h = prime-i p t (legal-i p t (h .formed) (λ j q. subst (λ (x :
             a x z ∙ sym (without-wider t i b .agree x z) ∙ w .agree x y)))
 
         split : Dec (u .care ≡ t .care) → u ≡ t
-        split (yes e) = same-e u t (wider-same p u t (legal-formed p u l) (h .formed) w e (omega (arith, within-le (u .outputs) (t .outputs) outs, within-le (t .outputs) (u .outputs) (w .outputs-in))))
+        split (yes e) =
+            let o : u .outputs ≡ t .outputs = omega (arith, within-le (u .outputs) (t .outputs) outs, within-le (t .outputs) (u .outputs) (w .outputs-in)) in
+            same-e u t (wider-same p u t (legal-formed p u l) (h .formed) w e o)
         split (no d) = let q = lacks (p .n) (u .care) (t .care) (h .formed .care-lt) (w .care-in) d in absurd (fewer (q .0) (q .2) (q .3))
 
 -- ---- a cube with no free input

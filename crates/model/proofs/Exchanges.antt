@@ -151,8 +151,9 @@ module _ (rules : Rules) (law : Lawful rules) where
   every-replied Known [] f = tt
   every-replied Known (c ∷ calls) f =
       let xs = ranBy rules c .contexts in
+      let kept = all-kept Known (answers rules) xs (all-to Known (λ x. T (answers rules x) → Known x) (λ x k t. k) xs (f .0)) in
       all-append (RepliedIn rules Known) (answeredIn rules (ranBy rules c)) (allAnswered rules calls)
-      (subst⁻¹ (All (RepliedIn rules Known)) (answered-in (c .job) (length (c .before))) (all-replied rules Known (filter (answers rules) xs) (all-kept Known (answers rules) xs (all-to Known (λ x. T (answers rules x) → Known x) (λ x k t. k) xs (f .0)))))
+      (subst⁻¹ (All (RepliedIn rules Known)) (answered-in (c .job) (length (c .before))) (all-replied rules Known (filter (answers rules) xs) kept))
       (every-replied Known calls (f .1))
 
   -- what the bytes hold is what the jobs answered
@@ -199,7 +200,8 @@ module _ (rules : Rules) (k : Kind) (list : List ℕ) where
   pages-given : (es : List Exchange) → All (Replied rules) es → All (λ e. Lists (e .context)) es → All (PageOf list) (pagesOf k es)
   pages-given [] r f = tt
   pages-given (e ∷ es) r f =
-      all-append (PageOf list) (cond (is (e .context .kind) k) (pageIn (e .context) (e .reply)) []) (pagesOf k es) (page-given e (r .0) (f .0) (is (e .context .kind) k) refl) (pages-given es (r .1) (f .1))
+      let one = page-given e (r .0) (f .0) (is (e .context .kind) k) refl in
+      all-append (PageOf list) (cond (is (e .context .kind) k) (pageIn (e .context) (e .reply)) []) (pagesOf k es) one (pages-given es (r .1) (f .1))
 
   pub gives : (Stands : Exchange → Type 0) → ((e : Exchange) → Stands e → Lists (e .context)) → Rising 0 list → (es : List Exchange) → All (Replied rules) es → All Stands es → Gives k list es
   gives Stands f up es r s =

@@ -131,7 +131,8 @@ module _ {A X : Type 0} (k : Covering A X) where
   rows-held s x =
       let r : ℕ = rowOf (k .holds) (k .cands) x in
       let m = length-map (k .cands) (k .weight) in
-      let e : rowOf bit (below (length costs)) r ≡ r = row-bits (length costs) 0 r r (λ j. let z : 0 + j ≡ j = omega arith in ap (λ (i : ℕ). bit i r) z) (subst⁻¹ (λ (n : ℕ). r < 2 ^ n) m (rowOf-lt (k .holds) (k .cands) x)) in
+      let l : r < 2 ^ length costs = subst⁻¹ (λ (n : ℕ). r < 2 ^ n) m (rowOf-lt (k .holds) (k .cands) x) in
+      let e : rowOf bit (below (length costs)) r ≡ r = row-bits (length costs) 0 r r (λ j. let z : 0 + j ≡ j = omega arith in ap (λ (i : ℕ). bit i r) z) l in
       let a = held-iff bit (below (length costs)) r s in
       let b = held-iff (k .holds) (k .cands) x s in
       bool-ext (some (λ i. bit i r) (members (below (length costs)) s)) (some (λ t. k .holds t x) (members (k .cands) s))

@@ -129,7 +129,8 @@ module _ (b : Basis) (dearer : (t u : Term) → ones (t .care) ≤ ones (u .care
   pub no-cheaper-list : ((t : Term) → T (prime (b .table) t) → List·Memᴰ t (b .cands)) → (qs : List Term) → T (represents (b .table) qs) → cost (covering b) (cheapest (covering b)) ≤ listCost b qs
   unfolding represents onCells covers listCost
   no-cheaper-list all qs r =
-      dominated (covering b) holds (b .weight) qs (λ q m. one q (prime-over p q (every-e (legal p) m (and-l (every (legal p) qs) (covers holds (onCells p) qs) r)))) (and-r (every (legal p) qs) (covers holds (onCells p) qs) r)
+      let fair = and-l (every (legal p) qs) (covers holds (onCells p) qs) r in
+      dominated (covering b) holds (b .weight) qs (λ q m. one q (prime-over p q (every-e (legal p) m fair))) (and-r (every (legal p) qs) (covers holds (onCells p) qs) r)
     where
       p : Table
       p = b .table

@@ -93,7 +93,9 @@ place-first rules x n a = rw (T-false {b = is (x .kind) Kind.none} n, T-false {b
 module _ (rules : Rules) (law : Lawful rules) where
   all-numbered : (x : Context) → All Numbered (refusalsBy rules x)
   unfolding refusalsBy
-  all-numbered x = (omega arith, (omega arith, (omega arith, all-append Numbered (rules .own x) (refuse 14 (ltb (x .free) (length (bytesOf (rules .answer x)))) ∷ []) (law .numbered x) (omega arith, tt))))
+  all-numbered x =
+      let last = refuse 14 (ltb (x .free) (length (bytesOf (rules .answer x)))) ∷ [] in
+      (omega arith, (omega arith, (omega arith, all-append Numbered (rules .own x) last (law .numbered x) (omega arith, tt))))
 
   refusal-le : (x : Context) → refusalBy rules x ≤ largestNumber
   unfolding refusalBy
@@ -145,7 +147,8 @@ module _ (rules : Rules) (P : OnRuns) where
   IfRefused = (q : Problem) (b : ℕ) (bs : List ℕ) (free at : ℕ) → let x = context q b bs free in T (not (eqb (refusalBy rules x) 0)) → P q (b ∷ bs) free at (stop (refusalBy rules x) at (x ∷ []))
 
   abbrev pub IfEnds : Type 0
-  IfEnds = (q : Problem) (b : ℕ) (bs : List ℕ) (free at : ℕ) → let x = context q b bs free in Passed rules x → refusalBy rules x ≡ 0 → T (is (kindOf b) Kind.E) → P q (b ∷ bs) free at (answerThen rules x (stop 0 (at + 1) []))
+  IfEnds = (q : Problem) (b : ℕ) (bs : List ℕ) (free at : ℕ) → let x = context q b bs free in Passed rules x → refusalBy rules x ≡ 0 → T (is (kindOf b) Kind.E)
+      → P q (b ∷ bs) free at (answerThen rules x (stop 0 (at + 1) []))
 
   abbrev pub IfGoes : Type 0
   IfGoes = (q : Problem) (b : ℕ) (bs : List ℕ) (free at : ℕ) → let x = context q b bs free in Passed rules x → refusalBy rules x ≡ 0 → T (not (is (kindOf b) Kind.E))
@@ -156,7 +159,8 @@ module _ (rules : Rules) (law : Lawful rules) (P : OnRuns) (short : IfShort rule
   commands-ind zero q bs free at l = absurd (omega arith)
   commands-ind (suc k) q [] free at l = short q free at
   commands-ind (suc k) q (b ∷ bs) free at l =
-      go (eqb (refusalBy rules x) 0) refl (is (x .kind) Kind.E) refl (commands-ind k (rules .after x) (drop w bs) (free - length (bytesOf (rules .answer x))) (at + 1 + w) (omega (arith, length-drop w bs)))
+      go (eqb (refusalBy rules x) 0) refl (is (x .kind) Kind.E) refl
+      (commands-ind k (rules .after x) (drop w bs) (free - length (bytesOf (rules .answer x))) (at + 1 + w) (omega (arith, length-drop w bs)))
     where
       x : Context
       x = context q b bs free
@@ -254,11 +258,41 @@ pub record Ends (job : List ℕ) (room : ℕ) (r : Run) : Type 0 where
 module _ (rules : Rules) (law : Lawful rules) where
   pub ends : (job : List ℕ) (room : ℕ) → Ends job room (runBy rules job room)
   unfolding written
-  ends job room = run-ind rules law Where (λ q free at. record { accepted = λ e. absurd (omega (arith, e)); cut = λ e. omega arith; refused = λ g. absurd (omega (arith, g)); numbers = inr (omega arith); number-le = omega arith; fits = omega arith }) (stops-refused rules law) (stops-ends rules law) (stops-goes rules law)
-      (Ends job room) job room
-      (λ l. record { accepted = λ e. absurd (omega (arith, e)); too-long = λ e. (refl, refl); cut = λ e. absurd (omega (arith, e)); refused = λ g. absurd (omega (arith, g)); fits = omega arith; number-small = omega arith; offset-small = omega arith; written-small = omega arith })
-      (λ l m r s. record { accepted = λ e. omega (arith, s .accepted e); too-long = λ e. absurd (not-one (r .number) (s .numbers) e); cut = λ e. omega (arith, s .cut e); refused = λ g. omega (arith, s .refused g); fits = s .fits; number-small = s .number-le; offset-small = offs r s l; written-small = omega (arith, s .fits) })
+  ends job room = run-ind rules law Where stops-short (stops-refused rules law) (stops-ends rules law) (stops-goes rules law) (Ends job room) job room
+      (λ l. none)
+      (λ l m r s. record {
+        accepted = λ e. omega (arith, s .accepted e);
+        too-long = λ e. absurd (not-one (r .number) (s .numbers) e);
+        cut = λ e. omega (arith, s .cut e);
+        refused = λ g. omega (arith, s .refused g);
+        fits = s .fits;
+        number-small = s .number-le;
+        offset-small = offs r s l;
+        written-small = omega (arith, s .fits);
+      })
     where
+      stops-short : IfShort rules Where
+      stops-short q free at = record {
+        accepted = λ e. absurd (omega (arith, e));
+        cut = λ e. omega arith;
+        refused = λ g. absurd (omega (arith, g));
+        numbers = inr (omega arith);
+        number-le = omega arith;
+        fits = omega arith;
+      }
+
+      none : Ends job room (stop 1 0 [])
+      none = record {
+        accepted = λ e. absurd (omega (arith, e));
+        too-long = λ e. (refl, refl);
+        cut = λ e. absurd (omega (arith, e));
+        refused = λ g. absurd (omega (arith, g));
+        fits = omega arith;
+        number-small = omega arith;
+        offset-small = omega arith;
+        written-small = omega arith;
+      }
+
       offs : (r : Run) → Where empty job room 0 r → length job ≤ 32768 → r .offset ≤ 32768
       offs r s l = go (r .number) (s .numbers) (λ e. omega (arith, s .accepted e)) (λ e. omega (arith, s .cut e)) (λ g. omega (arith, s .refused g))
         where
@@ -325,7 +359,11 @@ module _ (rules : Rules) (law : Lawful rules) where
       (λ q b bs free at h z n r j. (judged-goes q b bs free at h z n r (j .0), j .1))
       (λ r. Judged rules job (r .contexts) (r .number) (r .offset)) job room
       (λ l. record { answered = λ l. tt; unread = λ e. refl; refused = λ g. absurd (omega (arith, g)) })
-      (λ l m r j. record { answered = j .0 .answered; unread = λ e. absurd (not-one (r .number) (j .1) e); refused = λ g. subst (RefusedAt rules job (r .contexts) (r .number)) (all-of-it r) (j .0 .refused g .1) })
+      (λ l m r j. record {
+        answered = j .0 .answered;
+        unread = λ e. absurd (not-one (r .number) (j .1) e);
+        refused = λ g. subst (RefusedAt rules job (r .contexts) (r .number)) (all-of-it r) (j .0 .refused g .1);
+      })
     where
       all-of-it : (r : Run) → r .offset - 0 ≡ r .offset
       all-of-it r = omega arith

@@ -15,7 +15,7 @@ use Rattle.model.specs.Primes.{primes}
 use Rattle.model.specs.Sets.{Covering, members, coverable, irredundant, irredundants, cost, cheapest}
 use Rattle.model.specs.Pages.{atOrAbove, page, more}
 use Rattle.model.specs.Candidates.{termCost}
-use Rattle.model.specs.Commands.{queried, Kind, kindOf, width, Problem, atPlace, Context, low, operand, operandTerm, start, count, coveringOf, problemAfter, tableOf}
+use Rattle.model.specs.Commands.{queried, Kind, kindOf, width, Problem, empty, atPlace, Context, low, operand, operandTerm, start, count, coveringOf, problemAfter, tableOf}
 use Rattle.model.specs.Answers.{Answer, bytesOf, answerFor, answer}
 use Rattle.model.specs.Refusals.{size, refusalsOf}
 use Rattle.model.specs.Rules.{Rules, engine}
@@ -79,7 +79,10 @@ page-fits t list m a = (
 
 pub listed-small : {A X : Type 0} (k : Covering A X) → length (k .cands) ≤ 64 → All (λ s. s < 2 ^ 64) (irredundants k)
 unfolding irredundants
-listed-small k l = all-filter (λ (s : ℕ). s < 2 ^ 64) (irredundant k) (below (2 ^ length (k .cands))) (all-of (λ (s : ℕ). s < 2 ^ 64) (below (2 ^ length (k .cands))) (λ s m. let h = pow-mono l in omega (arith, below-e (2 ^ length (k .cands)) m)))
+listed-small k l =
+    let sets = below (2 ^ length (k .cands)) in
+    let h = pow-mono l in
+    all-filter (λ (s : ℕ). s < 2 ^ 64) (irredundant k) sets (all-of (λ (s : ℕ). s < 2 ^ 64) sets (λ s m. omega (arith, h, below-e (2 ^ length (k .cands)) m)))
 
 cheapest-fits : (rest : List ℕ) (c s : ℕ) → c < 2 ^ 16 → s < 2 ^ 64 → FitsBehind rest (Answer.cheapestIs c s)
 cheapest-fits rest c s h l = ((h, l), λ b. (omega arith, all-append (λ (b : ℕ). b < 256) (low 2 c) (low 8 s) (low-bytes 2 c) (low-bytes 8 s)))
@@ -125,12 +128,17 @@ sound-T t a s = record {
   inputs = s .inputs;
   outputs = s .outputs;
   few = omega (arith, nleb→lt 64 (length (t .problem .cands)) (a .1 .1 .0), length-append (t .problem .cands) (operandTerm t ∷ []));
-  small = all-append Small (t .problem .cands) (operandTerm t ∷ []) (s .small) (formed-small (tableOf (t .problem)) (operandTerm t) (s .inputs) (s .outputs) (formed-e (tableOf (t .problem)) (operandTerm t) (twice (formed (tableOf (t .problem)) (operandTerm t)) (a .0))), tt);
+  small =
+      let p = tableOf (t .problem) in
+      let u = operandTerm t in
+      all-append Small (t .problem .cands) (u ∷ []) (s .small) (formed-small p u (s .inputs) (s .outputs) (formed-e p u (twice (formed p u) (a .0))), tt);
 }
 
 fits-P : (t : Context) → NoneApplies (refusalsOf t Kind.P) → Sound (t .problem) → FitsBehind (t .rest) (answerFor t Kind.P)
 unfolding refusalsOf answerFor
-fits-P t a s = (tt, λ b. (omega arith, (omega (arith, nltb→le 64 (length (primes (tableOf (t .problem)))) (a .0)), terms-bytes (primes (tableOf (t .problem))) (primes-small (tableOf (t .problem)) (s .inputs) (s .outputs)))))
+fits-P t a s =
+    let p = tableOf (t .problem) in
+    (tt, λ b. (omega arith, (omega (arith, nltb→le 64 (length (primes p)) (a .0)), terms-bytes (primes p) (primes-small p (s .inputs) (s .outputs)))))
 
 fits-C : (t : Context) → NoneApplies (refusalsOf t Kind.C) → Sound (t .problem) → FitsBehind (t .rest) (answerFor t Kind.C)
 unfolding refusalsOf answerFor cost
@@ -151,7 +159,12 @@ lawful-at t Kind.R = record {
 lawful-at t Kind.T = record { numbered = (omega arith, (omega arith, (omega arith, tt))); sound = sound-T t; fits = λ a s. (tt, λ b. tt) }
 lawful-at t Kind.P = record {
   numbered = (omega arith, tt);
-  sound = λ a s. record { inputs = s .inputs; outputs = s .outputs; few = nltb→le 64 (length (primes (tableOf (t .problem)))) (a .0); small = primes-small (tableOf (t .problem)) (s .inputs) (s .outputs) };
+  sound = λ a s. record {
+    inputs = s .inputs;
+    outputs = s .outputs;
+    few = nltb→le 64 (length (primes (tableOf (t .problem)))) (a .0);
+    small = primes-small (tableOf (t .problem)) (s .inputs) (s .outputs);
+  };
   fits = fits-P t;
 }
 lawful-at t Kind.L = record {
@@ -206,7 +219,10 @@ module _ (rules : Rules) (law : Lawful rules) where
 
   fine : (job : List ℕ) (room : ℕ) → All Fits (runBy rules job room .answers) × (Bytes job → Bytes (join (map bytesOf (runBy rules job room .answers))))
   fine job room = run-ind rules law Fine (λ q free at s. (tt, λ y. tt)) (λ q b bs free at n s. (tt, λ y. tt)) fine-ends fine-goes
-      (λ r. All Fits (r .answers) × (Bytes job → Bytes (join (map bytesOf (r .answers))))) job room (λ l. (tt, λ y. tt)) (λ l m r f. f (record { inputs = omega arith; outputs = omega arith; few = omega arith; small = tt }))
+      (λ r. All Fits (r .answers) × (Bytes job → Bytes (join (map bytesOf (r .answers))))) job room (λ l. (tt, λ y. tt)) (λ l m r f. f none)
+    where
+      none : Sound empty
+      none = record { inputs = omega arith; outputs = omega arith; few = omega arith; small = tt }
 
   pub run-fits : (job : List ℕ) (room : ℕ) → All Fits (runBy rules job room .answers)
   run-fits job room = fine job room .0

@@ -106,7 +106,9 @@ after-valid t Kind.R p a s = valid-R t p a s
 after-valid t Kind.T p a s =
     valid-cands (t .problem) inTerms (t .problem .cands ++ (operandTerm t ∷ [])) (omega arith) (place-one Kind.T (t .problem .place) tt p) s
     (all-append (λ (u : Term). T (legal (tableOf (t .problem)) u)) (t .problem .cands) (operandTerm t ∷ []) (s .legal) (legal-term t a, tt)) (after-sound t Kind.T a (s .sound))
-after-valid t Kind.P p a s = valid-cands (t .problem) queried (primes (tableOf (t .problem))) (omega arith) (place-one Kind.P (t .problem .place) tt p) s (primes-legal (tableOf (t .problem))) (after-sound t Kind.P a (s .sound))
+after-valid t Kind.P p a s =
+    let ts = primes (tableOf (t .problem)) in
+    valid-cands (t .problem) queried ts (omega arith) (place-one Kind.P (t .problem .place) tt p) s (primes-legal (tableOf (t .problem))) (after-sound t Kind.P a (s .sound))
 after-valid t Kind.L p a s = valid-cands (t .problem) queried (t .problem .cands) (omega arith) (place-one Kind.L (t .problem .place) tt p) s (s .legal) (after-sound t Kind.L a (s .sound))
 after-valid t Kind.C p a s = valid-cands (t .problem) queried (t .problem .cands) (omega arith) (place-one Kind.C (t .problem .place) tt p) s (s .legal) (after-sound t Kind.C a (s .sound))
 after-valid t Kind.E p a s = s
