@@ -20,9 +20,9 @@ use Rattle.model.specs.Refusals.{size, Refusal, refuse, firstOf, refusal
 use Rattle.model.specs.Rules.{engine}
 use Rattle.model.specs.Library.{unpack, badVertex, refusalsOfWord, callRefusals, Listed, listCovers, setsOf, joinedRows}
 use Rattle.model.specs.Invariants.{Small, Valid}
-use Rattle.model.proofs.Lists.{twice, and-l, and-r, and-i, some-e, all-append, all-left, all-filter, all-take, all-of}
+use Rattle.model.proofs.Lists.{twice, T-false, and-l, and-r, and-i, some-e, all-append, all-left, all-filter, all-take, all-of}
 use Rattle.model.proofs.Sets.{listed}
-use Rattle.model.proofs.Pages.{rising, joined-below, step, more-iff}
+use Rattle.model.proofs.Pages.{rising, upto-got, step, more-iff}
 use Rattle.model.proofs.Legal.{legal-basis}
 use Rattle.model.proofs.Runs.{Numbered, first-none, NoneApplies, Passed}
 use Rattle.model.proofs.Valid.{place-one}
@@ -73,43 +73,35 @@ pub record Refused (old : List ℕ) (n : ℕ) (l : Listed) : Type 0 where
 
 pub listed-refused : (p : Table) (words : List ℕ) (a : ℕ) (old : List ℕ) → T (not (eqb (firstOf (callRefusals p words)) 0)) → Refused old (firstOf (callRefusals p words)) (listCovers p words a old)
 unfolding listCovers
-listed-refused p words a old n = go (eqb (firstOf (callRefusals p words)) 0) refl n
-  where
-    all : List ℕ
-    all = irredundants (covering (basis p (map unpack words)))
-
-    ss : List ℕ
-    ss = page all a (length old)
-
-    go : (b : Bool) → eqb (firstOf (callRefusals p words)) 0 ≡ b → T (not b)
-        → Refused old (firstOf (callRefusals p words)) (cond b (record { number = 0; filled = length ss; above = more all a (length old); row = ss ++ drop (length ss) old }) (record { number = firstOf (callRefusals p words); filled = 0; above = false; row = old }))
-    go true e t = absurd t
-    go false e t = record { number = refl; filled = refl; above = refl; row = refl }
+listed-refused p words a old n = rw (T-false {b = eqb (firstOf (callRefusals p words)) 0} n) (record { number = refl; filled = refl; above = refl; row = refl })
 
 module _ (p : Table) (words : List ℕ) (z : firstOf (callRefusals p words) ≡ 0) where
   abbrev all : List ℕ
   all = irredundants (covering (basis p (map unpack words)))
 
+  up : Rising 0 all
+  up = rising (covering (basis p (map unpack words)))
+
   joined-part : (g left : List ℕ) (olds : List (List ℕ)) → all ≡ g ++ left → (rem : List ℕ) × (all ≡ joinedRows p words g olds ++ rem)
   joined-part g left [] e = (left, e)
   joined-part g left (old ∷ olds) e =
+      let more : all ≡ (g ++ page all (nextStart g) (length old)) ++ drop (length old) left = step all up g left (length old) e in
       joined-part (g ++ setsOf (listCovers p words (nextStart g) old)) (drop (length old) left) olds
-      (subst⁻¹ (λ (ss : List ℕ). all ≡ (g ++ ss) ++ drop (length old) left) (listed-told p words (nextStart g) old z .sets) (step all (rising (covering (basis p (map unpack words)))) g left (length old) e))
+      (subst⁻¹ (λ (ss : List ℕ). all ≡ (g ++ ss) ++ drop (length old) left) (listed-told p words (nextStart g) old z .sets) more)
 
   -- the rows joined are the sets up to the last one joined
   pub joined-rows : (olds : List (List ℕ)) → joinedRows p words [] olds ≡ filter (λ s. ltb s (nextStart (joinedRows p words [] olds))) all
   joined-rows olds =
       let q = joined-part [] all olds refl in
-      let g : List ℕ = joinedRows p words [] olds in
-      sym (subst⁻¹ (λ (l : List ℕ). filter (λ s. ltb s (nextStart g)) l ≡ g) (q .1) (joined-below 0 g (q .0) (subst (λ (l : List ℕ). Rising 0 l) (q .1) (rising (covering (basis p (map unpack words)))))))
+      sym (upto-got all up (joinedRows p words [] olds) (q .0) (q .1))
 
   -- one more row says "none above" exactly when none is missing
-  pub joined-last : (olds : List (List ℕ)) (old : List ℕ)
-      → T (not (listCovers p words (nextStart (joinedRows p words [] olds)) old .above)) ↔ (all ≡ joinedRows p words [] olds ++ setsOf (listCovers p words (nextStart (joinedRows p words [] olds)) old))
+  pub joined-last : (olds : List (List ℕ)) (old : List ℕ) → let g = joinedRows p words [] olds in let l = listCovers p words (nextStart g) old in
+      T (not (l .above)) ↔ (all ≡ g ++ setsOf l)
   joined-last olds old =
       let q = joined-part [] all olds refl in
       let t = listed-told p words (nextStart (joinedRows p words [] olds)) old z in
-      rw (t .above, t .sets) (more-iff all (rising (covering (basis p (map unpack words)))) (joinedRows p words [] olds) (q .0) (length old) (q .1))
+      rw (t .above, t .sets) (more-iff all up (joinedRows p words [] olds) (q .0) (length old) (q .1))
 
 -- ---- what an accepted call was given
 

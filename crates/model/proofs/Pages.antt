@@ -51,7 +51,7 @@ keep b c [] r h = refl
 keep b c (y ∷ ys) r h = rw (T-true {b = leb c y} (le→leb c y (omega (arith, r .0))), keep (suc y) c ys (r .1) (omega (arith, r .0)))
 
 -- what stands at or above the next start is what is not joined
-pub rest : (b : ℕ) (xs ys : List ℕ) → Rising b (xs ++ ys) → filter (leb (oneAbove b xs)) (xs ++ ys) ≡ ys
+rest : (b : ℕ) (xs ys : List ℕ) → Rising b (xs ++ ys) → filter (leb (oneAbove b xs)) (xs ++ ys) ≡ ys
 rest b [] ys r = keep b b ys r (le-refl b)
 rest b (x ∷ xs) ys r = rw (T-false {b = leb (oneAbove (suc x) xs) x} (lt→nleb (oneAbove (suc x) xs) x (oneAbove-ge (suc x) xs ys (r .1))), rest (suc x) xs ys (r .1))
 
@@ -60,7 +60,7 @@ none-below b c [] r h = refl
 none-below b c (y ∷ ys) r h = rw (T-false {b = ltb y c} (le→nltb y c (omega (arith, r .0))), none-below (suc y) c ys (r .1) (omega (arith, r .0)))
 
 -- and what stands below it is what is joined
-pub joined-below : (b : ℕ) (xs ys : List ℕ) → Rising b (xs ++ ys) → filter (λ s. ltb s (oneAbove b xs)) (xs ++ ys) ≡ xs
+joined-below : (b : ℕ) (xs ys : List ℕ) → Rising b (xs ++ ys) → filter (λ s. ltb s (oneAbove b xs)) (xs ++ ys) ≡ xs
 joined-below b [] ys r = none-below b b ys r (le-refl b)
 joined-below b (x ∷ xs) ys r = rw (T-true {b = ltb x (oneAbove (suc x) xs)} (lt→ltb x (oneAbove (suc x) xs) (oneAbove-ge (suc x) xs ys (r .1))), joined-below (suc x) xs ys (r .1))
 
@@ -70,6 +70,12 @@ module _ (all : List ℕ) (up : Rising 0 all) where
   atOrAbove-left got left e =
       let r = rest 0 got left (subst (λ (l : List ℕ). Rising 0 l) e up) in
       subst⁻¹ (λ (l : List ℕ). filter (leb (nextStart got)) l ≡ left) e r
+
+  -- what is joined is what stands below the next start
+  pub upto-got : (got left : List ℕ) → all ≡ got ++ left → filter (λ s. ltb s (nextStart got)) all ≡ got
+  upto-got got left e =
+      let r = joined-below 0 got left (subst (λ (l : List ℕ). Rising 0 l) e up) in
+      subst⁻¹ (λ (l : List ℕ). filter (λ s. ltb s (nextStart got)) l ≡ got) e r
 
   -- one page more
   pub step : (got left : List ℕ) (c : ℕ) → all ≡ got ++ left → all ≡ (got ++ page all (nextStart got) c) ++ drop c left
