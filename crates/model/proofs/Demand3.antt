@@ -11,21 +11,21 @@ use lib.ListN.{length}
 use Rattle.model.specs.Base.{All}
 use Rattle.model.specs.Sets.{coverable, cost, cheapest, Best}
 use Rattle.model.specs.Pages.{PageOf}
-use Rattle.model.specs.Candidates.{Basis, covering, LegalBasis}
-use Rattle.model.specs.Commands.{Kind, is, isQueryKind, width, allowed, basisOf, Context, coveringOf}
+use Rattle.model.specs.Candidates.{Basis, covering, HoldsExactly, LegalBasis}
+use Rattle.model.specs.Commands.{Kind, is, isQueryKind, width, allowed, basisOf, Context, start, count, coveringOf}
 use Rattle.model.specs.Answers.{Answer, hasBytes, answerFor, answer, bytesOf}
 use Rattle.model.specs.Refusals.{refuse, refusalsOf}
 use Rattle.model.specs.Rules.{engine, refusalsBy, refusalBy, refusal}
 use Rattle.model.specs.Invariants.{Valid}
 use Rattle.model.specs.Exchanges.{Exchange, pageIn}
-use Rattle.model.specs.Demand3.{HasBasis, StandsOn, coversOf, NoCheaperList, Correct, Acceptable, CorrectExchange, Demand, Demand3}
+use Rattle.model.specs.Demand3.{HasBasis, StandsOn, coversOf, NoCheaperList, setsIn, Correct, Acceptable, CorrectExchange, Demand, Demand3}
 use Rattle.model.proofs.Lists.{and-l, and-r, T-true, all-to}
-use Rattle.model.proofs.Sets.{listed}
-use Rattle.model.proofs.Pages.{rising}
+use Rattle.model.proofs.Sets.{listed, cheapest-irredundant}
+use Rattle.model.proofs.Pages.{rising, all-page}
 use Rattle.model.proofs.Cheapest.{cheapest-best}
 use Rattle.model.proofs.Representations.{no-cheaper-list, cost-dearer}
 use Rattle.model.proofs.Codes.{is-kind, any-query}
-use Rattle.model.proofs.Legal.{legal-basis}
+use Rattle.model.proofs.Legal.{legal-basis, all-exactly}
 use Rattle.model.proofs.Sound.{engine-lawful}
 use Rattle.model.proofs.Valid.{valid}
 use Rattle.model.proofs.Exchanges.{reply-refused, reply-answered, Replied, RepliedIn, claim, Lists, gives}
@@ -92,6 +92,20 @@ has-bytes : (x : Context) (k : Kind) → T (isQueryKind k) → T (hasBytes (answ
 unfolding answerFor
 has-bytes x = any-query (λ k. T (hasBytes (answerFor x k))) (tt, (tt, tt))
 
+-- each set of the answer holds every wanted cell and no off cell
+sets-exactly : (b : Basis) (x : Context) → HasBasis b x → LegalBasis b → T (coverable (covering b)) → (k : Kind) → T (isQueryKind k) → All (HoldsExactly b) (setsIn (answerFor x k))
+unfolding answerFor
+sets-exactly b x s l c = subst (λ (z : Basis). LegalBasis z → T (coverable (covering z)) → (k : Kind) → T (isQueryKind k) → All (HoldsExactly z) (setsIn (answerFor x k))) s own l c
+  where
+    z : Basis
+    z = basisOf (x .problem)
+
+    own : LegalBasis z → T (coverable (covering z)) → (k : Kind) → T (isQueryKind k) → All (HoldsExactly z) (setsIn (answerFor x k))
+    own l c = any-query (λ k. All (HoldsExactly z) (setsIn (answerFor x k))) (
+      all-page (HoldsExactly z) (coversOf z) (start x) (count x) (all-exactly z l),
+      ((l .covers (cheapest (covering z)) .0 (cheapest-irredundant (covering z) c .covering), tt), tt),
+    )
+
 -- the candidates of a valid problem are legal
 abbrev Fine : Context → Type 0
 Fine x = Valid (x .problem)
@@ -118,13 +132,14 @@ correct-exchange b e r s = go (eqb (refusal x) 0) refl
         let y : e .reply ≡ answer x = r .0 ∙ reply-answered engine x z in
         record {
           legal = lawful;
+          exactly = subst⁻¹ (λ (u : Answer). All (HoldsExactly b) (setsIn u)) y (sets-exactly b x (s .1) lawful (iff .0 z .coverable) (x .kind) a);
           answered = (λ h. iff .0 z, λ h. subst⁻¹ (λ (u : Answer). T (hasBytes u)) y (has-bytes x (x .kind) a));
           correct = λ h. subst⁻¹ (Correct b x) y (correct b x (s .1) (h .coverable));
         }
     go false c =
         let n : T (not (eqb (refusal x) 0)) = rw c tt in
         let y : e .reply ≡ Answer.nothing = r .0 ∙ reply-refused engine x n in
-        record { legal = lawful; answered = (λ h. absurd (subst (λ (u : Answer). T (hasBytes u)) y h), λ h. absurd (no n (iff .1 h))); correct = λ h. absurd (no n (iff .1 h)) }
+        record { legal = lawful; exactly = subst⁻¹ (λ (u : Answer). All (HoldsExactly b) (setsIn u)) y tt; answered = (λ h. absurd (subst (λ (u : Answer). T (hasBytes u)) y h), λ h. absurd (no n (iff .1 h))); correct = λ h. absurd (no n (iff .1 h)) }
       where
         no : T (not (eqb (refusal x) 0)) → refusal x ≡ 0 → ⊥
         no n z = rw z at n

@@ -5,10 +5,10 @@ use mathlib.Core.List.{List, [], _∷_, List·Memᴰ, List·Memᴰ·head, List·
 use lib.Dec.{T, T-not}
 use Rattle.model.specs.Base.{bit, All}
 use Rattle.model.specs.Table.{Table, Cell, Term, cells, isOn, isOff, onCells, holds, formed, holdsNoOff, legal}
-use Rattle.model.specs.Sets.{members, cover}
+use Rattle.model.specs.Sets.{members, cover, irredundants}
 use Rattle.model.specs.Candidates.{Basis, covering, HoldsExactly, LegalBasis}
-use Rattle.model.proofs.Lists.{and-r, and-i, every-e, filter-e, filter-i, all-e}
-use Rattle.model.proofs.Sets.{cover-e, cover-i}
+use Rattle.model.proofs.Lists.{and-r, and-i, every-e, filter-e, filter-i, all-of, all-e}
+use Rattle.model.proofs.Sets.{cover-e, cover-i, listed}
 
 -- a member is one of the candidates
 member-in : {A : Type 0} (ts : List A) (s : ℕ) {t : A} → List·Memᴰ t (members ts s) → List·Memᴰ t ts
@@ -42,3 +42,7 @@ legal-basis b l = record { legal-cands = l; covers = λ s. (to s, back s) }
 
     back : (s : ℕ) → HoldsExactly b s → T (cover (covering b) s)
     back s h = cover-i (covering b) s (λ x m. let q = filter-e (isOn p) (cells p) m in h .every-wanted x (q .0) (q .1))
+
+-- so each irredundant cover does
+pub all-exactly : (b : Basis) → LegalBasis b → All (HoldsExactly b) (irredundants (covering b))
+all-exactly b l = all-of (HoldsExactly b) (irredundants (covering b)) (λ s m. l .covers s .0 (listed (covering b) s .0 m .covering))

@@ -5,7 +5,7 @@ use mathlib.Core.Path.{_≡_, refl, sym, ap, ap₂, _∙_, subst, subst⁻¹}
 use mathlib.Core.Logic.{_↔_}
 use mathlib.Core.Bool.{Bool, true, false, not, cond, _&&_}
 use mathlib.Core.List.{List, [], _∷_, _++_, map}
-use lib.Dec.{T, leb, ltb, eqb, eqb→eq, eqb-refl, not-T, T-not}
+use lib.Dec.{T, ltb, eqb, eqb→eq, eqb-refl, not-T, T-not}
 use lib.Arith.{le→nltb}
 use lib.Seq.{take-append-seam, drop-append-seam}
 use lib.ListN.{length, drop, length-take, length-append, length-drop, length-map}
@@ -20,10 +20,9 @@ use Rattle.model.specs.Refusals.{size, Refusal, refuse, firstOf, refusal
 use Rattle.model.specs.Rules.{engine}
 use Rattle.model.specs.Library.{unpack, badVertex, refusalsOfWord, callRefusals, Listed, listCovers, setsOf, joinedRows}
 use Rattle.model.specs.Invariants.{Small, Valid}
-use Rattle.model.proofs.Lists.{twice, T-false, and-l, and-r, and-i, some-e, all-append, all-left, all-filter, all-take, all-of}
-use Rattle.model.proofs.Sets.{listed}
-use Rattle.model.proofs.Pages.{rising, upto-got, step, more-iff}
-use Rattle.model.proofs.Legal.{legal-basis}
+use Rattle.model.proofs.Lists.{twice, T-false, and-l, and-r, and-i, some-e, all-append, all-left}
+use Rattle.model.proofs.Pages.{rising, all-page, upto-got, step, more-iff}
+use Rattle.model.proofs.Legal.{legal-basis, all-exactly}
 use Rattle.model.proofs.Runs.{Numbered, first-none, NoneApplies, Passed}
 use Rattle.model.proofs.Valid.{place-one}
 
@@ -136,16 +135,11 @@ none-told p words a old z = go (eqb n 0) refl
 -- an accepted call: its terms are legal, and each set that it fills holds every wanted cell and no off cell
 pub listed-legal : (p : Table) (words : List ℕ) (a : ℕ) (old : List ℕ) → listCovers p words a old .number ≡ 0
     → LegalBasis (basis p (map unpack words)) × All (HoldsExactly (basis p (map unpack words))) (setsOf (listCovers p words a old))
-unfolding callRefusals page atOrAbove
-listed-legal p words a old z =
-    let sets = all-take (HoldsExactly b) (length old) (filter (leb a) all) (all-filter (HoldsExactly b) (leb a) all each) in
-    (fair, subst⁻¹ (All (HoldsExactly b)) (listed-told p words a old none .sets) sets)
+unfolding callRefusals
+listed-legal p words a old z = (fair, subst⁻¹ (All (HoldsExactly b)) (listed-told p words a old none .sets) (all-page (HoldsExactly b) (irredundants (covering b)) a (length old) (all-exactly b fair)))
   where
     b : Basis
     b = basis p (map unpack words)
-
-    all : List ℕ
-    all = irredundants (covering b)
 
     none : firstOf (callRefusals p words) ≡ 0
     none = none-told p words a old z
@@ -157,9 +151,6 @@ listed-legal p words a old z =
     fair =
         let h = first-none (callRefusals p words) (call-numbered p words) none in
         legal-basis b (words-legal p words (all-left (λ (r : Refusal). T (not (r .applies))) (join (map (refusalsOfWord p) words)) last (h .1 .1 .1)))
-
-    each : All (HoldsExactly b) all
-    each = all-of (HoldsExactly b) all (λ s m. fair .covers s .0 (listed (covering b) s .0 m .covering))
 
 -- ---- the library call on what a job has
 

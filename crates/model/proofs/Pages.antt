@@ -11,10 +11,10 @@ use lib.Dec.{T, leb, ltb, nltb→le, le→leb, lt→ltb}
 use lib.Arith.{lt→nleb, le→nltb}
 use lib.Seq.{take-all}
 use lib.ListN.{length, take, drop, take-append-drop, length-take, length-append}
-use Rattle.model.specs.Base.{from, filter}
+use Rattle.model.specs.Base.{from, filter, All}
 use Rattle.model.specs.Sets.{Covering, irredundant, irredundants}
 use Rattle.model.specs.Pages.{Rising, atOrAbove, page, more, oneAbove, nextStart}
-use Rattle.model.proofs.Lists.{T-true, T-false}
+use Rattle.model.proofs.Lists.{T-true, T-false, all-take, all-filter}
 
 pub rising-down : (a b : ℕ) (xs : List ℕ) → a ≤ b → Rising b xs → Rising a xs
 rising-down a b [] h r = tt
@@ -63,6 +63,11 @@ none-below b c (y ∷ ys) r h = rw (T-false {b = ltb y c} (le→nltb y c (omega 
 joined-below : (b : ℕ) (xs ys : List ℕ) → Rising b (xs ++ ys) → filter (λ s. ltb s (oneAbove b xs)) (xs ++ ys) ≡ xs
 joined-below b [] ys r = none-below b b ys r (le-refl b)
 joined-below b (x ∷ xs) ys r = rw (T-true {b = ltb x (oneAbove (suc x) xs)} (lt→ltb x (oneAbove (suc x) xs) (oneAbove-ge (suc x) xs ys (r .1))), joined-below (suc x) xs ys (r .1))
+
+-- what is so of each set is so of each of a page
+pub all-page : (P : ℕ → Type 0) (all : List ℕ) (a c : ℕ) → All P all → All P (page all a c)
+unfolding page atOrAbove
+all-page P all a c h = all-take P c (filter (leb a) all) (all-filter P (leb a) all h)
 
 module _ (all : List ℕ) (up : Rising 0 all) where
   atOrAbove-left : (got left : List ℕ) → all ≡ got ++ left → atOrAbove all (nextStart got) ≡ left

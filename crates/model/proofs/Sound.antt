@@ -8,8 +8,8 @@ use mathlib.Core.List.{List, [], _∷_, map}
 use lib.Dec.{T, leb, leb→le, nleb→lt, nltb→le}
 use lib.Pow.{pow-mono}
 use lib.Count.{ones-le}
-use lib.ListN.{getD, length, take, length-take, length-append}
-use Rattle.model.specs.Base.{bit, below, filter, join, sum, All, Bytes}
+use lib.ListN.{getD, length, length-take, length-append}
+use Rattle.model.specs.Base.{bit, below, join, sum, All, Bytes}
 use Rattle.model.specs.Table.{Table, Term, formed}
 use Rattle.model.specs.Primes.{primes}
 use Rattle.model.specs.Sets.{Covering, members, coverable, irredundant, irredundants, cost, cheapest}
@@ -21,9 +21,10 @@ use Rattle.model.specs.Refusals.{size, refusalsOf}
 use Rattle.model.specs.Rules.{Rules, engine}
 use Rattle.model.specs.Job.{runBy, written}
 use Rattle.model.specs.Invariants.{Small, Sound}
-use Rattle.model.proofs.Lists.{twice, and-l, and-r, below-e, all-append, all-filter, all-take, all-drop, all-of}
+use Rattle.model.proofs.Lists.{twice, and-l, and-r, below-e, all-append, all-filter, all-drop, all-of}
 use Rattle.model.proofs.Bits.{within-le}
 use Rattle.model.proofs.Sets.{cheapest-irredundant}
+use Rattle.model.proofs.Pages.{all-page}
 use Rattle.model.proofs.Cubes.{Formed, formed-e, legal-formed, prime-e, primes-e}
 use Rattle.model.proofs.Codes.{is-kind}
 use Rattle.model.proofs.Runs.{Numbered, NoneApplies, Lawful, context, OnRuns, IfEnds, IfGoes, run-ind}
@@ -71,10 +72,10 @@ FitsBehind rest a = Fits a × (Bytes rest → Bytes (bytesOf a))
 
 -- a page of any list of 64-bit sets
 pub page-fits : (t : Context) (list : List ℕ) (m : Bool) → All (λ s. s < 2 ^ 64) list → FitsBehind (t .rest) (Answer.paged (page list (start t) (count t)) m)
-unfolding page atOrAbove
+unfolding page
 page-fits t list m a = (
-  all-take (λ (s : ℕ). s < 2 ^ 64) (count t) (filter (leb (start t)) list) (all-filter (λ (s : ℕ). s < 2 ^ 64) (leb (start t)) list a),
-  λ b. (omega arith, (omega (arith, length-take (count t) (filter (leb (start t)) list), getD-byte (t .rest) 8 b), (flag-byte m, sets-bytes (take (count t) (filter (leb (start t)) list))))),
+  all-page (λ (s : ℕ). s < 2 ^ 64) list (start t) (count t) a,
+  λ b. (omega arith, (omega (arith, length-take (count t) (atOrAbove list (start t)), getD-byte (t .rest) 8 b), (flag-byte m, sets-bytes (page list (start t) (count t))))),
 )
 
 pub listed-small : {A X : Type 0} (k : Covering A X) → length (k .cands) ≤ 64 → All (λ s. s < 2 ^ 64) (irredundants k)
