@@ -139,7 +139,12 @@ correct-exchange b e r s = go (eqb (refusal x) 0) refl
     go false c =
         let n : T (not (eqb (refusal x) 0)) = rw c tt in
         let y : e .reply ≡ Answer.nothing = r .0 ∙ reply-refused engine x n in
-        record { legal = lawful; exactly = subst⁻¹ (λ (u : Answer). All (HoldsExactly b) (setsIn u)) y tt; answered = (λ h. absurd (subst (λ (u : Answer). T (hasBytes u)) y h), λ h. absurd (no n (iff .1 h))); correct = λ h. absurd (no n (iff .1 h)) }
+        record {
+          legal = lawful;
+          exactly = subst⁻¹ (λ (u : Answer). All (HoldsExactly b) (setsIn u)) y tt;
+          answered = (λ h. absurd (subst (λ (u : Answer). T (hasBytes u)) y h), λ h. absurd (no n (iff .1 h)));
+          correct = λ h. absurd (no n (iff .1 h));
+        }
       where
         no : T (not (eqb (refusal x) 0)) → refusal x ≡ 0 → ⊥
         no n z = rw z at n
