@@ -228,7 +228,7 @@ wider-same p t u f g w a c = same-i t u a (bits-ext (t .value) (u .value) (λ i.
 size : Table → Term → ℕ
 size p t = t .care + (2 ^ p .m - t .outputs)
 
--- another legal term that contains t is of smaller size
+-- of two terms, one wider than the other and not the same, the wider is of smaller size
 smaller : (p : Table) (t u : Term) → Formed p t → Formed p u → Wider t u → T (not (sameTerm t u)) → size p t < size p u
 unfolding size
 smaller p t u f g w n =

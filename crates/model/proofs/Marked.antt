@@ -2,7 +2,7 @@
 use Prim.Native.Nat.{_+_, _*_, _^_, _<_}
 use native.Mathlib.Omega.{arith}
 use mathlib.Core.Path.{_≡_, refl}
-use mathlib.Core.List.{map}
+use mathlib.Core.List.{[], map}
 use lib.Dec.{T, ltb, lt→ltb}
 use lib.Arith.{le→nltb}
 use lib.Count.{ones, onesIn}
@@ -17,7 +17,8 @@ use Rattle.model.specs.Answers.{answer, answerFor}
 use Rattle.model.specs.Refusals.{refusalsOf}
 use Rattle.model.specs.Rules.{refusal, refusalBy, refusalsBy}
 use Rattle.model.specs.Job.{run, runBy, packed, written}
-use Rattle.model.specs.Cases.{outcome, cases, example, examplePrimes, exampleJob, exampleAnswers, countZeroJob, countZeroAnswers, stops}
+use Rattle.model.specs.Library.{callRefusals, listCovers}
+use Rattle.model.specs.Cases.{outcome, cases, example, examplePrimes, exampleJob, exampleAnswers, countZeroJob, countZeroAnswers, stops, refusedCalls}
 use Rattle.model.proofs.Lists.{T-true, T-false}
 
 -- a to h
@@ -57,3 +58,8 @@ primes-before-room x e a h =
     let many = ltb 64 (length (primes (tableOf (x .problem)))) in
     let short = ltb (length (x .rest)) (width Kind.P) in
     rw (e, T-true {b = allowed Kind.P (x .problem .place)} a, T-false {b = short} (le→nltb (length (x .rest)) 0 (omega arith)), T-true {b = many} (lt→ltb 64 _ h))
+
+-- library calls that are refused
+pub refused-calls : map (λ c. listCovers (c .of) (c .words) 0 [] .number) refusedCalls ≡ map (λ c. c .number) refusedCalls
+unfolding listCovers callRefusals irredundants irredundant redundant cover covers coverable isOn onCells cells holds formed holdsNoOff isOff isDc page more atOrAbove
+refused-calls = refl

@@ -1,8 +1,9 @@
 -- Paper 01, "The two-output example of document 003": the marked cases as one table, and the job with all its bytes
 -- (theorems: proofs/Marked).
-use Prim.Native.Nat.{ℕ, zero, suc}
+use Prim.Native.Nat.{ℕ, zero, suc, _+_}
 use mathlib.Core.Bool.{cond}
 use mathlib.Core.List.{List, [], _∷_, _++_, map}
+use lib.ListN.{replicate}
 use Rattle.model.specs.Table.{Table, Term, term}
 use Rattle.model.specs.Primes.{primes}
 use Rattle.model.specs.Sets.{coverable, irredundants, cost, cheapest}
@@ -190,3 +191,41 @@ stops =
 -- "count 0 holds none and tells whether one stands there"
 abbrev pub countZeroAnswers : List ℕ
 countZeroAnswers = 0x6c ∷ 0 ∷ 1 ∷ 0x65 ∷ []
+
+-- ---- library calls that are refused, each with its number. Where two refusals apply, the first in the paper's order is given
+
+pub record RefusedCall : Type 0 where
+  pub of : Table
+  pub words : List ℕ
+  pub number : ℕ
+
+abbrev refusedCall : Table → List ℕ → ℕ → RefusedCall
+refusedCall p words n = record { of = p; words = words; number = n }
+
+-- outputs 1 and care 0: both vertices; outputs 0 is malformed
+abbrev whole : ℕ
+whole = 65536
+
+abbrev malformed : ℕ
+malformed = 0
+
+abbrev pub refusedCalls : List RefusedCall
+refusedCalls =
+    -- 6: before 8: a row not 2^n long; nine outputs
+    refusedCall (table 1 1 (1 ∷ []) (1 ∷ [])) [] 6
+    ∷ refusedCall (table 1 9 (0 ∷ 0 ∷ []) (0 ∷ 0 ∷ [])) [] 6
+    -- 8: before 11
+    ∷ refusedCall (table 1 1 (0 ∷ 1 ∷ []) (0 ∷ 1 ∷ [])) (replicate 65 whole) 8
+    -- 11: before 9
+    ∷ refusedCall bothOn (replicate 65 malformed) 11
+    -- 9: before 10, by the top byte; before 12
+    ∷ refusedCall noRows ((0x1000000 + whole) ∷ []) 9
+    ∷ refusedCall bothOn (malformed ∷ []) 9
+    -- 9 and 10 term by term
+    ∷ refusedCall noRows (malformed ∷ whole ∷ []) 9
+    ∷ refusedCall noRows (whole ∷ malformed ∷ []) 10
+    -- 10: before 12
+    ∷ refusedCall (table 1 1 (1 ∷ 0 ∷ []) (0 ∷ 0 ∷ [])) (whole ∷ []) 10
+    -- 12
+    ∷ refusedCall bothOn [] 12
+    ∷ []
