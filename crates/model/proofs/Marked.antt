@@ -1,4 +1,4 @@
--- The marked cases of paper 01, its primes and its job, by computation.
+-- The marked cases of paper 01, its primes and its job, and the tables of refusals, by computation.
 use Prim.Native.Nat.{_+_, _*_, _^_, _<_}
 use native.Mathlib.Omega.{arith}
 use mathlib.Core.Path.{_≡_, refl}
@@ -45,7 +45,7 @@ pub count-zero-bytes : written (run countZeroJob 4) ≡ countZeroAnswers
 unfolding irredundants irredundant redundant cover covers coverable isOn onCells cells holds termCost cost cheapest ones onesIn primes prime legal formed holdsNoOff isOff isDc contains sameTerm containedIn terms runBy kindOf written refusalBy refusalsBy refusalsOf answer answerFor problemAfter page more atOrAbove
 count-zero-bytes = refl
 
--- jobs that stop, a refusal or more each
+-- jobs with their number, offset and written
 pub stopped-jobs : map (λ c. packed (run (c .job) (c .room))) stops ≡ map (λ c. c .number * 2 ^ 32 + c .offset * 2 ^ 16 + c .written) stops
 unfolding irredundants irredundant redundant cover covers coverable isOn onCells cells holds termCost cost cheapest ones onesIn primes prime legal formed holdsNoOff isOff isDc contains sameTerm containedIn terms runBy kindOf packed written refusalBy refusalsBy refusalsOf answer answerFor problemAfter page more atOrAbove
 stopped-jobs = refl

@@ -1,5 +1,5 @@
--- Paper 01, "The two-output example of document 003": the marked cases as one table, and the job with all its bytes
--- (theorems: proofs/Marked).
+-- Paper 01, "The two-output example of document 003": the marked cases as one table, and the job with all its bytes;
+-- and tables of jobs and library calls that pin the order of refusals (theorems: proofs/Marked).
 use Prim.Native.Nat.{ℕ, zero, suc, _+_}
 use mathlib.Core.Bool.{cond}
 use mathlib.Core.List.{List, [], _∷_, _++_, map}
