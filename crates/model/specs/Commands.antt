@@ -1,10 +1,10 @@
 -- Paper 01, "Job stream": the commands, the problem so far, and what a command makes of it.
 use Prim.Native.Nat.{ℕ, zero, suc, _+_, _*_, _/_, _%_, _^_}
-use mathlib.Core.Bool.{Bool, cond, _&&_}
+use mathlib.Core.Bool.{Bool, true, false, cond, _&&_}
 use mathlib.Core.List.{List, [], _∷_, _++_}
 use lib.Dec.{leb, eqb}
 use lib.ListN.{getD, take, replicate, set}
-use Rattle.model.specs.Base.{some}
+use Rattle.model.specs.Base.{filter}
 use Rattle.model.specs.Table.{Table, Cell, Term, term}
 use Rattle.model.specs.Primes.{primes}
 use Rattle.model.specs.Sets.{Covering}
@@ -41,30 +41,32 @@ queried = 4
 
 -- ---- commands
 
--- "commands of one byte"; none is a byte that is no command
+-- "commands of one byte"; `none` is a byte that is no command
 pub data Kind : Type 0 where
   I R T P L C E none : Kind
 
--- "one byte with operands of fixed widths": the byte, the width, and the last place at which the command may stand
+-- "one byte with operands of fixed widths": the byte, the width, the last place at which the command may stand, and whether it is a
+-- query, which asks for covers
 pub record Form : Type 0 where
   pub code : ℕ
   pub width : ℕ
   pub last : ℕ
+  pub query : Bool
 
-abbrev form : ℕ → ℕ → ℕ → Form
-form code width last = record { code = code; width = width; last = last }
+abbrev form : ℕ → ℕ → ℕ → Bool → Form
+form code width last query = record { code = code; width = width; last = last; query = query }
 
 -- I "first, once"; R "after I, before any T, P, L or C"; T "after I and any R, not after P, L or C"; P "at most once, no T before it, not
 -- after L or C"; L, C and E "after I"
 abbrev pub formOf : Kind → Form
-formOf I = form 0x49 2 atStart
-formOf R = form 0x52 3 inRows
-formOf T = form 0x54 3 inTerms
-formOf P = form 0x50 0 inRows
-formOf L = form 0x4c 9 queried
-formOf C = form 0x43 0 queried
-formOf E = form 0x45 0 queried
-formOf none = form 0 0 atStart
+formOf I = form 0x49 2 atStart false
+formOf R = form 0x52 3 inRows false
+formOf T = form 0x54 3 inTerms false
+formOf P = form 0x50 0 inRows false
+formOf L = form 0x4c 9 queried true
+formOf C = form 0x43 0 queried true
+formOf E = form 0x45 0 queried false
+formOf none = form 0 0 atStart false
 
 abbrev pub width : Kind → ℕ
 width k = formOf k .width
@@ -80,15 +82,19 @@ abbrev pub firstKind : ℕ → List Kind → Kind
 firstKind b [] = none
 firstKind b (k ∷ ks) = let r = firstKind b ks in cond (eqb b (formOf k .code)) k r
 
+-- all commands
+abbrev pub kinds : List Kind
+kinds = I ∷ R ∷ T ∷ P ∷ L ∷ C ∷ E ∷ []
+
 unfoldable pub kindOf : ℕ → Kind
-kindOf b = firstKind b (I ∷ R ∷ T ∷ P ∷ L ∷ C ∷ E ∷ [])
+kindOf b = firstKind b kinds
+
+abbrev pub isQueryKind : Kind → Bool
+isQueryKind k = formOf k .query
 
 -- the queries
 abbrev pub queryKinds : List Kind
-queryKinds = L ∷ C ∷ []
-
-abbrev pub isQueryKind : Kind → Bool
-isQueryKind k = some (is k) queryKinds
+queryKinds = filter isQueryKind kinds
 
 -- ---- the problem so far
 

@@ -1,4 +1,4 @@
--- What every problem of a job keeps (laws `run-fits`, `valid`). Nothing here is from the paper: the engine's contracts cite it.
+-- What every problem of a job keeps (laws `after-sound`, `valid`). Nothing here is from the paper: the engine's contracts cite it.
 use Prim.Native.Nat.{ℕ, _^_, _≤_, _<_}
 use mathlib.Core.Path.{_≡_}
 use mathlib.Core.Bool.{not}
@@ -22,7 +22,7 @@ pub record Sound (q : Problem) : Type 0 where
   pub few : length (q .cands) ≤ 64
   pub small : All Small (q .cands)
 
--- from I on there is a row of bytes for each vertex; rows are well formed, no candidate comes before the rows, and candidates are legal
+-- from I on there is a row for each vertex; rows are well formed, there is no candidate while rows may come, and candidates are legal
 pub record Valid (q : Problem) : Type 0 where
   pub sound : Sound q
   pub sizes : begun ≤ q .place → T (size (q .settings .n)) × T (size (q .settings .m))
