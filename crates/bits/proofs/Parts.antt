@@ -1,12 +1,15 @@
 -- Parts of a set, a set without another, disjoint sets, and one member of a set, all by their bits.
 use mathlib.Core.Path.{_≡_, refl, sym, ap, _∙_, subst}
+use mathlib.Core.Bool.{Bool, true, false, cond}
 use mathlib.Core.Logic.{_⊎_, inl, inr, ⊎-elim}
 use Prim.Native.Nat.{ℕ, zero, suc, _-_, _/_, _%_, _^_, _≤_, _<_, min}
 use native.Mathlib.Omega.{arith}
 use lib.Arith.{bin-ind}
 use lib.Bits.{bitAnd, bitOr, bitXor, differ, and-le-r}
+use lib.Count.{ones}
+use lib.Dec.{ltb}
 use lib.Pow.{pow-mono}
-use Rattle.bits.specs.Bits.{digit, Single, Part, Minus, Member, Lowest}
+use Rattle.bits.specs.Bits.{digit, Single, Part, Minus, Member, Lowest, fewer}
 use Rattle.bits.proofs.Digits.{eq?, digit-first, digit-next, digit-lt, digit-and, digit-or, digit-xor, digit-ext, member-ext, a-member, pow-here, pow-only}
 use Rattle.bits.proofs.Members.{part-of, to-part, and-left, and-right, and-both, not-zero}
 
@@ -165,3 +168,13 @@ pub and-or : (t a b : ℕ) → bitAnd t (bitOr a b) ≡ bitOr (bitAnd t a) (bitA
 and-or t a b =
     digit-ext (bitAnd t (bitOr a b)) (bitOr (bitAnd t a) (bitAnd t b)) λ c.
     omega (arith, digit-and c t (bitOr a b), digit-or c a b, digit-or c (bitAnd t a) (bitAnd t b), digit-and c t a, digit-and c t b)
+
+-- ---- the one with fewer members
+
+pub fewer-either : (x y : ℕ) → (fewer x y ≡ x) ⊎ (fewer x y ≡ y)
+unfolding fewer
+fewer-either x y = go (ltb (ones y) (ones x))
+  where
+    go : (b : Bool) → (cond b y x ≡ x) ⊎ (cond b y x ≡ y)
+    go true = inr refl
+    go false = inl refl

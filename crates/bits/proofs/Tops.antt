@@ -1,14 +1,13 @@
 -- The highest member of a set, the members below a number, and the index of a single member.
 use mathlib.Core.Path.{_≡_, refl, sym, ap, _∙_, subst}
-use mathlib.Core.Logic.{⊎-elim}
 use Prim.Native.Nat.{ℕ, zero, suc, _+_, _-_, _*_, _/_, _%_, _^_, _≤_, _<_}
 use native.Mathlib.Nat.{div-eq-of-lt, mod-eq-of-lt, pow-suc}
 use native.Mathlib.Decide.{decLt}
 use native.Mathlib.Omega.{arith}
-use lib.Bits.{bitAnd, and-mask}
+use lib.Bits.{and-mask}
 use lib.Count.{leadingZeros, leading-top, trailingZeros, under}
 use lib.Pow.{pow-pos, pow-mono, pow-lt, high}
-use Rattle.bits.specs.Bits.{digit, Single, Member, Highest, Index}
+use Rattle.bits.specs.Bits.{digit, Single, Highest, Index}
 use Rattle.bits.proofs.Digits.{pow-here, pow-only}
 use Rattle.bits.proofs.Members.{part-of}
 use Rattle.bits.proofs.Parts.{by-members}

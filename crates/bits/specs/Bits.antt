@@ -1,8 +1,10 @@
 -- What the contracts on bits cite: a number's bits as numbers, and sets as numbers whose bits are the members.
 use mathlib.Core.Path.{_≡_}
-use mathlib.Core.Bool.{Bool, true, false}
+use mathlib.Core.Bool.{Bool, true, false, cond}
 use Prim.Native.Nat.{ℕ, _-_, _/_, _%_, _^_, _≤_, _<_}
 use lib.Bits.{bitAnd}
+use lib.Count.{ones}
+use lib.Dec.{ltb}
 
 -- r says whether P holds
 unfoldable pub Decides : Type 0 → Bool → Type 0
@@ -44,3 +46,7 @@ pub record Lowest (x m : ℕ) : Type 0 where
 pub record Index (m i : ℕ) : Type 0 where
   pub small : i < 64
   pub is : m ≡ 2 ^ i
+
+-- the one of x and y that has fewer members, x where they have as many
+unfoldable pub fewer : ℕ → ℕ → ℕ
+fewer x y = cond (ltb (ones y) (ones x)) y x

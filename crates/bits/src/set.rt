@@ -2,7 +2,7 @@
 ghost use mathlib.Core.Path.{_≡_};
 ghost use Prim.Native.Nat.{_-_, _^_, _≤_, _<_};
 ghost use Rattle.model.specs.Base.{bit};
-ghost use Rattle.bits.specs.Bits.{Decides, Single, Minus, Member, Highest, Lowest, Index};
+ghost use Rattle.bits.specs.Bits.{Decides, Single, Minus, Highest, Lowest, Index, fewer};
 
 // The set of the one member i: 2^i.
 pub fn power(i: u64) -> u64
@@ -70,4 +70,14 @@ pub fn index(m: u64) -> usize
     ensures { λ r. ⌜ Index m r ⌝ }
 {
     u64::trailing_zeros(m) as usize
+}
+
+// The one of x and y that has fewer members, x where they have as many.
+pub fn fewer(x: u64, y: u64) -> u64
+    ensures { λ r. ⌜ r ≡ fewer x y ⌝ }
+{
+    if u64::count_ones(y) < u64::count_ones(x) {
+        return y;
+    }
+    x
 }
