@@ -2,13 +2,15 @@
 use mathlib.Core.Path.{_≡_, refl, sym, ap, _∙_, subst}
 use mathlib.Core.Logic.{_⊎_, inl, inr, ⊎-elim}
 use mathlib.Core.List.{List}
-use Prim.Native.Nat.{ℕ, zero, suc, _+_, _-_, _^_, _<_}
+use Prim.Native.Nat.{ℕ, zero, suc, _+_, _^_, _<_}
 use native.Mathlib.Omega.{arith}
 use lib.ListN.{length, getD}
 use lib.Bits.{bitAnd, bitOr, bitXor}
-use Rattle.bits.specs.Bits.{digit, Single}
-use Rattle.rows.specs.Covers.{Cover, Irredundant, Own, PrivatesOf, Privates, Between}
+use Rattle.bits.specs.Bits.{digit, Single, Part}
+use Rattle.rows.specs.Covers.{Cover, IrredundantCover, Own, PrivatesOf, Privates, Unmet, Between}
 use Rattle.bits.proofs.Members.{and-left, and-right, and-both, not-zero, part-of, to-part, without-here, without-other, without-part}
+use Rattle.bits.proofs.Parts.{part-or-left, part-or-right}
+use Rattle.bits.proofs.Steps.{earlier-or-last, all-next}
 use Rattle.bits.proofs.Digits.{eq?, digit-lt, digit-of-zero, digit-and, digit-or, member-ext, a-member, pow-here, pow-only}
 
 -- what covers still covers with more members
@@ -29,7 +31,7 @@ missed rows t zero = inl (λ k lt. absurd (omega arith))
 missed rows t (suc n) =
     ⊎-elim (λ e. inr (n, omega arith, e))
     (λ m. ⊎-elim
-    (λ f. inl (λ k lt z. ⊎-elim (λ e. m (subst (λ (j : ℕ). bitAnd (getD rows j 0) t ≡ 0) e z)) (λ d. f k (omega arith) z) (eq? k n)))
+    (λ f. inl (λ k lt. all-next (λ j. bitAnd (getD rows j 0) t ≡ 0 → ⊥) n f m k (omega arith)))
     (λ r. inr (r .0, omega (arith, r .1), r .2))
     (missed rows t n))
     (eq? (bitAnd (getD rows n 0) t) 0)
@@ -54,8 +56,8 @@ own-of-missed h s b m c z = member-ext (bitAnd h s) (2 ^ b) into back
     back : (d : ℕ) → digit d (2 ^ b) ≡ 1 → digit d (bitAnd h s) ≡ 1
     back d p = subst (λ (j : ℕ). digit j (bitAnd h s) ≡ 1) (only (one .0) (one .1) ∙ sym (pow-only d b p)) (one .1)
 
-pub own-rows : (rows : List ℕ) (s : ℕ) → Irredundant rows s → (b : ℕ) → digit b s ≡ 1 → Own rows (length rows) s b
-unfolding Irredundant Cover Own
+pub own-rows : (rows : List ℕ) (s : ℕ) → IrredundantCover rows s → (b : ℕ) → digit b s ≡ 1 → Own rows (length rows) s b
+unfolding IrredundantCover Cover Own
 own-rows rows s irr b m =
     ⊎-elim
     (λ f. absurd (without-here s b m
@@ -65,8 +67,8 @@ own-rows rows s irr b m =
 
 -- ---- and a cover in which each has is irredundant
 
-pub own-irredundant : (rows : List ℕ) (s : ℕ) → Cover rows s → ((b : ℕ) → digit b s ≡ 1 → Own rows (length rows) s b) → Irredundant rows s
-unfolding Irredundant Cover Own
+pub own-irredundant : (rows : List ℕ) (s : ℕ) → Cover rows s → ((b : ℕ) → digit b s ≡ 1 → Own rows (length rows) s b) → IrredundantCover rows s
+unfolding IrredundantCover Cover Own
 own-irredundant rows s c own = (
   c,
   λ t p ct. member-ext t s (part-of t s p)
@@ -110,9 +112,8 @@ own-later rows n s b r = let lt : r .0 < n = r .1 in (r .0, omega arith, r .2)
 own-split : (rows : List ℕ) (n s b : ℕ) → Own rows (n + 1) s b → Own rows n s b ⊎ (bitAnd (getD rows n 0) s ≡ 2 ^ b)
 unfolding Own
 own-split rows n s b r =
-    let lt : r .0 < n + 1 = r .1 in
-    ⊎-elim (λ e. inr (subst (λ (j : ℕ). bitAnd (getD rows j 0) s ≡ 2 ^ b) e (r .2)))
-    (λ d. inl (r .0, omega arith, r .2)) (eq? (r .0) n)
+    ⊎-elim (λ (lt : r .0 < n). inl (r .0, lt, r .2))
+    (λ (e : r .0 ≡ n). inr (subst (λ (j : ℕ). bitAnd (getD rows j 0) s ≡ 2 ^ b) e (r .2))) (earlier-or-last (r .0) n (r .1))
 
 pub privates-skip : (rows : List ℕ) (n s a : ℕ) → PrivatesOf rows n s a → (Single (bitAnd (getD rows n 0) s) → ⊥) → PrivatesOf rows (n + 1) s a
 unfolding PrivatesOf Single
@@ -162,6 +163,23 @@ unfolding Own
 own-fewer rows n s x b f m r = (r .0, r .1, own-row-fewer (getD rows (r .0) 0) s x b f m (r .2))
 
 -- ---- rows that s does not meet
+
+pub unmet-none : (rows : List ℕ) (s u : ℕ) → Unmet rows 0 s u
+unfolding Unmet
+unmet-none rows s u k lt = absurd (omega arith)
+
+module _ (rows : List ℕ) (n s u : ℕ) (h : Unmet rows n s u) where
+  -- s meets the next row
+  pub unmet-skip : (bitAnd (getD rows n 0) s ≡ 0 → ⊥) → Unmet rows (n + 1) s u
+  unfolding Unmet
+  unmet-skip m = all-next (λ k. bitAnd (getD rows k 0) s ≡ 0 → Part (getD rows k 0) u) n h (λ z. absurd (m z))
+
+  pub unmet-take : Unmet rows (n + 1) s (bitOr u (getD rows n 0))
+  unfolding Unmet
+  unmet-take =
+      all-next (λ k. bitAnd (getD rows k 0) s ≡ 0 → Part (getD rows k 0) (bitOr u (getD rows n 0))) n
+      (λ k lt z. part-or-left (getD rows k 0) u (getD rows n 0) (h k lt z))
+      (λ z. part-or-right u (getD rows n 0))
 
 module _ (rows : List ℕ) (s free k : ℕ) (lt : k < length rows) (z : bitAnd (getD rows k 0) s ≡ 0) where
   abbrev x : ℕ
