@@ -6,13 +6,13 @@ use Prim.Native.Nat.{ℕ, zero, suc, _+_, _-_, _*_, _/_, _%_, _^_, _≤_, _<_}
 use native.Mathlib.Nat.{one-mul, zero-mul, mod-eq-of-lt}
 use native.Mathlib.Decide.{decLt}
 use native.Mathlib.Omega.{arith}
-use lib.ListN.{length, getD, set, replicate, length-set, length-replicate}
+use lib.ListN.{length, getD, List·getD-eq-default, set, replicate, length-set, length-replicate}
 use lib.Seq.{getD-set-same, getD-set-other}
 use lib.Bits.{bitAnd, and-mask}
 use Rattle.cheapest_bounds.specs.declared.ascent.Duals.{Duals}
 use Rattle.bits.specs.Bits.{digit, Single, Part, Minus, Member}
-use Rattle.cheapest_bounds.specs.Costs.{costOf, Numbered, Price, Floor}
-use Rattle.cheapest_bounds.specs.Ascent.{Charged, Paid, Meets, Raised, Padded, Dual, Trimmed, Worthy}
+use Rattle.cheapest_bounds.specs.Costs.{costOf, noCost, Numbered, Price, Floor}
+use Rattle.cheapest_bounds.specs.Ascent.{Charged, Paid, Meets, Raised, SameCosts, Dual, Trimmed, Affordable}
 use Rattle.bits.proofs.Digits.{eq?, digit-first, digit-next, digit-lt, a-member, pow-here, pow-only}
 use Rattle.bits.proofs.Members.{and-left, and-right, not-zero}
 use Rattle.bits.proofs.Parts.{members, by-members, part-self, part-trans, minus-part}
@@ -153,7 +153,7 @@ meets-all rows fit n k l nz z = nz (sym (and-mask (getD rows k 0) 64 ∙ mod-eq-
 
 -- so the sum is no more than what all cost
 pub raising-small : (rows : List ℕ) (n : ℕ) (old new : List ℕ) (sum : ℕ) → ((k : ℕ) → getD rows k 0 < 2 ^ 64) → length old ≡ 64
-    → ((k : ℕ) → getD old k 0 < 65536) → Raising rows n old new sum → sum ≤ 4194304
+    → ((k : ℕ) → getD old k 0 < 65536) → Raising rows n old new sum → sum < noCost
 raising-small rows n old new sum fit e lt h = omega (arith, h .under (2 ^ 64 - 1) (meets-all rows fit n), cost-small old (2 ^ 64 - 1) lt)
 
 pub raising-all : (rows : List ℕ) (n : ℕ) (old new : List ℕ) (sum : ℕ) → n ≡ length rows → Raising rows n old new sum → Raised rows old new sum
@@ -173,11 +173,6 @@ module _ (rows : List ℕ) {a b c d e f g : List ℕ} {p q r s t u : ℕ} where
       raised-then rows a f g (p + q + r + s + t) u h' h6
 
 -- ---- the costs with 0 behind them
-
-past : (l : List ℕ) (k : ℕ) → length l ≤ k → getD l k 0 ≡ 0
-past [] k le = refl
-past (x ∷ l) zero le = absurd (omega arith)
-past (x ∷ l) (suc k) le = past l k (omega arith)
 
 pub cost-zeros : (l : List ℕ) (t : ℕ) → ((k : ℕ) → getD l k 0 ≡ 0) → costOf l t ≡ 0
 unfolding costOf
@@ -220,17 +215,17 @@ padding-more costs left i lt h = record {
   rest = λ k l. getD-set-other left i k (getD costs i 0) 0 (λ e. omega arith) ∙ h .rest k (omega arith);
 }
 
-pub padding-all : (costs left : List ℕ) (i : ℕ) → length costs ≤ i → Padding costs left i → Padded costs left
+pub padding-all : (costs left : List ℕ) (i : ℕ) → length costs ≤ i → Padding costs left i → SameCosts costs left
 padding-all costs left i le h = record {
   size = h .size;
-  same = λ t. cost-same left costs t (λ k. elim (decLt k i) [ yes lt ↦ h .same k lt | no ge ↦ h .rest k (omega arith) ∙ sym (past costs k (omega arith)) ]);
+  same = λ t. cost-same left costs t (λ k. elim (decLt k i) [ yes lt ↦ h .same k lt | no ge ↦ h .rest k (omega arith) ∙ sym (List·getD-eq-default costs 0 (omega arith)) ]);
 }
 
 -- ---- the sum of the passes
 
 module _ (rows costs left : List ℕ) (fit : (k : ℕ) → getD rows k 0 < 2 ^ 64) (few : length costs ≤ 64) (lt : (k : ℕ) → getD costs k 0 < 65536)
-    (h : Padded costs left) where
-  pub raised-small : (new : List ℕ) (sum : ℕ) → Raised rows left new sum → sum ≤ 4194304
+    (h : SameCosts costs left) where
+  pub raised-small : (new : List ℕ) (sum : ℕ) → Raised rows left new sum → sum < noCost
   raised-small new sum r = omega (arith, r .under (2 ^ 64 - 1) (meets-all rows fit (length rows)), h .same (2 ^ 64 - 1), cost-small costs (2 ^ 64 - 1) lt)
 
   pub dual : (d : Duals) → Raised rows left (d .left) (d .sum) → Dual rows costs d
@@ -257,18 +252,18 @@ trimmed-drop left free spare kept m p kept' h one q le d = record {
 
 -- ---- what a cheap set can have
 
-pub worthy-all : (rows costs : List ℕ) (free spare : ℕ) → Worthy rows costs free spare free
-worthy-all rows costs free spare = record { part = part-self free; keeps = λ t m p lt. p }
+pub affordable-all : (rows costs : List ℕ) (free spare : ℕ) → Affordable rows costs free spare free
+affordable-all rows costs free spare = record { part = part-self free; keeps = λ t m p lt. p }
 
-pub worthy-none : (rows costs : List ℕ) (free spare : ℕ) (d : Duals) → Dual rows costs d → spare ≤ d .sum → Worthy rows costs free spare 0
-worthy-none rows costs free spare d h le = record {
+pub affordable-none : (rows costs : List ℕ) (free spare : ℕ) (d : Duals) → Dual rows costs d → spare ≤ d .sum → Affordable rows costs free spare 0
+affordable-none rows costs free spare d h le = record {
   part = by-members 0 free (λ b m. absurd (not-zero b 0 m refl));
   keeps = λ t m p lt. absurd (omega (arith, h .under t m));
 }
 
-pub worthy-trimmed : (rows costs : List ℕ) (free spare r : ℕ) (d : Duals) → Dual rows costs d → d .sum < spare → Trimmed (d .left) free (spare - d .sum) r
-    → Worthy rows costs free spare r
-worthy-trimmed rows costs free spare r d h more w = record {
+pub affordable-trimmed : (rows costs : List ℕ) (free spare r : ℕ) (d : Duals) → Dual rows costs d → d .sum < spare → Trimmed (d .left) free (spare - d .sum) r
+    → Affordable rows costs free spare r
+affordable-trimmed rows costs free spare r d h more w = record {
   part = w .part;
   keeps = λ t m p lt. by-members t r (λ b q. ⊎-elim
       (λ (e : digit b r ≡ 1). e)

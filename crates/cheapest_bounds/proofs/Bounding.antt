@@ -6,13 +6,13 @@ use Prim.Native.Nat.{ℕ, zero, suc, _+_, _*_, _/_, _%_, _^_, _≤_, _<_}
 use native.Mathlib.Nat.{pow-suc}
 use native.Mathlib.Decide.{decLt}
 use native.Mathlib.Omega.{arith}
-use lib.ListN.{length, getD}
+use lib.ListN.{length, getD, List·getD-eq-default}
 use lib.Pow.{pow-mono}
 use lib.Count.{trailingZeros, under}
 use lib.Bits.{bitAnd, bitOr}
 use Rattle.bits.specs.Bits.{digit, Single, Part, Minus, Member}
 use Rattle.rows.specs.Covers.{Cover, Between}
-use Rattle.cheapest_bounds.specs.Costs.{costOf, Numbered, Price, Floor, CoverBetween, Fresh, Bound}
+use Rattle.cheapest_bounds.specs.Costs.{costOf, noCost, Numbered, Price, Floor, CoverBetween, Fresh, Bound}
 use Rattle.bits.proofs.Digits.{eq?, digit-lt, digit-or, a-member, pow-only}
 use Rattle.bits.proofs.Members.{not-zero, and-left, and-right, and-both}
 use Rattle.bits.proofs.Parts.{by-members, part-self, the-member, apart-by, no-common, and-or}
@@ -33,11 +33,6 @@ trailing-power (suc k) (suc b) lt =
     ∙ ap (λ (n : ℕ). suc (trailingZeros k n)) half
     ∙ ap suc (trailing-power k b (omega arith))
 
-past : (l : List ℕ) (k : ℕ) → length l ≤ k → getD l k 0 ≡ 0
-past [] k le = refl
-past (x ∷ l) zero le = absurd (omega arith)
-past (x ∷ l) (suc k) le = past l k (omega arith)
-
 pub numbered : (m : ℕ) → Single m → m < 2 ^ 64 → Numbered m (trailingZeros 64 m)
 unfolding Single
 numbered m one fits =
@@ -54,7 +49,7 @@ module _ (costs : List ℕ) (m i : ℕ) (h : Numbered m i) where
   priced lt = record { is = price-is; small = lt }
 
   pub priced-past : length costs ≤ i → Price costs m 0
-  priced-past le = record { is = sym (past costs i le) ∙ price-is; small = omega arith }
+  priced-past le = record { is = sym (List·getD-eq-default costs 0 le) ∙ price-is; small = omega arith }
 
 -- ---- the floor
 
@@ -139,7 +134,7 @@ packed-as rows costs s free {used} {used'} {sum} {sum'} e f h =
     subst (λ (u : ℕ). Packed rows costs s free u sum') (sym e) (subst (λ (v : ℕ). Packed rows costs s free used v) (sym f) h)
 
 -- the sum, and one cost more, stay small
-pub packed-small : (rows costs : List ℕ) (s free used sum : ℕ) → length costs ≤ 64 → ((k : ℕ) → getD costs k 0 < 65536) → Packed rows costs s free used sum → sum ≤ 4194305
+pub packed-small : (rows costs : List ℕ) (s free used sum : ℕ) → length costs ≤ 64 → ((k : ℕ) → getD costs k 0 < 65536) → Packed rows costs s free used sum → sum < noCost
 packed-small rows costs s free used sum l lt h = omega (arith, h .little, cost-small costs used lt)
 
 pub packed-all : (rows costs : List ℕ) (s free used sum : ℕ) → length costs ≤ 64 → ((k : ℕ) → getD costs k 0 < 65536) → Packed rows costs s free used sum → Bound rows costs s free sum
@@ -152,11 +147,11 @@ packed-all rows costs s free used sum l lt h = record {
       (λ (e : digit c s ≡ 1 → ⊥). and-left c t used (omega (arith, digit-or c s (bitAnd t used), digit-lt c s, digit-lt c (bitAnd t used))))
       (eq? (digit c s) 1)) in
       omega (arith, h .under t r, cost-join costs s (bitAnd t used) apart, cost-part costs (bitOr s (bitAnd t used)) t part);
-  small = packed-small rows costs s free used sum l lt h;
+  small = omega (arith, packed-small rows costs s free used sum l lt h);
 }
 
 -- a row with no member in s or free: no cover lies there
-pub bound-lost : (rows costs : List ℕ) (s free k : ℕ) → k < length rows → bitAnd (getD rows k 0) (bitOr s free) ≡ 0 → Bound rows costs s free 4194305
+pub bound-lost : (rows costs : List ℕ) (s free k : ℕ) → k < length rows → bitAnd (getD rows k 0) (bitOr s free) ≡ 0 → Bound rows costs s free noCost
 unfolding CoverBetween Between Cover
 bound-lost rows costs s free k lt z = record {
   under = λ t r.

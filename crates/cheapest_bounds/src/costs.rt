@@ -6,8 +6,11 @@ ghost use Rattle.bits.specs.Bits.{Single};
 ghost use Rattle.cheapest_bounds.specs.Costs.{costOf, Numbered, Price, Floor};
 use bits::set;
 
+// The cost where there is no cover: more than any set of 64 candidates of 16-bit costs has.
+pub const NO_COST: u64 = 64 * 65536 + 1;
+
 // A set and its cost: the best cover known, or a cost to stay below.
-pub struct Best {
+pub struct Incumbent {
     pub cost: u64,
     pub set: u64,
 }
@@ -32,7 +35,7 @@ pub fn price(costs: &[u16], m: u64) -> u64
     0
 }
 
-// At most the cost of the cheapest member of x.
+// At most the cost of the cheapest member of x: the bounds need no more.
 pub fn floor(costs: &[u16], x: u64) -> u64
     ensures { λ r. ⌜ Floor (now (costs .entry)) x r ⌝ }
 {

@@ -1,11 +1,11 @@
 -- `cheapest_nodes::dominance::thin` meets its contract. The invariant: f is thinned from free, and rest is a part of free.
 use Rattle.bits.proofs.Parts.{part-trans, minus-part, minus-member-less}
-use Rattle.cheapest_nodes.proofs.Thinning.{free-part, thinned-wanted, thinned-trans, thinned-drop}
+use Rattle.cheapest_nodes.proofs.Thinning.{free-part, thinned-unmet, thinned-trans, thinned-drop}
 use borrow.Author.Needs.{needs}
 use native.Mathlib.Omega.{arith}
 use Rattle.bits.specs.Bits.{Part}
 use Rattle.cheapest_nodes.specs.Nodes.{Thinned}
-use Rattle.cheapest_nodes.proofs.Narrowing.{shared-one}
+use Rattle.cheapest_nodes.proofs.Restricting.{shared-one}
 use Rattle.cheapest_nodes.proofs.dominance.thin.Statement.{statement}
 use Rattle.cheapest_nodes.proofs.dominance.thin.Tie as tie
 
@@ -18,11 +18,11 @@ abbrev μ-loop : tie.MeasureT-loop
 shared-requires : tie.Need-shared-requires Inv-loop μ-loop
 shared-requires c κs = search needs
 
-wanted-requires : tie.Need-wanted-requires Inv-loop μ-loop
-wanted-requires c κs = search needs
+unmet-members-requires : tie.Need-unmet-members-requires Inv-loop μ-loop
+unmet-members-requires c κs = search needs
 
 loop-holds : tie.Need-loop-holds Inv-loop μ-loop
-loop-holds c = (thinned-wanted _ _ _ _ _ (c .wanted .ensures), free-part (c .before .before .before .before .args .free) (c .wanted .result))
+loop-holds c = (thinned-unmet _ _ _ _ _ (c .unmet-members .ensures), free-part (c .before .before .before .before .args .free) (c .unmet-members .result))
 
 lowest-requires : tie.Need-lowest-requires Inv-loop μ-loop
 lowest-requires c κs = omega (arith, c .loop-test .taken)
@@ -67,7 +67,7 @@ thin-spec =
     Inv-loop
     μ-loop
     shared-requires
-    wanted-requires
+    unmet-members-requires
     loop-holds
     lowest-requires
     minus-requires

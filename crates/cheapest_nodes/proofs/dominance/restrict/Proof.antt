@@ -1,19 +1,19 @@
--- `cheapest_nodes::dominance::narrow` meets its contract. The invariant: the entries of the members passed have only what is in row.
+-- `cheapest_nodes::dominance::restrict` meets its contract. The invariant: the entries of the members passed have only what is in row.
 use borrow.Author.Needs.{needs}
 use native.Mathlib.Omega.{arith}
 use Rattle.bits.proofs.Parts.{minus-member-less}
-use Rattle.cheapest_nodes.proofs.Narrowing.{Narrowing, narrowing-none, narrowing-more, narrowing-all}
-use Rattle.cheapest_nodes.proofs.dominance.narrow.Statement.{statement}
-use Rattle.cheapest_nodes.proofs.dominance.narrow.Tie as tie
+use Rattle.cheapest_nodes.proofs.Restricting.{Restricting, restricting-none, restricting-more, restricting-all}
+use Rattle.cheapest_nodes.proofs.dominance.restrict.Statement.{statement}
+use Rattle.cheapest_nodes.proofs.dominance.restrict.Tie as tie
 
 abbrev Inv-loop : tie.InvT-loop
-Inv-loop common₀ row x rest₀ common rest = Narrowing row x rest common₀ common
+Inv-loop common₀ row x rest₀ common rest = Restricting row x rest common₀ common
 
 abbrev μ-loop : tie.MeasureT-loop
 μ-loop common₀ row x rest₀ common rest = rest
 
 loop-holds : tie.Need-loop-holds Inv-loop μ-loop
-loop-holds c = narrowing-none _ _ _
+loop-holds c = restricting-none _ _ _
 
 lowest-requires : tie.Need-lowest-requires Inv-loop μ-loop
 lowest-requires c κs = omega (arith, c .loop-test .taken)
@@ -40,16 +40,16 @@ loop-less : tie.Need-loop-less Inv-loop μ-loop
 loop-less c = minus-member-less _ _ _ (c .before .before .before .lowest .ensures) (c .minus .ensures)
 
 loop-again : tie.Need-loop-again Inv-loop μ-loop
-loop-again c = narrowing-more _ _ _ _ _ _ _ _ (c .before .before .before .before .before .loop .inv) (c .before .before .number .ensures) (c .minus .ensures) (omega (arith, c .before .before .number .ensures .small, c .before .before .before .before .before .loop .inv .size, c .before .before .before .before .before .before .before .pre))
+loop-again c = restricting-more _ _ _ _ _ _ _ _ (c .before .before .before .before .before .loop .inv) (c .before .before .number .ensures) (c .minus .ensures) (omega (arith, c .before .before .number .ensures .small, c .before .before .before .before .before .loop .inv .size, c .before .before .before .before .before .before .before .pre))
 
 same-length : tie.Need-same-length Inv-loop μ-loop
 same-length c = c .before .loop .inv .size
 
 returns : tie.Need-returns Inv-loop μ-loop
-returns c = narrowing-all _ _ _ _ _ (c .loop-test .left) (c .before .loop .inv)
+returns c = restricting-all _ _ _ _ _ (c .loop-test .left) (c .before .loop .inv)
 
-pub narrow-spec : {M : Type 1} → statement M
-narrow-spec =
+pub restrict-spec : {M : Type 1} → statement M
+restrict-spec =
     tie.close
     (tie.spec
     Inv-loop

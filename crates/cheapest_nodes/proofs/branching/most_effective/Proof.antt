@@ -1,12 +1,12 @@
--- `cheapest_nodes::branching::richest` meets its contract. The invariant: pick is a member of x, most is a count, and rest is a part of x.
+-- `cheapest_nodes::branching::most_effective` meets its contract. The invariant: pick is a member of x, most is a count, and rest is a part of x.
 use borrow.Author.Needs.{needs}
 use Prim.Native.Nat.{_<_}
 use native.Mathlib.Omega.{arith}
 use Rattle.bits.specs.Bits.{Part, Member}
 use Rattle.bits.proofs.Parts.{part-trans, minus-part, minus-member-less, member-of-more}
 use Rattle.cheapest_bounds.proofs.Costing.{product-fits}
-use Rattle.cheapest_nodes.proofs.branching.richest.Statement.{statement}
-use Rattle.cheapest_nodes.proofs.branching.richest.Tie as tie
+use Rattle.cheapest_nodes.proofs.branching.most_effective.Statement.{statement}
+use Rattle.cheapest_nodes.proofs.branching.most_effective.Tie as tie
 
 abbrev Inv-loop : tie.InvT-loop
 Inv-loop rows costs s x pick₀ most₀ rest₀ pick most rest = Member x pick × Part rest x × (most < 65536)
@@ -62,8 +62,8 @@ loop-again-2 c = (c .before .before .before .before .before .before .before .loo
 returns : tie.Need-returns Inv-loop μ-loop
 returns c = c .before .loop .inv .0
 
-pub richest-spec : {M : Type 1} → statement M
-richest-spec =
+pub most-effective-spec : {M : Type 1} → statement M
+most-effective-spec =
     tie.close
     (tie.spec
     Inv-loop

@@ -9,47 +9,23 @@ use lib.Seq.{getD-set-same, getD-set-other}
 use lib.Bits.{bitAnd, bitOr}
 use Rattle.bits.specs.Bits.{digit, Part, Minus, Member}
 use Rattle.cheapest_bounds.specs.Costs.{Numbered}
-use Rattle.cheapest_nodes.specs.Nodes.{Wanted, Dominators, Narrowed, Shared}
+use Rattle.cheapest_nodes.specs.Nodes.{Dominators, Restricted, Shared}
 use Rattle.bits.proofs.Digits.{eq?, digit-lt, digit-or, a-member, pow-here, pow-only}
 use Rattle.bits.proofs.Members.{and-left, and-right, and-both, not-zero}
 use Rattle.bits.proofs.Parts.{members, by-members, part-self, part-trans, part-and-left, part-and-less}
 
--- ---- the rows that are not met, together
-
-pub wanted-none : (rows : List ℕ) (s : ℕ) → Wanted rows 0 s 0
-unfolding Wanted
-wanted-none rows s k lt = absurd (omega arith)
-
-module _ (rows : List ℕ) (n s u : ℕ) (h : Wanted rows n s u) where
-  pub wanted-met : (bitAnd (getD rows n 0) s ≡ 0 → ⊥) → Wanted rows (n + 1) s u
-  unfolding Wanted
-  wanted-met m k lt z =
-      ⊎-elim (λ (e : k ≡ n). absurd (m (subst (λ (j : ℕ). bitAnd (getD rows j 0) s ≡ 0) e z))) (λ (d : k ≡ n → ⊥). h k (omega arith) z) (eq? k n)
-
-  pub wanted-more : Wanted rows (n + 1) s (bitOr u (getD rows n 0))
-  unfolding Wanted
-  wanted-more k lt z =
-      let x : ℕ = getD rows n 0 in
-      ⊎-elim
-      (λ (e : k ≡ n). subst (λ (j : ℕ). Part (getD rows j 0) (bitOr u x)) (sym e) (by-members x (bitOr u x) (λ c m. omega (arith, digit-or c u x, digit-lt c u))))
-      (λ (d : k ≡ n → ⊥). by-members (getD rows k 0) (bitOr u x) (λ c m. omega (arith, members (getD rows k 0) u (h k (omega arith) z) c m, digit-or c u x, digit-lt c x)))
-      (eq? k n)
-
-pub wanted-all : (rows : List ℕ) (n s u : ℕ) → n ≡ length rows → Wanted rows n s u → Wanted rows (length rows) s u
-wanted-all rows n s u e h = subst (λ (m : ℕ). Wanted rows m s u) e h
-
 -- ---- one row
 
 -- the entries of the members of x that are not in rest have only what is in row
-pub record Narrowing (row x rest : ℕ) (old new : List ℕ) : Type 0 where
+pub record Restricting (row x rest : ℕ) (old new : List ℕ) : Type 0 where
   pub size : length new ≡ length old
   pub less : (b : ℕ) → Part (getD new b 0) (getD old b 0)
   pub met : (b : ℕ) → digit b x ≡ 1 → (digit b rest ≡ 1 → ⊥) → Part (getD new b 0) row
 
-pub narrowing-none : (row x : ℕ) (old : List ℕ) → Narrowing row x x old old
-narrowing-none row x old = record { size = omega arith; less = λ b. part-self (getD old b 0); met = λ b m n. absurd (n m) }
+pub restricting-none : (row x : ℕ) (old : List ℕ) → Restricting row x x old old
+restricting-none row x old = record { size = omega arith; less = λ b. part-self (getD old b 0); met = λ b m n. absurd (n m) }
 
-module _ (row x rest m i rest' : ℕ) (old mid : List ℕ) (h : Narrowing row x rest old mid) (is : Numbered m i) (d : Minus rest m rest') (lt : i < length mid) where
+module _ (row x rest m i rest' : ℕ) (old mid : List ℕ) (h : Restricting row x rest old mid) (is : Numbered m i) (d : Minus rest m rest') (lt : i < length mid) where
   new : List ℕ
   new = set mid i (bitAnd (getD mid i 0) row)
 
@@ -61,17 +37,17 @@ module _ (row x rest m i rest' : ℕ) (old mid : List ℕ) (h : Narrowing row x 
   unfolding new
   there b n = getD-set-other mid i b (bitAnd (getD mid i 0) row) 0 n
 
-  narrowing-less : (b : ℕ) → Part (getD new b 0) (getD old b 0)
-  narrowing-less b =
+  restricting-less : (b : ℕ) → Part (getD new b 0) (getD old b 0)
+  restricting-less b =
       ⊎-elim
       (λ (e : b ≡ i). subst (λ (j : ℕ). Part (getD new j 0) (getD old j 0)) (sym e)
       (subst (λ (v : ℕ). Part v (getD old i 0)) (sym here) (part-and-less (getD mid i 0) row (getD old i 0) (h .less i))))
       (λ (n : b ≡ i → ⊥). subst (λ (v : ℕ). Part v (getD old b 0)) (sym (there b n)) (h .less b))
       (eq? b i)
 
-  narrowing-met : (b : ℕ) → digit b x ≡ 1 → (digit b rest' ≡ 1 → ⊥) → Part (getD new b 0) row
+  restricting-met : (b : ℕ) → digit b x ≡ 1 → (digit b rest' ≡ 1 → ⊥) → Part (getD new b 0) row
   unfolding Minus
-  narrowing-met b p q =
+  restricting-met b p q =
       ⊎-elim
       (λ (e : b ≡ i). subst (λ (j : ℕ). Part (getD new j 0) row) (sym e) (subst (λ (v : ℕ). Part v row) (sym here) (part-and-left (getD mid i 0) row)))
       (λ (n : b ≡ i → ⊥). subst (λ (v : ℕ). Part v row) (sym (there b n)) (h .met b p (λ g. q (still b n g))))
@@ -82,12 +58,12 @@ module _ (row x rest m i rest' : ℕ) (old mid : List ℕ) (h : Narrowing row x 
           let z : digit b m ≡ 1 → ⊥ = λ f. n (pow-only b i (sym (ap (digit b) (is .is)) ∙ f)) in
           omega (arith, d b, digit-lt b m)
 
-  pub narrowing-more : Narrowing row x rest' old (set mid i (bitAnd (getD mid i 0) row))
+  pub restricting-more : Restricting row x rest' old (set mid i (bitAnd (getD mid i 0) row))
   unfolding new
-  narrowing-more = record { size = length-set mid i (bitAnd (getD mid i 0) row) ∙ h .size; less = narrowing-less; met = narrowing-met }
+  restricting-more = record { size = length-set mid i (bitAnd (getD mid i 0) row) ∙ h .size; less = restricting-less; met = restricting-met }
 
-pub narrowing-all : (row x rest : ℕ) (old new : List ℕ) → rest ≡ 0 → Narrowing row x rest old new → Narrowed row x old new
-narrowing-all row x rest old new z h = record { size = h .size; less = h .less; met = λ b m. h .met b m (λ q. not-zero b rest q z) }
+pub restricting-all : (row x rest : ℕ) (old new : List ℕ) → rest ≡ 0 → Restricting row x rest old new → Restricted row x old new
+restricting-all row x rest old new z h = record { size = h .size; less = h .less; met = λ b m. h .met b m (λ q. not-zero b rest q z) }
 
 -- ---- the rows passed
 
@@ -105,7 +81,7 @@ module _ (rows : List ℕ) (n s free : ℕ) (old : List ℕ) (h : Shared rows n 
         (λ (e : k ≡ n → ⊥). h .each b m k (omega arith) z q) (eq? k n);
   }
 
-  pub shared-more : (new : List ℕ) → Narrowed (getD rows n 0) (bitAnd (getD rows n 0) free) old new → Shared rows (n + 1) s free new
+  pub shared-more : (new : List ℕ) → Restricted (getD rows n 0) (bitAnd (getD rows n 0) free) old new → Shared rows (n + 1) s free new
   unfolding Dominators
   shared-more new w = record {
     size = w .size ∙ h .size;
