@@ -10,6 +10,7 @@ use lib.ListN.{length, getD}
 use Rattle.cheapest_bounds.specs.Costs.{costOf}
 use Rattle.cheapest_bounds.specs.Units.{Multiple, Measures, CommonUnit, LimitBelow}
 use Rattle.bits.proofs.Digits.{eq?}
+use Rattle.bits.proofs.Steps.{all-next}
 
 -- ---- the unit
 
@@ -23,11 +24,8 @@ measured-none costs u k lt = absurd (omega arith)
 
 pub measured-more : (costs : List ℕ) (u n : ℕ) → Measured costs u n → getD costs n 0 % u ≡ 0 → Measured costs u (n + 1)
 unfolding Measured Multiple
-measured-more costs u n h z k lt =
-    ⊎-elim
-    (λ (e : k ≡ n). (getD costs n 0 / u, ap (λ (j : ℕ). getD costs j 0) e ∙ omega (arith, div-add-mod' (getD costs n 0) u)))
-    (λ (e : k ≡ n → ⊥). h k (omega arith))
-    (eq? k n)
+measured-more costs u n h z =
+    all-next (λ k. Multiple u (getD costs k 0)) n h (getD costs n 0 / u, omega (arith, div-add-mod' (getD costs n 0) u))
 
 pub measured-all : (costs : List ℕ) (u n : ℕ) → n ≡ length costs → Measured costs u n → Measures costs u
 unfolding Measured Measures

@@ -15,11 +15,6 @@ costOf (w ∷ ws) s = s % 2 * w + costOf ws (s / 2)
 abbrev pub noCost : ℕ
 noCost = 64 * 65536 + 1
 
--- m is the one candidate i
-pub record Numbered (m i : ℕ) : Type 0 where
-  pub small : i < 64
-  pub is : m ≡ 2 ^ i
-
 -- r is the cost of the set x, and a byte pair holds it
 pub record Price (costs : List ℕ) (x r : ℕ) : Type 0 where
   pub is : r ≡ costOf costs x

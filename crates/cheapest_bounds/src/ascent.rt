@@ -24,7 +24,7 @@ fn charge(left: &mut [u16], x: u64, y: u64)
     let mut rest = x;
     while rest != 0 {
         let m = set::lowest(rest);
-        let i = costs::number(m);
+        let i = set::index(m);
         left[i] = left[i] - y16;
         rest = set::minus(rest, m);
     }

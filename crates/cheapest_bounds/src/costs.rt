@@ -3,7 +3,7 @@ ghost use mathlib.Core.Path.{_≡_};
 ghost use Prim.Native.Nat.{_≤_};
 ghost use lib.ListN.{length};
 ghost use Rattle.bits.specs.Bits.{Single};
-ghost use Rattle.cheapest_bounds.specs.Costs.{costOf, Numbered, Price, Floor};
+ghost use Rattle.cheapest_bounds.specs.Costs.{costOf, Price, Floor};
 use bits::set;
 
 // The cost where there is no cover: more than any set of 64 candidates of 16-bit costs has.
@@ -15,20 +15,12 @@ pub struct Incumbent {
     pub set: u64,
 }
 
-// The number of the one candidate in m.
-pub fn number(m: u64) -> usize
-    requires { ⌜ Single m ⌝ }
-    ensures { λ r. ⌜ Numbered m r ⌝ }
-{
-    u64::trailing_zeros(m) as usize
-}
-
 // The cost of the one candidate in m.
 pub fn price(costs: &[u16], m: u64) -> u64
     requires { ⌜ Single m ⌝ }
     ensures { λ r. ⌜ Price (now (costs .entry)) m r ⌝ }
 {
-    let i = number(m);
+    let i = set::index(m);
     if i < costs.len() {
         return costs[i] as u64;
     }

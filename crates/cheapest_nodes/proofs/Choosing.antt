@@ -15,6 +15,7 @@ use Rattle.cheapest_nodes.specs.Nodes.{Chosen}
 use Rattle.bits.proofs.Digits.{eq?}
 use Rattle.bits.proofs.Members.{not-zero, and-left, and-right}
 use Rattle.bits.proofs.Parts.{members, by-members, member-of-more, apart-by, no-common}
+use Rattle.bits.proofs.Steps.{all-next}
 use Rattle.rows.proofs.Sets.{meets}
 
 -- pick is free and not in s; where it is 0, s meets the first n rows
@@ -33,9 +34,7 @@ picked-none rows s free = record {
 module _ (rows : List ℕ) (n s free pick : ℕ) (h : Picked rows n s free pick) where
   pub picked-met : (bitAnd (getD rows n 0) s ≡ 0 → ⊥) → Picked rows (n + 1) s free pick
   picked-met m = record {
-    met = λ e k lt z. ⊎-elim
-        (λ (q : k ≡ n). m (subst (λ (j : ℕ). bitAnd (getD rows j 0) s ≡ 0) q z))
-        (λ (q : k ≡ n → ⊥). h .met e k (omega arith) z) (eq? k n);
+    met = λ e. all-next (λ k. bitAnd (getD rows k 0) s ≡ 0 → ⊥) n (h .met e) m;
     part = h .part;
     apart = h .apart;
   }

@@ -21,6 +21,7 @@ use Rattle.cheapest_nodes.specs.Plan.{Residue, ResidueIn, Open, Sufficie
 use Rattle.bits.proofs.Digits.{eq?, digit-lt, digit-and, digit-or, digit-ext, a-member}
 use Rattle.bits.proofs.Members.{and-left, and-right, and-both}
 use Rattle.bits.proofs.Parts.{members, by-members, part-self, part-trans, part-and-left, minus-bits, apart-by, no-common}
+use Rattle.bits.proofs.Steps.{all-next}
 use Rattle.cheapest_bounds.proofs.Costing.{cost-apart}
 use Rattle.rows.proofs.Sets.{meets}
 use Rattle.cheapest_nodes.proofs.Choosing.{tried}
@@ -44,10 +45,7 @@ module _ (rows : List ℕ) (s free : ℕ) (out : List ℕ) (n i : ℕ) (g : Leav
   pub leaves-skip : (bitAnd (getD rows i 0) s ≡ 0 → ⊥) → Leaves rows s free out n (i + 1)
   leaves-skip met = record {
     few = omega (arith, g .few);
-    has = λ k lt z. ⊎-elim
-        (λ (e : k ≡ i). absurd (met (subst (λ (v : ℕ). bitAnd (getD rows v 0) s ≡ 0) e z)))
-        (λ (d : k ≡ i → ⊥). g .has k (omega arith) z)
-        (eq? k i);
+    has = all-next _ i (g .has) (λ z. absurd (met z));
     from = λ j lt.
         let r : (k : ℕ) × (k < i) × (bitAnd (getD rows k 0) s ≡ 0) × (getD out j 0 ≡ bitAnd (getD rows k 0) free) = g .from j lt in
         (r .0, omega (arith, r .1), r .2, r .3);
@@ -56,28 +54,23 @@ module _ (rows : List ℕ) (s free : ℕ) (out : List ℕ) (n i : ℕ) (g : Leav
   pub leaves-take : n < length out → bitAnd (getD rows i 0) s ≡ 0 → Leaves rows s free (set out n (bitAnd (getD rows i 0) free)) (n + 1) (i + 1)
   leaves-take room z = record {
     few = omega (arith, g .few);
-    has = λ k lt y. ⊎-elim
-        (λ (e : k ≡ i). (n, omega arith, at-n n refl ∙ ap (λ (v : ℕ). bitAnd (getD rows v 0) free) (sym e)))
-        (λ (d : k ≡ i → ⊥).
-        let r : (j : ℕ) × (j < n) × (getD out j 0 ≡ bitAnd (getD rows k 0) free) = g .has k (omega arith) y in
-        (r .0, omega (arith, r .1), other (r .0) (λ e. omega (arith, r .1)) ∙ r .2))
-        (eq? k i);
-    from = λ j lt. ⊎-elim
-        (λ (e : j ≡ n). (i, omega arith, z, at-n j e))
-        (λ (d : j ≡ n → ⊥).
-        let r : (k : ℕ) × (k < i) × (bitAnd (getD rows k 0) s ≡ 0) × (getD out j 0 ≡ bitAnd (getD rows k 0) free) = g .from j (omega arith) in
-        (r .0, omega (arith, r .1), r .2, other j d ∙ r .3))
-        (eq? j n);
+    has = all-next (λ k. bitAnd (getD rows k 0) s ≡ 0 → (j : ℕ) × (j < n + 1) × (getD (set out n x) j 0 ≡ bitAnd (getD rows k 0) free)) i
+        (λ k lt y.
+        let r : (j : ℕ) × (j < n) × (getD out j 0 ≡ bitAnd (getD rows k 0) free) = g .has k lt y in
+        (r .0, omega (arith, r .1), other (r .0) (r .1) ∙ r .2))
+        (λ y. (n, omega arith, getD-set-same out n x 0 room));
+    from = all-next (λ j. (k : ℕ) × (k < i + 1) × (bitAnd (getD rows k 0) s ≡ 0) × (getD (set out n x) j 0 ≡ bitAnd (getD rows k 0) free)) n
+        (λ j lt.
+        let r : (k : ℕ) × (k < i) × (bitAnd (getD rows k 0) s ≡ 0) × (getD out j 0 ≡ bitAnd (getD rows k 0) free) = g .from j lt in
+        (r .0, omega (arith, r .1), r .2, other j lt ∙ r .3))
+        (i, omega arith, z, getD-set-same out n x 0 room);
   }
     where
       x : ℕ
       x = bitAnd (getD rows i 0) free
 
-      at-n : (j : ℕ) → j ≡ n → getD (set out n x) j 0 ≡ x
-      at-n j e = ap (λ (v : ℕ). getD (set out n x) v 0) e ∙ getD-set-same out n x 0 room
-
-      other : (j : ℕ) → (j ≡ n → ⊥) → getD (set out n x) j 0 ≡ getD out j 0
-      other j d = getD-set-other out n j x 0 d
+      other : (j : ℕ) → j < n → getD (set out n x) j 0 ≡ getD out j 0
+      other j lt = getD-set-other out n j x 0 (λ e. omega arith)
 
 pub leaves-as : (rows : List ℕ) (s free : ℕ) {out out' : List ℕ} {n n' : ℕ} (i : ℕ) → out' ≡ out → n' ≡ n
     → Leaves rows s free out n i → Leaves rows s free out' n' i

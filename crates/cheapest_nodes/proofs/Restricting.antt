@@ -7,12 +7,12 @@ use native.Mathlib.Omega.{arith}
 use lib.ListN.{length, getD, set, length-set}
 use lib.Seq.{getD-set-same, getD-set-other}
 use lib.Bits.{bitAnd, bitOr}
-use Rattle.bits.specs.Bits.{digit, Part, Minus, Member}
-use Rattle.cheapest_bounds.specs.Costs.{Numbered}
+use Rattle.bits.specs.Bits.{digit, Part, Minus, Member, Index}
 use Rattle.cheapest_nodes.specs.Nodes.{Dominators, Restricted, Shared}
 use Rattle.bits.proofs.Digits.{eq?, digit-lt, digit-or, a-member, pow-here, pow-only}
 use Rattle.bits.proofs.Members.{and-left, and-right, and-both, not-zero}
 use Rattle.bits.proofs.Parts.{members, by-members, part-self, part-trans, part-and-left, part-and-less}
+use Rattle.bits.proofs.Steps.{all-next, Visited, visited-none, visited-more, visited-all}
 
 -- ---- one row
 
@@ -20,12 +20,12 @@ use Rattle.bits.proofs.Parts.{members, by-members, part-self, part-trans, part-
 pub record Restricting (row x rest : ℕ) (old new : List ℕ) : Type 0 where
   pub size : length new ≡ length old
   pub less : (b : ℕ) → Part (getD new b 0) (getD old b 0)
-  pub met : (b : ℕ) → digit b x ≡ 1 → (digit b rest ≡ 1 → ⊥) → Part (getD new b 0) row
+  pub met : Visited (λ b. Part (getD new b 0) row) x rest
 
 pub restricting-none : (row x : ℕ) (old : List ℕ) → Restricting row x x old old
-restricting-none row x old = record { size = omega arith; less = λ b. part-self (getD old b 0); met = λ b m n. absurd (n m) }
+restricting-none row x old = record { size = omega arith; less = λ b. part-self (getD old b 0); met = visited-none _ x }
 
-module _ (row x rest m i rest' : ℕ) (old mid : List ℕ) (h : Restricting row x rest old mid) (is : Numbered m i) (d : Minus rest m rest') (lt : i < length mid) where
+module _ (row x rest m i rest' : ℕ) (old mid : List ℕ) (h : Restricting row x rest old mid) (is : Index m i) (d : Minus rest m rest') (lt : i < length mid) where
   new : List ℕ
   new = set mid i (bitAnd (getD mid i 0) row)
 
@@ -37,33 +37,30 @@ module _ (row x rest m i rest' : ℕ) (old mid : List ℕ) (h : Restricting row 
   unfolding new
   there b n = getD-set-other mid i b (bitAnd (getD mid i 0) row) 0 n
 
-  restricting-less : (b : ℕ) → Part (getD new b 0) (getD old b 0)
-  restricting-less b =
+  less-mid : (b : ℕ) → Part (getD new b 0) (getD mid b 0)
+  less-mid b =
       ⊎-elim
-      (λ (e : b ≡ i). subst (λ (j : ℕ). Part (getD new j 0) (getD old j 0)) (sym e)
-      (subst (λ (v : ℕ). Part v (getD old i 0)) (sym here) (part-and-less (getD mid i 0) row (getD old i 0) (h .less i))))
-      (λ (n : b ≡ i → ⊥). subst (λ (v : ℕ). Part v (getD old b 0)) (sym (there b n)) (h .less b))
+      (λ (e : b ≡ i). subst (λ (j : ℕ). Part (getD new j 0) (getD mid j 0)) (sym e)
+      (subst (λ (v : ℕ). Part v (getD mid i 0)) (sym here) (part-and-less (getD mid i 0) row (getD mid i 0) (part-self (getD mid i 0)))))
+      (λ (n : b ≡ i → ⊥). subst (λ (v : ℕ). Part v (getD mid b 0)) (sym (there b n)) (part-self (getD mid b 0)))
       (eq? b i)
 
-  restricting-met : (b : ℕ) → digit b x ≡ 1 → (digit b rest' ≡ 1 → ⊥) → Part (getD new b 0) row
-  unfolding Minus
-  restricting-met b p q =
-      ⊎-elim
-      (λ (e : b ≡ i). subst (λ (j : ℕ). Part (getD new j 0) row) (sym e) (subst (λ (v : ℕ). Part v row) (sym here) (part-and-left (getD mid i 0) row)))
-      (λ (n : b ≡ i → ⊥). subst (λ (v : ℕ). Part v row) (sym (there b n)) (h .met b p (λ g. q (still b n g))))
-      (eq? b i)
-    where
-      still : (b : ℕ) → (b ≡ i → ⊥) → digit b rest ≡ 1 → digit b rest' ≡ 1
-      still b n g =
-          let z : digit b m ≡ 1 → ⊥ = λ f. n (pow-only b i (sym (ap (digit b) (is .is)) ∙ f)) in
-          omega (arith, d b, digit-lt b m)
+  restricting-met : Visited (λ b. Part (getD new b 0) row) x rest'
+  unfolding Visited
+  restricting-met =
+      visited-more (λ b. Part (getD new b 0) row) x rest m i rest' (λ b p n. part-trans (getD new b 0) (getD mid b 0) row (less-mid b) (h .met b p n)) (is .is) d
+      (subst (λ (v : ℕ). Part v row) (sym here) (part-and-left (getD mid i 0) row))
 
   pub restricting-more : Restricting row x rest' old (set mid i (bitAnd (getD mid i 0) row))
   unfolding new
-  restricting-more = record { size = length-set mid i (bitAnd (getD mid i 0) row) ∙ h .size; less = restricting-less; met = restricting-met }
+  restricting-more = record {
+    size = length-set mid i (bitAnd (getD mid i 0) row) ∙ h .size;
+    less = λ b. part-trans (getD new b 0) (getD mid b 0) (getD old b 0) (less-mid b) (h .less b);
+    met = restricting-met;
+  }
 
 pub restricting-all : (row x rest : ℕ) (old new : List ℕ) → rest ≡ 0 → Restricting row x rest old new → Restricted row x old new
-restricting-all row x rest old new z h = record { size = h .size; less = h .less; met = λ b m. h .met b m (λ q. not-zero b rest q z) }
+restricting-all row x rest old new z h = record { size = h .size; less = h .less; met = visited-all _ x rest (h .met) z }
 
 -- ---- the rows passed
 
@@ -74,23 +71,15 @@ shared-none rows s free common e = record { size = e; each = λ b m k lt. absurd
 module _ (rows : List ℕ) (n s free : ℕ) (old : List ℕ) (h : Shared rows n s free old) where
   pub shared-met : (bitAnd (getD rows n 0) s ≡ 0 → ⊥) → Shared rows (n + 1) s free old
   unfolding Dominators
-  shared-met d = record {
-    size = h .size;
-    each = λ b m k lt z q. ⊎-elim
-        (λ (e : k ≡ n). absurd (d (subst (λ (j : ℕ). bitAnd (getD rows j 0) s ≡ 0) e z)))
-        (λ (e : k ≡ n → ⊥). h .each b m k (omega arith) z q) (eq? k n);
-  }
+  shared-met d = record { size = h .size; each = λ b m. all-next _ n (h .each b m) (λ z. absurd (d z)) }
 
   pub shared-more : (new : List ℕ) → Restricted (getD rows n 0) (bitAnd (getD rows n 0) free) old new → Shared rows (n + 1) s free new
   unfolding Dominators
   shared-more new w = record {
     size = w .size ∙ h .size;
-    each = λ b m k lt z q. ⊎-elim
-        (λ (e : k ≡ n).
-        let has : digit b (getD rows n 0) ≡ 1 = one-in b (getD rows n 0) (subst (λ (j : ℕ). bitAnd (getD rows j 0) (2 ^ b) ≡ 0 → ⊥) e q) in
-        subst (λ (j : ℕ). Part (getD new b 0) (getD rows j 0)) (sym e) (w .met b (and-both b (getD rows n 0) free has m)))
-        (λ (e : k ≡ n → ⊥). part-trans (getD new b 0) (getD old b 0) (getD rows k 0) (w .less b) (h .each b m k (omega arith) z q))
-        (eq? k n);
+    each = λ b m. all-next (λ k. bitAnd (getD rows k 0) s ≡ 0 → (bitAnd (getD rows k 0) (2 ^ b) ≡ 0 → ⊥) → Part (getD new b 0) (getD rows k 0)) n
+        (λ k lt z q. part-trans (getD new b 0) (getD old b 0) (getD rows k 0) (w .less b) (h .each b m k lt z q))
+        (λ z q. w .met b (and-both b (getD rows n 0) free (one-in b (getD rows n 0) q) m));
   }
     where
       one-in : (b x : ℕ) → (bitAnd x (2 ^ b) ≡ 0 → ⊥) → digit b x ≡ 1
@@ -102,7 +91,7 @@ pub shared-all : (rows : List ℕ) (n s free : ℕ) (common : List ℕ) → n �
 shared-all rows n s free common e h = subst (λ (m : ℕ). Shared rows m s free common) e h
 
 -- the entry of one free candidate
-pub shared-one : (rows : List ℕ) (s free rest m i : ℕ) (common : List ℕ) → Shared rows (length rows) s free common → Part rest free → Member rest m → Numbered m i
+pub shared-one : (rows : List ℕ) (s free rest m i : ℕ) (common : List ℕ) → Shared rows (length rows) s free common → Part rest free → Member rest m → Index m i
     → Dominators rows (length rows) s m (getD common i 0)
 shared-one rows s free rest m i common h p one is =
     let in-rest : digit i rest ≡ 1 = members m rest (one .part) i (ap (digit i) (is .is) ∙ pow-here i) in

@@ -54,17 +54,14 @@ pub fn most_effective(rows: &[u64], costs: &[u16], s: u64, x: u64) -> u64
     pick
 }
 
-// The one of x and y that has fewer members; x if y has none.
+// The one of x and y that has fewer members, y among equals; x if y has none.
 fn smaller(x: u64, y: u64) -> u64
     ensures { λ r. ⌜ ((r ≡ x) ⊎ ((r ≡ y) × (y ≡ 0 → ⊥))) ⌝ }
 {
     if y == 0 {
         return x;
     }
-    if u64::count_ones(x) < u64::count_ones(y) {
-        return x;
-    }
-    y
+    set::fewer(y, x)
 }
 
 // The most effective free candidate of the unmet row with fewest of them; or that s is a cover, or that none lies between s and s | free.

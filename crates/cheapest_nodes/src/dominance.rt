@@ -30,7 +30,7 @@ fn restrict(common: &mut [u64], row: u64, x: u64)
     let mut rest = x;
     while rest != 0 {
         let m = set::lowest(rest);
-        let i = costs::number(m);
+        let i = set::index(m);
         common[i] = common[i] & row;
         rest = set::minus(rest, m);
     }
@@ -86,7 +86,7 @@ pub fn thin(rows: &[u64], costs: &[u16], s: u64, free: u64) -> u64
         let m = set::lowest(rest);
         rest = set::minus(rest, m);
         let others = set::minus(f, m);
-        let i = costs::number(m);
+        let i = set::index(m);
         if cheaper(costs, others & common[i], m) != 0 {
             f = others;
         }

@@ -18,29 +18,29 @@ loop-holds c = restricting-none _ _ _
 lowest-requires : tie.Need-lowest-requires Inv-loop μ-loop
 lowest-requires c κs = omega (arith, c .loop-test .taken)
 
-number-requires : tie.Need-number-requires Inv-loop μ-loop
-number-requires c κs = c .lowest .ensures .single
+index-requires : tie.Need-index-requires Inv-loop μ-loop
+index-requires c κs = c .lowest .ensures .member .single
 
 mul-common : tie.Need-mul-common Inv-loop μ-loop
 mul-common c = search needs
 
 slice-read-common : tie.Need-slice-read-common Inv-loop μ-loop
-slice-read-common c = omega (arith, c .before .number .ensures .small, c .before .before .before .before .loop .inv .size, c .before .before .before .before .before .before .pre)
+slice-read-common c = omega (arith, c .before .index .ensures .small, c .before .before .before .before .loop .inv .size, c .before .before .before .before .before .before .pre)
 
 mul-common-2 : tie.Need-mul-common-2 Inv-loop μ-loop
 mul-common-2 c = search needs
 
 slice-write-common : tie.Need-slice-write-common Inv-loop μ-loop
-slice-write-common c = omega (arith, c .before .number .ensures .small, c .before .before .before .before .loop .inv .size, c .before .before .before .before .before .before .pre)
+slice-write-common c = omega (arith, c .before .index .ensures .small, c .before .before .before .before .loop .inv .size, c .before .before .before .before .before .before .pre)
 
 minus-requires : tie.Need-minus-requires Inv-loop μ-loop
 minus-requires c κs = search needs
 
 loop-less : tie.Need-loop-less Inv-loop μ-loop
-loop-less c = minus-member-less _ _ _ (c .before .before .before .lowest .ensures) (c .minus .ensures)
+loop-less c = minus-member-less _ _ _ (c .before .before .before .lowest .ensures .member) (c .minus .ensures)
 
 loop-again : tie.Need-loop-again Inv-loop μ-loop
-loop-again c = restricting-more _ _ _ _ _ _ _ _ (c .before .before .before .before .before .loop .inv) (c .before .before .number .ensures) (c .minus .ensures) (omega (arith, c .before .before .number .ensures .small, c .before .before .before .before .before .loop .inv .size, c .before .before .before .before .before .before .before .pre))
+loop-again c = restricting-more _ _ _ _ _ _ _ _ (c .before .before .before .before .before .loop .inv) (c .before .before .index .ensures) (c .minus .ensures) (omega (arith, c .before .before .index .ensures .small, c .before .before .before .before .before .loop .inv .size, c .before .before .before .before .before .before .before .pre))
 
 same-length : tie.Need-same-length Inv-loop μ-loop
 same-length c = c .before .loop .inv .size
@@ -56,7 +56,7 @@ restrict-spec =
     μ-loop
     loop-holds
     lowest-requires
-    number-requires
+    index-requires
     mul-common
     slice-read-common
     mul-common-2

@@ -33,26 +33,26 @@ minus-requires c κs = search needs
 minus-requires-2 : tie.Need-minus-requires-2 Inv-loop μ-loop
 minus-requires-2 c κs = search needs
 
-number-requires : tie.Need-number-requires Inv-loop μ-loop
-number-requires c κs = c .before .before .lowest .ensures .single
+index-requires : tie.Need-index-requires Inv-loop μ-loop
+index-requires c κs = c .before .before .lowest .ensures .member .single
 
 mul-cheaper : tie.Need-mul-cheaper Inv-loop μ-loop
 mul-cheaper c = search needs
 
 array-read-cheaper : tie.Need-array-read-cheaper Inv-loop μ-loop
-array-read-cheaper c = omega (arith, c .number .ensures .small, c .before .before .before .before .before .before .before .shared .ensures .size)
+array-read-cheaper c = omega (arith, c .index .ensures .small, c .before .before .before .before .before .before .before .shared .ensures .size)
 
 cheaper-requires : tie.Need-cheaper-requires Inv-loop μ-loop
-cheaper-requires c κs = c .before .before .before .lowest .ensures .single
+cheaper-requires c κs = c .before .before .before .lowest .ensures .member .single
 
 loop-less : tie.Need-loop-less Inv-loop μ-loop
-loop-less c = minus-member-less _ _ _ (c .before .before .before .before .before .lowest .ensures) (c .before .before .before .before .minus .ensures)
+loop-less c = minus-member-less _ _ _ (c .before .before .before .before .before .lowest .ensures .member) (c .before .before .before .before .minus .ensures)
 
 loop-again : tie.Need-loop-again Inv-loop μ-loop
-loop-again c = (thinned-trans _ _ _ _ _ _ (c .before .before .before .before .before .before .before .loop .inv .0) (thinned-drop _ _ _ _ _ _ _ _ (c .before .before .before .before .before .lowest .ensures .single) (c .before .before .before .minus2 .ensures) (shared-one _ _ _ _ _ _ _ (c .before .before .before .before .before .before .before .before .before .shared .ensures) (c .before .before .before .before .before .before .before .loop .inv .1) (c .before .before .before .before .before .lowest .ensures) (c .before .before .number .ensures)) (c .before .cheaper .ensures) (c .if1 .taken)), part-trans _ _ _ (minus-part _ _ _ (c .before .before .before .before .minus .ensures)) (c .before .before .before .before .before .before .before .loop .inv .1))
+loop-again c = (thinned-trans _ _ _ _ _ _ (c .before .before .before .before .before .before .before .loop .inv .0) (thinned-drop _ _ _ _ _ _ _ _ (c .before .before .before .before .before .lowest .ensures .member .single) (c .before .before .before .minus2 .ensures) (shared-one _ _ _ _ _ _ _ (c .before .before .before .before .before .before .before .before .before .shared .ensures) (c .before .before .before .before .before .before .before .loop .inv .1) (c .before .before .before .before .before .lowest .ensures .member) (c .before .before .index .ensures)) (c .before .cheaper .ensures) (c .if1 .taken)), part-trans _ _ _ (minus-part _ _ _ (c .before .before .before .before .minus .ensures)) (c .before .before .before .before .before .before .before .loop .inv .1))
 
 loop-less-2 : tie.Need-loop-less-2 Inv-loop μ-loop
-loop-less-2 c = minus-member-less _ _ _ (c .before .before .before .before .before .lowest .ensures) (c .before .before .before .before .minus .ensures)
+loop-less-2 c = minus-member-less _ _ _ (c .before .before .before .before .before .lowest .ensures .member) (c .before .before .before .before .minus .ensures)
 
 loop-again-2 : tie.Need-loop-again-2 Inv-loop μ-loop
 loop-again-2 c = (c .before .before .before .before .before .before .before .loop .inv .0, part-trans _ _ _ (minus-part _ _ _ (c .before .before .before .before .minus .ensures)) (c .before .before .before .before .before .before .before .loop .inv .1))
@@ -72,7 +72,7 @@ thin-spec =
     lowest-requires
     minus-requires
     minus-requires-2
-    number-requires
+    index-requires
     mul-cheaper
     array-read-cheaper
     cheaper-requires
