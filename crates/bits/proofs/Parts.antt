@@ -108,9 +108,9 @@ least-digit =
     ))
     (eq? (n % 2) 1))
 
-pub lowest-is : (x m : ℕ) → 0 < x → Minus x (x - 1) m → Lowest x m
+pub lowest-member : (x m : ℕ) → 0 < x → Minus x (x - 1) m → Lowest x m
 unfolding Minus Single
-lowest-is x m p d =
+lowest-member x m p d =
     let l : (b : ℕ) × Least x b = least-digit x (λ e. omega arith) in
     let b : ℕ = l .0 in
     let here : digit b m ≡ 1 = omega (arith, d b, l .1 .here, l .1 .gone) in
@@ -122,9 +122,6 @@ lowest-is x m p d =
       member = record { single = (b, is); part = minus-part x (x - 1) m d };
       least = λ c h. subst (λ (v : ℕ). v ≤ 2 ^ c) (sym is) (pow-mono (l .1 .least c h));
     }
-
-pub lowest-member : (x m : ℕ) → 0 < x → Minus x (x - 1) m → Member x m
-lowest-member x m p d = lowest-is x m p d .member
 
 -- ---- one member
 

@@ -18,7 +18,7 @@ use Rattle.lister.specs.Levels.{top, OwnAt, NewAt, OwnLevels, KeptLevels
 use Rattle.bits.proofs.Digits.{eq?, digit-lt, pow-here, pow-only}
 use Rattle.bits.proofs.Members.{and-left, and-right, and-both, or-left, or-right, not-zero}
 use Rattle.bits.proofs.Parts.{members, the-member}
-use Rattle.bits.proofs.Steps.{all-next}
+use borrow.Author.Count.{below-more}
 use Rattle.bits.proofs.Tops.{digit-in, mask-below, mask-above, highest-is}
 use Rattle.rows.proofs.Sets.{own-rows}
 
@@ -145,8 +145,8 @@ module _ (rows : List ℕ) (at n : ℕ) (alone : List ℕ) (fresh : ℕ) (h : Le
   pub levels-open : bitAnd (getD rows n 0) at ≡ 0 → LevelsPassed rows at (n + 1) alone (bitOr fresh (getD rows n 0))
   levels-open z = record {
     size = h .size;
-    owns = all-next (λ k. Owns at alone (getD rows k 0)) n (h .owns) (λ i b o. absurd (not-zero b own (o .has) z));
-    news = all-next (λ k. News at (bitOr fresh row) (getD rows k 0)) n
+    owns = below-more (λ k. Owns at alone (getD rows k 0)) n (h .owns) (λ i b o. absurd (not-zero b own (o .has) z));
+    news = below-more (λ k. News at (bitOr fresh row) (getD rows k 0)) n
         (λ k lt i o. or-left i fresh row (h .news k lt i o))
         (λ i o. or-right i fresh row (o .has));
   }
@@ -184,8 +184,8 @@ module _ (rows : List ℕ) (at n : ℕ) (alone : List ℕ) (fresh : ℕ) (h : Le
     pub levels-met : LevelsPassed rows at (n + 1) (set alone k (bitOr (getD alone k 0) levels)) (bitOr fresh up)
     levels-met = record {
       size = simp length-set (h .size);
-      owns = all-next (λ j. Owns at (set alone k (bitOr (getD alone k 0) levels)) (getD rows j 0)) n (λ j lt i b o. grows i b (h .owns j lt i b o)) here;
-      news = all-next (λ j. News at (bitOr fresh up) (getD rows j 0)) n
+      owns = below-more (λ j. Owns at (set alone k (bitOr (getD alone k 0) levels)) (getD rows j 0)) n (λ j lt i b o. grows i b (h .owns j lt i b o)) here;
+      news = below-more (λ j. News at (bitOr fresh up) (getD rows j 0)) n
           (λ j lt i o. or-left i fresh up (h .news j lt i o))
           (λ i o. or-right i fresh up (fresh-here i o));
     }

@@ -16,7 +16,7 @@ use Rattle.bits.proofs.Digits.{eq?, digit-lt, digit-or}
 use Rattle.bits.proofs.Decide.{true-is-not-false}
 use Rattle.bits.proofs.Members.{and-both}
 use Rattle.bits.proofs.Parts.{part-le, members, part-trans, minus-part, the-member, member-of-more, minus-member-less, part-and-less}
-use Rattle.bits.proofs.Steps.{all-next}
+use borrow.Author.Count.{below-more}
 use Rattle.rows.proofs.Sets.{own-rows, own-row-fewer}
 
 -- ---- one row
@@ -68,7 +68,7 @@ module _ (rows : List ℕ) (s free b : ℕ) where
 
   pub barred-more : (n : ℕ) → BarredBelow rows n s free b → Barred rows s free b (getD rows n 0) → BarredBelow rows (n + 1) s free b
   unfolding BarredBelow
-  barred-more n h g = all-next (λ k. Barred rows s free b (getD rows k 0)) n h g
+  barred-more n h g = below-more (λ k. Barred rows s free b (getD rows k 0)) n h g
 
   -- each member of an irredundant cover has a row of its own
   pub barred-all : (n : ℕ) → Member s b → length rows ≤ n → BarredBelow rows n s free b → NoneBetween rows s free

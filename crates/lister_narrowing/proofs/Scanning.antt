@@ -17,8 +17,9 @@ use Rattle.bits.proofs.Digits.{eq?, digit-lt, digit-or, pow-here, pow-only}
 use Rattle.bits.proofs.Decide.{true-is-not-false}
 use Rattle.bits.proofs.Members.{and-left, and-right, not-zero}
 use Rattle.bits.proofs.Parts.{members}
-use Rattle.bits.proofs.Steps.{all-next}
-use Rattle.rows.proofs.Sets.{privates-none, privates-skip, privates-take, privates-done, unmet-none, unmet-skip, unmet-take}
+use borrow.Author.Count.{below-more}
+use Rattle.rows.proofs.Sets.{privates-none, privates-skip, privates-take, privates-done}
+use Rattle.rows.proofs.Unmet.{unmet-none, unmet-met, unmet-more, unmet-all}
 use Rattle.lister_narrowing.proofs.Tightening.{row-forces}
 
 power-not-zero : (x b : ℕ) → x ≡ 0 → x ≡ 2 ^ b → ⊥
@@ -48,12 +49,12 @@ Common rows n s b a = (k : ℕ) → k < n → bitAnd (getD rows k 0) s ≡ 2 ^ b
 common-skip : (rows : List ℕ) (n s b a : ℕ) → Common rows n s b a → (bitAnd (getD rows n 0) s ≡ 2 ^ b → ⊥) → Common rows (n + 1) s b a
 unfolding Common
 common-skip rows n s b a h d =
-    all-next (λ k. bitAnd (getD rows k 0) s ≡ 2 ^ b → (c : ℕ) → digit c a ≡ 1 → digit c (getD rows k 0) ≡ 1) n h (λ z. absurd (d z))
+    below-more (λ k. bitAnd (getD rows k 0) s ≡ 2 ^ b → (c : ℕ) → digit c a ≡ 1 → digit c (getD rows k 0) ≡ 1) n h (λ z. absurd (d z))
 
 common-take : (rows : List ℕ) (n s b a : ℕ) → Common rows n s b a → Common rows (n + 1) s b (bitAnd a (getD rows n 0))
 unfolding Common
 common-take rows n s b a h =
-    all-next (λ k. bitAnd (getD rows k 0) s ≡ 2 ^ b → (c : ℕ) → digit c (bitAnd a (getD rows n 0)) ≡ 1 → digit c (getD rows k 0) ≡ 1) n
+    below-more (λ k. bitAnd (getD rows k 0) s ≡ 2 ^ b → (c : ℕ) → digit c (bitAnd a (getD rows n 0)) ≡ 1 → digit c (getD rows k 0) ≡ 1) n
     (λ k lt z c m. h k lt z c (and-left c a (getD rows n 0) m))
     (λ z c m. and-right c a (getD rows n 0) m)
 
@@ -82,7 +83,7 @@ passed-none rows s free common l = record {
   size = l;
   shared = λ b k lt. absurd (omega arith);
   private-rows = privates-none rows s;
-  unmet-rows = unmet-none rows s 0;
+  unmet-rows = unmet-none rows s;
   must = forced-none rows s free;
 }
 
@@ -95,7 +96,7 @@ module _ (rows : List ℕ) (s free n : ℕ) (common : List ℕ) (owners unmet fo
     size = h .size;
     shared = λ b. common-skip rows n s b (getD common b 0) (h .shared b) (λ e. power-not-zero (bitAnd (getD rows n 0) s) b z e);
     private-rows = privates-skip rows n s owners (h .private-rows) (λ one. power-not-zero (bitAnd (getD rows n 0) s) (one .0) z (one .1));
-    unmet-rows = unmet-take rows n s unmet (h .unmet-rows);
+    unmet-rows = unmet-more rows n s unmet (h .unmet-rows);
     must = forced-or rows s free forced r (h .must) (⊎-elim
         (λ q. subst (Forced rows s free) (sym (q .0)) (forced-none rows s free))
         (λ q. subst (Forced rows s free) (sym (q .0)) (row-forces rows s free n lt z (q .1)))
@@ -115,7 +116,7 @@ module _ (rows : List ℕ) (s free n : ℕ) (common : List ℕ) (owners unmet fo
         (common-skip rows n s b (getD common b 0) (h .shared b) (λ f. q (pow-only b k (sym (ap (digit b) (sym f ∙ e)) ∙ pow-here b)))))
         (eq? b k);
     private-rows = privates-take rows n s owners (h .private-rows) (k, e);
-    unmet-rows = unmet-skip rows n s unmet (h .unmet-rows) (λ z. power-not-zero (bitAnd (getD rows n 0) s) k z e);
+    unmet-rows = unmet-met rows n s unmet (h .unmet-rows) (λ z. power-not-zero (bitAnd (getD rows n 0) s) k z e);
     must = h .must;
   }
     where
@@ -129,7 +130,7 @@ module _ (rows : List ℕ) (s free n : ℕ) (common : List ℕ) (owners unmet fo
     size = h .size;
     shared = λ b. common-skip rows n s b (getD common b 0) (h .shared b) (λ e. d (b, e));
     private-rows = privates-skip rows n s owners (h .private-rows) d;
-    unmet-rows = unmet-skip rows n s unmet (h .unmet-rows) z;
+    unmet-rows = unmet-met rows n s unmet (h .unmet-rows) z;
     must = h .must;
   }
 
@@ -142,7 +143,7 @@ module _ (rows : List ℕ) (s free n : ℕ) (common : List ℕ) (owners unmet fo
       record {
         lost = λ f. absurd (true-is-not-false (sym f));
         owners = λ f. privates-done rows n s owners e (h .private-rows);
-        unmet = λ f. subst (λ (j : ℕ). Unmet rows j s unmet) e (h .unmet-rows);
+        unmet = λ f. unmet-all rows n s unmet e (h .unmet-rows);
         forced = λ f. h .must;
         taken = λ f c m.
             let q : (b : ℕ) × (digit b s ≡ 1) × (digit c (getD common b 0) ≡ 1) = u c m in

@@ -14,7 +14,7 @@ use Rattle.rows.specs.Covers.{Cover}
 use Rattle.rows.specs.Reduction.{Lets, Kept, Reduced}
 use Rattle.bits.proofs.Digits.{eq?, a-member}
 use Rattle.bits.proofs.Members.{and-left, and-right, and-both, not-zero}
-use Rattle.bits.proofs.Steps.{all-next}
+use borrow.Author.Count.{below-more}
 use Rattle.bits.proofs.Parts.{part-le, members, part-self, part-trans}
 
 -- ---- every row contains one that is kept
@@ -45,7 +45,7 @@ module _ (rows : List ℕ) where
   kept? i (suc n) =
       ⊎-elim
       (λ l. ⊎-elim
-      (λ f. inl (λ j lt. all-next (λ k. Lets (getD rows k 0) k (getD rows i 0) i) n f l j (omega arith)))
+      (λ f. inl (λ j lt. below-more (λ k. Lets (getD rows k 0) k (getD rows i 0) i) n f l j (omega arith)))
       (λ r. inr (r .0, omega (arith, r .1), r .2, r .3))
       (kept? i n))
       (λ r. inr (n, omega arith, r .0, r .1))
@@ -88,7 +88,7 @@ module _ (rows out : List ℕ) (n i : ℕ) (g : Gathered rows out n i) where
   gathered-skip not = record {
     few = omega (arith, g .few);
     each = λ k lt. let r : (j : ℕ) × (j < i) × Kept rows j × (getD out k 0 ≡ getD rows j 0) = g .each k lt in (r .0, omega (arith, r .1), r .2, r .3);
-    all = all-next (λ j. Kept rows j → (k : ℕ) × (k < n) × (getD out k 0 ≡ getD rows j 0)) i (g .all) (λ q. absurd (not q));
+    all = below-more (λ j. Kept rows j → (k : ℕ) × (k < n) × (getD out k 0 ≡ getD rows j 0)) i (g .all) (λ q. absurd (not q));
     apart = g .apart;
   }
 
@@ -96,12 +96,12 @@ module _ (rows out : List ℕ) (n i : ℕ) (g : Gathered rows out n i) where
   unfolding Kept Lets
   gathered-take room lt kept = record {
     few = omega (arith, g .few);
-    each = all-next (λ k. (j : ℕ) × (j < i + 1) × Kept rows j × (getD out' k 0 ≡ getD rows j 0)) n
+    each = below-more (λ k. (j : ℕ) × (j < i + 1) × Kept rows j × (getD out' k 0 ≡ getD rows j 0)) n
         (λ k l.
         let r : (j : ℕ) × (j < i) × Kept rows j × (getD out k 0 ≡ getD rows j 0) = g .each k l in
         (r .0, omega (arith, r .1), r .2, other k (λ e. omega arith) ∙ r .3))
         (i, omega arith, kept, at-n n refl);
-    all = all-next (λ j. Kept rows j → (k : ℕ) × (k < n + 1) × (getD out' k 0 ≡ getD rows j 0)) i
+    all = below-more (λ j. Kept rows j → (k : ℕ) × (k < n + 1) × (getD out' k 0 ≡ getD rows j 0)) i
         (λ j l q.
         let r : (k : ℕ) × (k < n) × (getD out k 0 ≡ getD rows j 0) = g .all j l q in
         (r .0, omega (arith, r .1), other (r .0) (λ e. omega (arith, r .1)) ∙ r .2))

@@ -6,11 +6,10 @@ use Prim.Native.Nat.{ℕ, zero, suc, _+_, _^_, _<_}
 use native.Mathlib.Omega.{arith}
 use lib.ListN.{length, getD}
 use lib.Bits.{bitAnd, bitOr, bitXor}
-use Rattle.bits.specs.Bits.{digit, Single, Part}
-use Rattle.rows.specs.Covers.{Cover, IrredundantCover, Own, PrivatesOf, Privates, Unmet, Between}
+use Rattle.bits.specs.Bits.{digit, Single}
+use Rattle.rows.specs.Covers.{Cover, IrredundantCover, Own, PrivatesOf, Privates, Between}
 use Rattle.bits.proofs.Members.{and-left, and-right, and-both, not-zero, part-of, to-part, without-here, without-other, without-part}
-use Rattle.bits.proofs.Parts.{part-or-left, part-or-right}
-use Rattle.bits.proofs.Steps.{earlier-or-last, all-next}
+use borrow.Author.Count.{below-more}
 use Rattle.bits.proofs.Digits.{eq?, digit-lt, digit-of-zero, digit-and, digit-or, member-ext, a-member, pow-here, pow-only}
 
 -- what covers still covers with more members
@@ -31,7 +30,7 @@ missed rows t zero = inl (λ k lt. absurd (omega arith))
 missed rows t (suc n) =
     ⊎-elim (λ e. inr (n, omega arith, e))
     (λ m. ⊎-elim
-    (λ f. inl (λ k lt. all-next (λ j. bitAnd (getD rows j 0) t ≡ 0 → ⊥) n f m k (omega arith)))
+    (λ f. inl (λ k lt. below-more (λ j. bitAnd (getD rows j 0) t ≡ 0 → ⊥) n f m k (omega arith)))
     (λ r. inr (r .0, omega (arith, r .1), r .2))
     (missed rows t n))
     (eq? (bitAnd (getD rows n 0) t) 0)
@@ -112,8 +111,8 @@ own-later rows n s b r = let lt : r .0 < n = r .1 in (r .0, omega arith, r .2)
 own-split : (rows : List ℕ) (n s b : ℕ) → Own rows (n + 1) s b → Own rows n s b ⊎ (bitAnd (getD rows n 0) s ≡ 2 ^ b)
 unfolding Own
 own-split rows n s b r =
-    ⊎-elim (λ (lt : r .0 < n). inl (r .0, lt, r .2))
-    (λ (e : r .0 ≡ n). inr (subst (λ (j : ℕ). bitAnd (getD rows j 0) s ≡ 2 ^ b) e (r .2))) (earlier-or-last (r .0) n (r .1))
+    below-more (λ k. bitAnd (getD rows k 0) s ≡ 2 ^ b → Own rows n s b ⊎ (bitAnd (getD rows n 0) s ≡ 2 ^ b)) n
+    (λ k lt e. inl (k, lt, e)) (λ e. inr e) (r .0) (r .1) (r .2)
 
 pub privates-skip : (rows : List ℕ) (n s a : ℕ) → PrivatesOf rows n s a → (Single (bitAnd (getD rows n 0) s) → ⊥) → PrivatesOf rows (n + 1) s a
 unfolding PrivatesOf Single
@@ -163,23 +162,6 @@ unfolding Own
 own-fewer rows n s x b f m r = (r .0, r .1, own-row-fewer (getD rows (r .0) 0) s x b f m (r .2))
 
 -- ---- rows that s does not meet
-
-pub unmet-none : (rows : List ℕ) (s u : ℕ) → Unmet rows 0 s u
-unfolding Unmet
-unmet-none rows s u k lt = absurd (omega arith)
-
-module _ (rows : List ℕ) (n s u : ℕ) (h : Unmet rows n s u) where
-  -- s meets the next row
-  pub unmet-skip : (bitAnd (getD rows n 0) s ≡ 0 → ⊥) → Unmet rows (n + 1) s u
-  unfolding Unmet
-  unmet-skip m = all-next (λ k. bitAnd (getD rows k 0) s ≡ 0 → Part (getD rows k 0) u) n h (λ z. absurd (m z))
-
-  pub unmet-take : Unmet rows (n + 1) s (bitOr u (getD rows n 0))
-  unfolding Unmet
-  unmet-take =
-      all-next (λ k. bitAnd (getD rows k 0) s ≡ 0 → Part (getD rows k 0) (bitOr u (getD rows n 0))) n
-      (λ k lt z. part-or-left (getD rows k 0) u (getD rows n 0) (h k lt z))
-      (λ z. part-or-right u (getD rows n 0))
 
 module _ (rows : List ℕ) (s free k : ℕ) (lt : k < length rows) (z : bitAnd (getD rows k 0) s ≡ 0) where
   abbrev x : ℕ

@@ -11,6 +11,10 @@ use Rattle.bits.specs.Bits.{digit, Part}
 unfoldable pub Cover : List ℕ → ℕ → Type 0
 Cover rows s = (k : ℕ) → k < length rows → bitAnd (getD rows k 0) s ≡ 0 → ⊥
 
+-- u has all of each row among the first n that s does not meet
+unfoldable pub Unmet : List ℕ → ℕ → ℕ → ℕ → Type 0
+Unmet rows n s u = (k : ℕ) → k < n → bitAnd (getD rows k 0) s ≡ 0 → Part (getD rows k 0) u
+
 -- a cover of which no other part is one
 unfoldable pub IrredundantCover : List ℕ → ℕ → Type 0
 IrredundantCover rows s = Cover rows s × ((t : ℕ) → bitAnd t s ≡ t → Cover rows t → t ≡ s)
@@ -25,10 +29,6 @@ PrivatesOf rows n s a = ((b : ℕ) → digit b a ≡ 1 → Own rows n s b) × ((
 
 unfoldable pub Privates : List ℕ → ℕ → ℕ → Type 0
 Privates rows s a = PrivatesOf rows (length rows) s a
-
--- u has all of each row among the first n that s does not meet
-unfoldable pub Unmet : List ℕ → ℕ → ℕ → ℕ → Type 0
-Unmet rows n s u = (k : ℕ) → k < n → bitAnd (getD rows k 0) s ≡ 0 → Part (getD rows k 0) u
 
 -- t has all of s, and of the rest only members of free
 unfoldable pub Between : ℕ → ℕ → ℕ → Type 0
