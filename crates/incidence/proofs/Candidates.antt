@@ -93,7 +93,8 @@ and-flags x y a b = and-step (x * 2 + cond a 1 0) (y * 2 + cond b 1 0) ∙ rw (h
     least false false = refl
 
 -- the row of a conjunction is the meet of two rows
-pub row-and : {A X Y Z : Type 0} (f : A → X → Bool) (g : A → Y → Bool) (h : A → Z → Bool) (x : X) (y : Y) (z : Z) → ((t : A) → h t z ≡ (f t x && g t y)) → (ts : List A) → bitAnd (rowOf f ts x) (rowOf g ts y) ≡ rowOf h ts z
+pub row-and : {A X Y Z : Type 0} (f : A → X → Bool) (g : A → Y → Bool) (h : A → Z → Bool) (x : X) (y : Y) (z : Z)
+    → ((t : A) → h t z ≡ (f t x && g t y)) → (ts : List A) → bitAnd (rowOf f ts x) (rowOf g ts y) ≡ rowOf h ts z
 unfolding rowOf
 row-and f g h x y z e [] = refl
 row-and f g h x y z e (t ∷ ts) = and-flags (rowOf f ts x) (rowOf g ts y) (f t x) (g t y) ∙ ap₂ (λ (r : ℕ) (b : Bool). r * 2 + cond b 1 0) (row-and f g h x y z e ts) (sym (e t))

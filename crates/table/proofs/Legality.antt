@@ -55,7 +55,8 @@ module _ (n m : ℕ) (t : Term) where
   no-output z p i j = sym (parts p i j ∙ rw (le-ltb 0 (t .outputs) (omega arith)) (
       ap (λ (x : Bool). ltb (t .care) (2 ^ n) && x) (and-false (eqb (bitAnd (t .value) (t .care)) (t .value))) ∙ and-false (ltb (t .care) (2 ^ n))))
 
-  pub outputs-in : (b x b' y : ℕ) (r : Bool) → b ≡ 2 ^ n → x ≡ t .care → x < b → r ≡ eqb (bitAnd (t .value) (t .care)) (t .value) → r ≡ true → (t .outputs ≡ 0 → ⊥) → y ≡ t .outputs → b' ≡ 2 ^ m → TellsFormed n m t (ltb y b')
+  pub outputs-in : (b x b' y : ℕ) (r : Bool) → b ≡ 2 ^ n → x ≡ t .care → x < b → r ≡ eqb (bitAnd (t .value) (t .care)) (t .value) → r ≡ true
+      → (t .outputs ≡ 0 → ⊥) → y ≡ t .outputs → b' ≡ 2 ^ m → TellsFormed n m t (ltb y b')
   outputs-in b x b' y r e g l h k o u w p i j =
       let c : t .care < 2 ^ n = omega arith in
       let d : 0 < t .outputs = omega arith in

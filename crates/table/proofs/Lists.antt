@@ -88,7 +88,8 @@ module _ {A : Type 0} where
       passes-from i zero a b = absurd (omega arith)
       passes-from i (suc k) a b = go (decLt i r) (passes-from (suc i) k)
         where
-          go : Dec (i < r) → (suc i ≤ r → r < suc i + k → filter f (map g (from (suc i) k)) ≡ g r ∷ []) → cond (f (g i)) (g i ∷ filter f (map g (from (suc i) k))) (filter f (map g (from (suc i) k))) ≡ g r ∷ []
+          go : Dec (i < r) → (suc i ≤ r → r < suc i + k → filter f (map g (from (suc i) k)) ≡ g r ∷ [])
+              → cond (f (g i)) (g i ∷ filter f (map g (from (suc i) k))) (filter f (map g (from (suc i) k))) ≡ g r ∷ []
           go (yes l) ih = rw (h i ∙ ne-eqb i r (λ e. omega arith)) (ih l (omega arith))
           go (no l) ih =
               let e : i ≡ r = omega arith in

@@ -38,13 +38,19 @@ digit-requires : tie.Need-digit-requires Inv-loop μ-loop
 digit-requires c κs = search needs
 
 add-set : tie.Need-add-set Inv-loop μ-loop
-add-set c = omega (arith, row-room hasVertex _ _ _ (c .before .before .before .before .before .good .0 .1 .0 .1) (c .before .before .before .before .before .pre) _ _ (c .before .before .before .loop-test .taken) (c .before .before .before .before .loop .inv .0) (c .before .before .before .before .loop .inv .1), digit-le (c .before .in-cube .result) _ (c .digit .ensures))
+add-set c = let c3 = c .before .before .before in let c4 = c3 .before in
+    omega (
+      arith,
+      row-room hasVertex _ _ _ (c4 .before .good .0 .1 .0 .1) (c4 .before .pre) _ _ (c3 .loop-test .taken) (c4 .loop .inv .0) (c4 .loop .inv .1),
+      digit-le (c .before .in-cube .result) _ (c .digit .ensures),
+    )
 
 loop-less : tie.Need-loop-less Inv-loop μ-loop
 loop-less c = search needs
 
 loop-again : tie.Need-loop-again Inv-loop μ-loop
-loop-again c = (search needs, row-next hasVertex _ _ _ (c .before .before .before .before .before .good .0 .1 .0 .1) (c .before .before .before .before .before .pre) _ _ (c .before .before .before .loop-test .taken) (c .before .before .before .before .loop .inv .0) (c .before .before .before .before .loop .inv .1) _ _ _ (c .before .in-cube .ensures) (c .digit .ensures))
+loop-again c = let c3 = c .before .before .before in let c4 = c3 .before in let c5 = c4 .before in
+    (search needs, row-next hasVertex _ _ _ (c5 .good .0 .1 .0 .1) (c5 .pre) _ _ (c3 .loop-test .taken) (c4 .loop .inv .0) (c4 .loop .inv .1) _ _ _ (c .before .in-cube .ensures) (c .digit .ensures))
 
 returns : tie.Need-returns Inv-loop μ-loop
 returns c = row-done hasVertex (c .before .before .args .t1) (c .before .before .args .count) _ _ _ (c .loop-test .left) (c .before .loop .inv .1)

@@ -38,13 +38,20 @@ digit-requires : tie.Need-digit-requires Inv-loop μ-loop
 digit-requires c κs = search needs
 
 add-set : tie.Need-add-set Inv-loop μ-loop
-add-set c = omega (arith, row-room drivesOutput _ _ _ (c .before .before .before .before .good .0 .1 .0 .1) (c .before .before .before .before .pre .0) _ _ (c .before .before .loop-test .taken) (c .before .before .before .loop .inv .0) (c .before .before .before .loop .inv .1), digit-le (c .before .has .result) _ (c .digit .ensures))
+add-set c = let c3 = c .before .before .before in
+    omega (
+      arith,
+      row-room drivesOutput _ _ _ (c3 .before .good .0 .1 .0 .1) (c3 .before .pre .0) _ _ (c .before .before .loop-test .taken)
+          (c3 .loop .inv .0) (c3 .loop .inv .1),
+      digit-le (c .before .has .result) _ (c .digit .ensures),
+    )
 
 loop-less : tie.Need-loop-less Inv-loop μ-loop
 loop-less c = search needs
 
 loop-again : tie.Need-loop-again Inv-loop μ-loop
-loop-again c = (search needs, row-next drivesOutput _ _ _ (c .before .before .before .before .good .0 .1 .0 .1) (c .before .before .before .before .pre .0) _ _ (c .before .before .loop-test .taken) (c .before .before .before .loop .inv .0) (c .before .before .before .loop .inv .1) _ _ _ (c .before .has .ensures) (c .digit .ensures))
+loop-again c = let c2 = c .before .before in let c3 = c2 .before in let c4 = c3 .before in
+    (search needs, row-next drivesOutput _ _ _ (c4 .good .0 .1 .0 .1) (c4 .pre .0) _ _ (c2 .loop-test .taken) (c3 .loop .inv .0) (c3 .loop .inv .1) _ _ _ (c .before .has .ensures) (c .digit .ensures))
 
 returns : tie.Need-returns Inv-loop μ-loop
 returns c = row-done drivesOutput (c .before .before .args .t1) (c .before .before .args .count) _ _ _ (c .loop-test .left) (c .before .loop .inv .1)

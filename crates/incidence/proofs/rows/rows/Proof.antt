@@ -33,7 +33,8 @@ element-copy-out-put-vertex : tie.Need-element-copy-out-put-vertex Inv-loop μ-l
 element-copy-out-put-vertex c = omega (arith, power-le _ _ (c .before .before .before .before .before .before .pre .1) (c .before .before .before .before .bound .ensures))
 
 put-vertex-requires : tie.Need-put-vertex-requires Inv-loop μ-loop
-put-vertex-requires c κs = (c .before .before .before .before .before .before .before .before .pre .2, omega (arith, power-le _ _ (c .before .before .before .before .before .before .before .before .pre .1) (c .before .before .before .before .before .before .bound .ensures), c .before .before .before .before .loop .inv .1 .within), omega (arith, c .before .before .before .before .before .before .before .before .pre .3, c .before .before .before .before .loop .inv .1 .size))
+put-vertex-requires c κs = let c4 = c .before .before .before .before in let c6 = c4 .before .before in let c8 = c6 .before .before in
+    (c8 .pre .2, omega (arith, power-le _ _ (c8 .pre .1) (c6 .bound .ensures), c4 .loop .inv .1 .within), omega (arith, c8 .pre .3, c4 .loop .inv .1 .size))
 
 add-v : tie.Need-add-v Inv-loop μ-loop
 add-v c = search needs
@@ -42,7 +43,8 @@ loop-less : tie.Need-loop-less Inv-loop μ-loop
 loop-less c = search needs
 
 loop-again : tie.Need-loop-again Inv-loop μ-loop
-loop-again c = (search needs, upto-next _ _ _ _ _ _ _ _ _ _ _ (c .before .before .before .before .before .before .before .before .before .before .before .pre .2) (c .before .before .before .before .before .cubes-at .ensures) (c .before .before .before .before .before .before .before .loop .inv .1) (c .before .before .put-vertex .ensures))
+loop-again c = let c5 = c .before .before .before .before .before in let c7 = c5 .before .before in
+    (search needs, upto-next _ _ _ _ _ _ _ _ _ _ _ (c7 .before .before .before .before .pre .2) (c5 .cubes-at .ensures) (c7 .loop .inv .1) (c .before .before .put-vertex .ensures))
 
 same-length : tie.Need-same-length Inv-loop μ-loop
 same-length c = c .before .loop .inv .1 .size

@@ -50,16 +50,19 @@ halves-pair-requires-3 : (t : ℕ) → halves-lts.Need-pair-requires-3 (G t) (ha
 halves-pair-requires-3 t c κs = search needs
 
 halves-returns-2 : (t : ℕ) → halves-lts.Need-returns-2 (G t) (halves-at t) halves.Post
-halves-returns-2 t c = four-vertices _ _ _ _ _ (c .before .before .before .before .before .first-free .ensures) (c .before .before .before .first-free2 .ensures) (c .before .before .if2 .taken) _ _ (c .before .pair2 .ensures) (c .pair3 .ensures)
+halves-returns-2 t c = let c2 = c .before .before in
+    four-vertices _ _ _ _ _ (c2 .before .before .before .first-free .ensures) (c2 .before .first-free2 .ensures) (c2 .if2 .taken) _ _ (c .before .pair2 .ensures) (c .pair3 .ensures)
 
 halves-halves-requires : (t : ℕ) → halves-lts.Need-halves-requires (G t) (halves-at t) halves.Post
-halves-halves-requires t c κs = (omega (arith, (c .before .before .before .before .pre .0), fewer-free _ _ _ (c .before .before .before .first-free .ensures) refl), omega (arith, (c .before .before .if1 .left)))
+halves-halves-requires t c κs = let c2 = c .before .before in
+    (omega (arith, (c2 .before .before .pre .0), fewer-free _ _ _ (c2 .before .first-free .ensures) refl), omega (arith, (c2 .if1 .left)))
 
 halves-returns-3 : (t : ℕ) → halves-lts.Need-returns-3 (G t) (halves-at t) halves.Post
 halves-returns-3 t c = first-half-none _ _ _ _ (c .before .before .before .before .before .first-free .ensures) _ _ refl (c .before .halves .ensures) (c .if3 .taken)
 
 halves-halves-requires-2 : (t : ℕ) → halves-lts.Need-halves-requires-2 (G t) (halves-at t) halves.Post
-halves-halves-requires-2 t c κs = (omega (arith, (c .before .before .before .before .before .before .pre .0), fewer-free _ _ _ (c .before .before .before .before .before .first-free .ensures) refl), omega (arith, (c .before .before .before .before .if1 .left)))
+halves-halves-requires-2 t c κs = let c4 = c .before .before .before .before in
+    (omega (arith, (c4 .before .before .pre .0), fewer-free _ _ _ (c4 .before .first-free .ensures) refl), omega (arith, (c4 .if1 .left)))
 
 halves-returns-4 : (t : ℕ) → halves-lts.Need-returns-4 (G t) (halves-at t) halves.Post
 halves-returns-4 t c = both-halves _ _ _ _ (c .before .before .before .before .before .before .first-free .ensures) _ _ _ _ refl refl (c .before .before .halves .ensures) (c .halves2 .ensures)

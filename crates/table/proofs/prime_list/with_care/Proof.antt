@@ -36,7 +36,8 @@ with-requires : tie.Need-with-requires Inv-loop μ-loop
 with-requires c κs = search needs
 
 returns : tie.Need-returns Inv-loop μ-loop
-returns c = care-full _ _ _ _ _ _ _ _ _ (c .before .before .before .before .before .before .bound .ensures) (c .before .before .before .before .loop-test .taken) (c .before .before .before .before .before .loop .inv .1) (c .before .before .before .outputs-at .ensures) (c .before .before .if1 .taken) (c .before .with .ensures) (c .if2 .taken)
+returns c = let c2 = c .before .before in let c3 = c2 .before in let c5 = c3 .before .before in
+    care-full _ _ _ _ _ _ _ _ _ (c5 .before .bound .ensures) (c3 .before .loop-test .taken) (c5 .loop .inv .1) (c3 .outputs-at .ensures) (c2 .if1 .taken) (c .before .with .ensures) (c .if2 .taken)
 
 add-value : tie.Need-add-value Inv-loop μ-loop
 add-value c = search needs
