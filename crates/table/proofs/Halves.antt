@@ -25,6 +25,7 @@ use Rattle.model.proofs.Drives.{bit-or}
 use Rattle.bits.specs.Bits.{Single, Member}
 use Rattle.bits.proofs.Shifts.{set-is-or}
 use Rattle.bits.proofs.Digits.{digit-bit}
+use borrow.Author.Count.{below-more}
 use Rattle.bits.proofs.Parts.{part-le, part-self, the-member}
 
 -- ---- on | dc, vertex by vertex
@@ -35,11 +36,10 @@ MayBelow on dc k may = (v : ℕ) → v < k → getD may v 0 ≡ bitOr (getD on v
 
 module _ (on dc may : List ℕ) where
   pub may-next : (k : ℕ) → k < length may → MayBelow on dc k may → MayBelow on dc (k + 1) (set may k (bitOr (getD on k 0) (getD dc k 0)))
-  may-next k l h v b = go (ℕ-discrete v k)
-    where
-      go : Dec (v ≡ k) → getD (set may k (bitOr (getD on k 0) (getD dc k 0))) v 0 ≡ bitOr (getD on v 0) (getD dc v 0)
-      go (yes e) = rw e (getD-set-same may k (bitOr (getD on k 0) (getD dc k 0)) 0 l)
-      go (no d) = getD-set-other may k v (bitOr (getD on k 0) (getD dc k 0)) 0 d ∙ h v (omega arith)
+  may-next k l h =
+      let x : ℕ = bitOr (getD on k 0) (getD dc k 0) in
+      below-more (λ v. getD (set may k x) v 0 ≡ bitOr (getD on v 0) (getD dc v 0)) k
+      (λ v b. getD-set-other may k v x 0 (λ e. omega arith) ∙ h v b) (getD-set-same may k x 0 l)
 
   pub may-all : (k : ℕ) → 256 ≤ k → MayBelow on dc k may → MayOf on dc may
   may-all k l h p n small t = record {
@@ -127,7 +127,7 @@ pub drives-none : (may : List ℕ) (n care value : ℕ) → Cube n care value �
 drives-none may n care value k e p a = sym (bits-ext (drives p care value) 0
     (λ j. bool-ext (bit j (drives p care value)) (bit j 0) (λ t. subst (λ (x : ℕ). T (bit j x)) e (at-first may n care value k p a j t)) (λ t. absurd (omega (arith, bit-le j 0 t, pow-pos j)))))
 
-pub drives-vertex : (may : List ℕ) (value : ℕ) → DrivesFree may 0 value (getD may value 0)
+drives-vertex : (may : List ℕ) (value : ℕ) → DrivesFree may 0 value (getD may value 0)
 drives-vertex may value n care k f p a = bits-ext (getD may value 0) (drives p care value)
     (λ j. bool-ext (bit j (getD may value 0)) (bit j (drives p care value)) (at-only may n care value k p a f j) (at-first may n care value k p a j))
 

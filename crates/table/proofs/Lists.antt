@@ -50,7 +50,7 @@ module _ {A : Type 0} where
       go false h = h
 
   module _ (part : ℕ → List A) (k : ℕ) where
-    pub parts-split : (s : ℕ) → k ≤ s → parts part s ≡ parts part k ++ join (map part (from k (s - k)))
+    parts-split : (s : ℕ) → k ≤ s → parts part s ≡ parts part k ++ join (map part (from k (s - k)))
     parts-split s l =
         ap (λ (xs : List ℕ). join (map part xs)) (below-split k s l)
         ∙ ap join (map-append part (below k) (from k (s - k)))
@@ -101,7 +101,7 @@ module _ {A : Type 0} where
   -- ---- an array that holds a list, with one entry more
 
   module _ (cap : ℕ) (array : List A) (count : ℕ) where
-    pub filled-next : (xs : List A) (x : A) → Filled cap xs array count → count < cap → Filled cap (xs ++ (x ∷ [])) (set array count x) (count + 1)
+    filled-next : (xs : List A) (x : A) → Filled cap xs array count → count < cap → Filled cap (xs ++ (x ∷ [])) (set array count x) (count + 1)
     filled-next xs x f l = record {
       size = length-set array count x ∙ f .size;
       counted = omega (arith, f .counted, length-append xs (x ∷ []));

@@ -44,11 +44,11 @@ module _ (a : PrimeList) (t : Term) where
 pub extends-none : (a : PrimeList) (ts : List Term) → ts ≡ [] → Extends a ts a
 extends-none a ts e xs h = rw (e, append-nil) h
 
-pub extends-both : (a b c : PrimeList) (ts us : List Term) → Extends a ts b → Extends b us c → Extends a (ts ++ us) c
+extends-both : (a b c : PrimeList) (ts us : List Term) → Extends a ts b → Extends b us c → Extends a (ts ++ us) c
 extends-both a b c ts us f g xs h = subst (λ (l : List Term). Listed l c) (append-assoc xs ts us) (g (xs ++ ts) (f xs h))
 
 -- a full list stays as it is, whatever comes
-pub extends-full : (a b : PrimeList) (ts us : List Term) → Extends a ts b → b .full ≡ true → Extends a (ts ++ us) b
+extends-full : (a b : PrimeList) (ts us : List Term) → Extends a ts b → b .full ≡ true → Extends a (ts ++ us) b
 extends-full a b ts us f e xs h =
     let k : Listed (xs ++ ts) b = f xs h in
     let l : 64 < length (xs ++ ts) = ltb-true 64 (length (xs ++ ts)) (sym (k .more) ∙ e) in
