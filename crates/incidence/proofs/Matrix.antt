@@ -3,7 +3,7 @@ use Prim.Native.Nat.{ℕ, suc, _+_, _*_, _^_, _≤_, _<_}
 use native.Mathlib.Omega.{arith}
 use mathlib.Core.Path.{_≡_, refl, sym, ap, ap₂, _∙_, subst, subst⁻¹}
 use mathlib.Core.Bool.{Bool, true, false, cond}
-use mathlib.Core.List.{List, [], _∷_, _++_, map, append-nil, append-assoc, List·Memᴰ, List·Memᴰ·head, List·Memᴰ·tail}
+use mathlib.Core.List.{List, [], _∷_, _++_, map, map-append, append-nil, append-assoc, List·Memᴰ, List·Memᴰ·head, List·Memᴰ·tail}
 use lib.Bits.{bitAnd}
 use lib.ListN.{length, drop, getD, set, length-append, length-drop, length-set}
 use lib.Seq.{drop-cons, set-at}
@@ -14,7 +14,7 @@ use Rattle.model.specs.Sets.{rowOf}
 use Rattle.model.proofs.Lists.{below-e}
 use Rattle.table.specs.Lists.{parts}
 use Rattle.incidence.specs.Rows.{hasVertex, Driving, Put, Appends, cellRow, vertexRows, AllRows}
-use Rattle.table.proofs.Lists.{map-append, filter-append, parts-next}
+use Rattle.table.proofs.Lists.{filter-append, parts-next}
 use Rattle.incidence.proofs.Candidates.{cell-row}
 
 -- ---- one row more

@@ -54,11 +54,12 @@ fn with_care(may: &[u8; 256], n: u8, care: u8, list: PrimeList) -> PrimeList
     let mut next = list;
     let mut value: usize = 0;
     while value < size {
-        let outputs = primes::outputs_at(may, n, care, value as u8);
+        let v = value as u8;
+        let outputs = primes::outputs_at(may, n, care, v);
         if outputs != 0 {
             next = next.with(Term {
                 care: care,
-                value: value as u8,
+                value: v,
                 outputs: outputs,
             });
             if next.full {

@@ -23,14 +23,11 @@ bound-requires c κs = c .pre .0
 loop-holds : tie.Need-loop-holds Inv-loop μ-loop
 loop-holds c = (search needs, λ p h. extends-none _ [] refl)
 
-cast-outputs-at : tie.Need-cast-outputs-at Inv-loop μ-loop
-cast-outputs-at c = omega (arith, power-le _ _ (c .before .before .before .pre .0) (c .before .before .bound .ensures))
+cast-v : tie.Need-cast-v Inv-loop μ-loop
+cast-v c = omega (arith, power-le _ _ (c .before .before .before .pre .0) (c .before .before .bound .ensures))
 
 outputs-at-requires : tie.Need-outputs-at-requires Inv-loop μ-loop
 outputs-at-requires c κs = c .before .before .before .pre
-
-cast-t11 : tie.Need-cast-t11 Inv-loop μ-loop
-cast-t11 c = record { fits = omega (arith, power-le _ _ (c .before .before .before .before .before .pre .0) (c .before .before .before .before .bound .ensures)) }
 
 with-requires : tie.Need-with-requires Inv-loop μ-loop
 with-requires c κs = search needs
@@ -65,9 +62,8 @@ with-care-spec =
     μ-loop
     bound-requires
     loop-holds
-    cast-outputs-at
+    cast-v
     outputs-at-requires
-    cast-t11
     with-requires
     returns
     add-value
