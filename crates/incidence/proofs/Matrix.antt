@@ -87,17 +87,17 @@ module _ (on : List ℕ) (ts : List Term) (driving : List ℕ) (m : ℕ) where
   rowsAt v = vertexRows (getD on v 0) (rowOf hasVertex ts v) driving m
 
   -- the rows of the vertices below k stand in the buffer, eight at most for each
-  pub record Upto (k : ℕ) (old new : List ℕ) (r : ℕ) : Type 0 where
+  pub record RowsBelow (k : ℕ) (old new : List ℕ) (r : ℕ) : Type 0 where
     pub size : length new ≡ length old
     pub within : r ≤ 8 * k
     pub put : Put (parts rowsAt k) old new r
 
-  pub upto-none : (old : List ℕ) → Upto 0 old old 0
-  upto-none old = record { size = refl; within = omega arith; put = record { counted = refl; most = omega arith; same = refl } }
+  pub rows-none : (old : List ℕ) → RowsBelow 0 old old 0
+  rows-none old = record { size = refl; within = omega arith; put = record { counted = refl; most = omega arith; same = refl } }
 
-  pub upto-next : (k : ℕ) (old a b : List ℕ) (at r cubes : ℕ) → m ≤ 8 → cubes ≡ rowOf hasVertex ts k → Upto k old a at
-      → Appends a at (vertexRows (getD on k 0) cubes driving m) m b r → Upto (k + 1) old b r
-  upto-next k old a b at r cubes l e u f = record {
+  pub rows-next : (k : ℕ) (old a b : List ℕ) (at r cubes : ℕ) → m ≤ 8 → cubes ≡ rowOf hasVertex ts k → RowsBelow k old a at
+      → Appends a at (vertexRows (getD on k 0) cubes driving m) m b r → RowsBelow (k + 1) old b r
+  rows-next k old a b at r cubes l e u f = record {
     size = f .size ∙ u .size;
     within = omega (arith, u .within, f .within);
     put = subst⁻¹ (λ (xs : List ℕ). Put xs old b r) (parts-next rowsAt k)
@@ -134,7 +134,7 @@ vertex-is p ts driving v (j ∷ js) e = go (bit j (getD (p .on) v 0)) (vertex-is
     go false h = h
 
 pub rows-all : (on : List ℕ) (ts : List Term) (driving : List ℕ) (n m k s : ℕ) (old new : List ℕ) (r : ℕ) → s ≡ 2 ^ n → Driving ts m driving → s ≤ k
-    → k ≤ s → Upto on ts driving m k old new r → AllRows on n m ts old new r
+    → k ≤ s → RowsBelow on ts driving m k old new r → AllRows on n m ts old new r
 unfolding cells onCells vertexRows
 rows-all on ts driving n m k s old new r e d l g u p o =
     let i : k ≡ 2 ^ p .n = omega (arith, ap (λ (x : ℕ). 2 ^ x) (o .inputs)) in
