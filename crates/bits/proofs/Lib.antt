@@ -4,3 +4,4 @@ pub mod Decide
 pub mod Members
 pub mod Parts
 pub mod Tops
+pub mod Steps

@@ -1,14 +1,17 @@
 -- Parts of a set, a set without another, disjoint sets, and one member of a set, all by their bits.
 use mathlib.Core.Path.{_≡_, refl, sym, ap, _∙_, subst}
-use mathlib.Core.Logic.{_↔_, _⊎_, inl, inr, ⊎-elim}
+use mathlib.Core.Bool.{Bool, true, false, cond}
+use mathlib.Core.Logic.{_⊎_, inl, inr, ⊎-elim}
 use Prim.Native.Nat.{ℕ, zero, suc, _-_, _/_, _%_, _^_, _≤_, _<_, min}
 use native.Mathlib.Omega.{arith}
 use lib.Arith.{bin-ind}
 use lib.Bits.{bitAnd, bitOr, bitXor, differ, and-le-r}
-use Rattle.model.specs.Sets.{Within}
-use Rattle.bits.specs.Bits.{digit, Single, Part, Minus, Member}
-use Rattle.bits.proofs.Digits.{eq?, digit-first, digit-next, digit-lt, digit-and, digit-or, digit-xor, digit-ext, member-ext, a-member, pow-here, pow-only, digit-bit}
-use Rattle.bits.proofs.Members.{part-of, to-part, and-left, and-right, and-both, not-zero}
+use lib.Count.{ones}
+use lib.Dec.{ltb}
+use lib.Pow.{pow-mono}
+use Rattle.bits.specs.Bits.{digit, Single, Part, Minus, Member, Lowest, fewer}
+use Rattle.bits.proofs.Digits.{eq?, digit-first, digit-next, digit-lt, digit-and, digit-or, digit-xor, digit-ext, member-ext, a-member, pow-here, pow-only}
+use Rattle.bits.proofs.Members.{part-of, to-part, and-left, and-right, and-both, or-left, or-right, not-zero}
 
 -- ---- parts
 
@@ -65,36 +68,59 @@ even-others n b zero z e f d = omega (arith, digit-first n)
 even-others n b (suc c) z e f d =
     omega (arith, digit-next c n, digit-next c (n - 1), ap (digit c) e, f c (λ q. d (ap suc q)))
 
--- the lowest digit of x is the only one that x has and x - 1 has not
-lowest-bit : (x : ℕ) → (x ≡ 0 → ⊥) → (b : ℕ) × (digit b x ≡ 1) × (digit b (x - 1) ≡ 0) × ((c : ℕ) → (c ≡ b → ⊥) → digit c x ≤ digit c (x - 1))
-lowest-bit =
-    bin-ind (λ (x : ℕ). (x ≡ 0 → ⊥) → (b : ℕ) × (digit b x ≡ 1) × (digit b (x - 1) ≡ 0) × ((c : ℕ) → (c ≡ b → ⊥) → digit c x ≤ digit c (x - 1)))
-    (λ h. absurd (h refl))
+-- an even number's members, one up
+even-least : (n b c : ℕ) → n % 2 ≡ 0 → ((j : ℕ) → digit j (n / 2) ≡ 1 → b ≤ j) → digit c n ≡ 1 → suc b ≤ c
+even-least n b zero z f h = absurd (omega (arith, digit-first n))
+even-least n b (suc c) z f h = omega (arith, f c (sym (digit-next c n) ∙ h))
+
+-- b is the lowest digit of x, and the only one that x has and x - 1 has not
+record Least (x b : ℕ) : Type 0 where
+  here : digit b x ≡ 1
+  gone : digit b (x - 1) ≡ 0
+  others : (c : ℕ) → (c ≡ b → ⊥) → digit c x ≤ digit c (x - 1)
+  least : (c : ℕ) → digit c x ≡ 1 → b ≤ c
+
+least-digit : (x : ℕ) → (x ≡ 0 → ⊥) → (b : ℕ) × Least x b
+least-digit =
+    bin-ind (λ (x : ℕ). (x ≡ 0 → ⊥) → (b : ℕ) × Least x b) (λ h. absurd (h refl))
     (λ n ih h. ⊎-elim
-    (λ o. (0, digit-first n ∙ o, digit-first (n - 1) ∙ omega arith, λ c d. odd-others n c (omega arith) d))
+    (λ o. (
+      0,
+      record {
+        here = digit-first n ∙ o;
+        gone = digit-first (n - 1) ∙ omega arith;
+        others = λ c d. odd-others n c (omega arith) d;
+        least = λ c m. omega arith;
+      },
+    ))
     (λ o.
     let z : n % 2 ≡ 0 = omega arith in
     let e : (n - 1) / 2 ≡ n / 2 - 1 = omega arith in
-    let r : (b : ℕ) × (digit b (n / 2) ≡ 1) × (digit b (n / 2 - 1) ≡ 0) × ((c : ℕ) → (c ≡ b → ⊥) → digit c (n / 2) ≤ digit c (n / 2 - 1))
-    = ih (λ y. h (omega arith)) in
-    (suc (r .0), digit-next (r .0) n ∙ r .1, digit-next (r .0) (n - 1) ∙ ap (digit (r .0)) e ∙ r .2, λ c d. even-others n (r .0) c z e (r .3) d))
+    let r : (b : ℕ) × Least (n / 2) b = ih (λ y. h (omega arith)) in
+    let b : ℕ = r .0 in (
+      suc b,
+      record {
+        here = digit-next b n ∙ r .1 .here;
+        gone = digit-next b (n - 1) ∙ ap (digit b) e ∙ r .1 .gone;
+        others = λ c d. even-others n b c z e (r .1 .others) d;
+        least = λ c m. even-least n b c z (r .1 .least) m;
+      },
+    ))
     (eq? (n % 2) 1))
 
-pub lowest-member : (x m : ℕ) → 0 < x → Minus x (x - 1) m → Member x m
+pub lowest-member : (x m : ℕ) → 0 < x → Minus x (x - 1) m → Lowest x m
 unfolding Minus Single
 lowest-member x m p d =
-    let l : (b : ℕ) × (digit b x ≡ 1) × (digit b (x - 1) ≡ 0) × ((c : ℕ) → (c ≡ b → ⊥) → digit c x ≤ digit c (x - 1))
-    = lowest-bit x (λ e. omega arith) in
+    let l : (b : ℕ) × Least x b = least-digit x (λ e. omega arith) in
     let b : ℕ = l .0 in
-    let here : digit b m ≡ 1 = omega (arith, d b, l .1, l .2) in
+    let here : digit b m ≡ 1 = omega (arith, d b, l .1 .here, l .1 .gone) in
+    let is : m ≡ 2 ^ b
+    = member-ext m (2 ^ b)
+    (λ c h. ⊎-elim (λ e. subst (λ (j : ℕ). digit j (2 ^ b) ≡ 1) (sym e) (pow-here b)) (λ n. absurd (omega (arith, d c, l .1 .others c n))) (eq? c b))
+    (λ c h. subst (λ (j : ℕ). digit j m ≡ 1) (sym (pow-only c b h)) here) in
     record {
-      single = (
-        b,
-        member-ext m (2 ^ b)
-            (λ c h. ⊎-elim (λ e. subst (λ (j : ℕ). digit j (2 ^ b) ≡ 1) (sym e) (pow-here b)) (λ n. absurd (omega (arith, d c, l .3 c n))) (eq? c b))
-            (λ c h. subst (λ (j : ℕ). digit j m ≡ 1) (sym (pow-only c b h)) here),
-      );
-      part = minus-part x (x - 1) m d;
+      member = record { single = (b, is); part = minus-part x (x - 1) m d };
+      least = λ c h. subst (λ (v : ℕ). v ≤ 2 ^ c) (sym is) (pow-mono (l .1 .least c h));
     }
 
 -- ---- one member
@@ -119,13 +145,19 @@ minus-member-less x m r h d =
     let le : r ≤ x = part-le r x (minus-part x m r d) in
     ⊎-elim (λ e. absurd (omega (arith, d b, w .2, ap (digit b) e))) (λ n. omega arith) (eq? r x)
 
--- ---- parts of an `and`, and disjoint sets
+-- ---- parts of an `and` and of an `or`, and disjoint sets
 
 pub part-and-left : (a b : ℕ) → Part (bitAnd a b) b
 part-and-left a b = by-members (bitAnd a b) b (λ c h. and-right c a b h)
 
 pub part-and-less : (a b x : ℕ) → Part a x → Part (bitAnd a b) x
 part-and-less a b x p = by-members (bitAnd a b) x (λ c h. members a x p c (and-left c a b h))
+
+pub part-or-left : (x a b : ℕ) → Part x a → Part x (bitOr a b)
+part-or-left x a b p = by-members x (bitOr a b) (λ c m. or-left c a b (members x a p c m))
+
+pub part-or-right : (a b : ℕ) → Part b (bitOr a b)
+part-or-right a b = by-members b (bitOr a b) (λ c m. or-right c a b m)
 
 pub apart-by : (a b : ℕ) → ((c : ℕ) → digit c a ≡ 1 → digit c b ≡ 1 → ⊥) → bitAnd a b ≡ 0
 apart-by a b f =
@@ -143,9 +175,12 @@ and-or t a b =
     digit-ext (bitAnd t (bitOr a b)) (bitOr (bitAnd t a) (bitAnd t b)) λ c.
     omega (arith, digit-and c t (bitOr a b), digit-or c a b, digit-or c (bitAnd t a) (bitAnd t b), digit-and c t a, digit-and c t b)
 
--- crate model's subsets
-pub part-within : (t s : ℕ) → Part t s ↔ Within t s
-part-within t s = (
-  λ p i b. digit-bit i s .1 (members t s p i (digit-bit i t .0 b)),
-  λ w. by-members t s (λ i d. digit-bit i s .0 (w i (digit-bit i t .1 d))),
-)
+-- ---- the one with fewer members
+
+pub fewer-either : (x y : ℕ) → (fewer x y ≡ x) ⊎ (fewer x y ≡ y)
+unfolding fewer
+fewer-either x y = go (ltb (ones y) (ones x))
+  where
+    go : (b : Bool) → (cond b y x ≡ x) ⊎ (cond b y x ≡ y)
+    go true = inr refl
+    go false = inl refl

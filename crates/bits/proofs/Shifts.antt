@@ -1,5 +1,5 @@
 -- Shifts and single bits: the power that a shift makes, the bit that one reads, the bit that an `or` sets.
-use Prim.Native.Nat.{ℕ, zero, suc, _+_, _*_, _/_, _%_, _^_, _≤_, _<_}
+use Prim.Native.Nat.{ℕ, zero, suc, _+_, _*_, _/_, _%_, _^_, _≤_}
 use native.Mathlib.Omega.{arith}
 use native.Mathlib.Nat.{one-mul, div-one, pow-suc, pow-succ', div-div-eq-div-mul}
 use mathlib.Core.Path.{_≡_, sym, ap, _∙_}

@@ -1,14 +1,13 @@
--- The highest member of a set, and the members below a number.
+-- The highest member of a set, the members below a number, and the index of a single member.
 use mathlib.Core.Path.{_≡_, refl, sym, ap, _∙_, subst}
-use mathlib.Core.Logic.{⊎-elim}
-use Prim.Native.Nat.{ℕ, suc, _+_, _-_, _*_, _/_, _%_, _^_, _≤_, _<_}
+use Prim.Native.Nat.{ℕ, zero, suc, _+_, _-_, _*_, _/_, _%_, _^_, _≤_, _<_}
 use native.Mathlib.Nat.{div-eq-of-lt, mod-eq-of-lt, pow-suc}
 use native.Mathlib.Decide.{decLt}
 use native.Mathlib.Omega.{arith}
-use lib.Bits.{bitAnd, and-mask}
-use lib.Count.{leadingZeros, leading-top}
+use lib.Bits.{and-mask}
+use lib.Count.{leadingZeros, leading-top, trailingZeros, under}
 use lib.Pow.{pow-pos, pow-mono, pow-lt, high}
-use Rattle.bits.specs.Bits.{digit, Single, Member, Highest}
+use Rattle.bits.specs.Bits.{digit, Single, Highest, Index}
 use Rattle.bits.proofs.Digits.{pow-here, pow-only}
 use Rattle.bits.proofs.Members.{part-of}
 use Rattle.bits.proofs.Parts.{by-members}
@@ -74,3 +73,32 @@ highest-power x m pos fits e =
             | no ge ↦ let le : b ≤ j = omega arith in let l : 2 ^ b ≤ 2 ^ j = pow-mono le in omega arith
           ];
     }
+
+-- ---- the index of a single member
+
+trailing-power : (k b : ℕ) → b < k → trailingZeros k (2 ^ b) ≡ b
+unfolding trailingZeros
+trailing-power zero b lt = absurd (omega arith)
+trailing-power (suc k) zero lt = refl
+trailing-power (suc k) (suc b) lt =
+    let e : 2 ^ suc b ≡ 2 ^ b * 2 = pow-suc 2 b in
+    let even : 2 ^ suc b % 2 ≡ 0 = omega arith in
+    let half : 2 ^ suc b / 2 ≡ 2 ^ b = omega arith in
+    ap (λ (d : ℕ). under d (trailingZeros k (2 ^ suc b / 2))) even
+    ∙ ap (λ (n : ℕ). suc (trailingZeros k n)) half
+    ∙ ap suc (trailing-power k b (omega arith))
+
+small-power : (m b k : ℕ) → m ≡ 2 ^ b → m < 2 ^ k → b < k
+small-power m b k e lt =
+    elim (decLt b k) [
+      | yes l ↦ l
+      | no ge ↦ let le : k ≤ b = omega arith in let p : 2 ^ k ≤ 2 ^ b = pow-mono le in absurd (omega arith)
+    ]
+
+pub index-is : (m : ℕ) → Single m → m < 2 ^ 64 → Index m (trailingZeros 64 m)
+unfolding Single
+index-is m one fits =
+    let b : ℕ = one .0 in
+    let small : b < 64 = small-power m b 64 (one .1) fits in
+    let e : trailingZeros 64 m ≡ b = ap (trailingZeros 64) (one .1) ∙ trailing-power 64 b small in
+    record { small = omega arith; is = one .1 ∙ ap (λ (k : ℕ). 2 ^ k) (sym e) }

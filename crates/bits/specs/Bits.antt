@@ -1,8 +1,10 @@
 -- What the contracts on bits cite: a number's bits as numbers, and sets as numbers whose bits are the members.
 use mathlib.Core.Path.{_≡_}
-use mathlib.Core.Bool.{Bool, true, false}
-use Prim.Native.Nat.{ℕ, _-_, _/_, _%_, _^_, _≤_}
+use mathlib.Core.Bool.{Bool, true, false, cond}
+use Prim.Native.Nat.{ℕ, _-_, _/_, _%_, _^_, _≤_, _<_}
 use lib.Bits.{bitAnd}
+use lib.Count.{ones}
+use lib.Dec.{ltb}
 
 -- r says whether P holds
 unfoldable pub Decides : Type 0 → Bool → Type 0
@@ -17,7 +19,7 @@ digit b x = x / 2 ^ b % 2
 unfoldable pub Single : ℕ → Type 0
 Single x = (b : ℕ) × (x ≡ 2 ^ b)
 
--- every member of t is one of s (law `part-within`: crate model's `Within`)
+-- every member of t is one of s
 unfoldable pub Part : ℕ → ℕ → Type 0
 Part t s = bitAnd t s ≡ t
 
@@ -34,3 +36,17 @@ pub record Member (x m : ℕ) : Type 0 where
 pub record Highest (x m : ℕ) : Type 0 where
   pub member : Member x m
   pub greatest : (b : ℕ) → digit b x ≡ 1 → 2 ^ b ≤ m
+
+-- m is the member of x that is below all others
+pub record Lowest (x m : ℕ) : Type 0 where
+  pub member : Member x m
+  pub least : (b : ℕ) → digit b x ≡ 1 → m ≤ 2 ^ b
+
+-- m has the one member i
+pub record Index (m i : ℕ) : Type 0 where
+  pub small : i < 64
+  pub is : m ≡ 2 ^ i
+
+-- the one of x and y that has fewer members, x where they have as many
+unfoldable pub fewer : ℕ → ℕ → ℕ
+fewer x y = cond (ltb (ones y) (ones x)) y x

@@ -2,7 +2,7 @@
 ghost use mathlib.Core.Path.{_≡_};
 ghost use Prim.Native.Nat.{_-_, _^_, _≤_, _<_};
 ghost use Rattle.model.specs.Base.{bit};
-ghost use Rattle.bits.specs.Bits.{Decides, Single, Minus, Member, Highest};
+ghost use Rattle.bits.specs.Bits.{Decides, Single, Minus, Highest, Lowest, Index, fewer};
 
 // The set of the one member i: 2^i.
 pub fn power(i: u64) -> u64
@@ -51,7 +51,7 @@ pub fn minus(a: u64, b: u64) -> u64
 // The lowest member of x.
 pub fn lowest(x: u64) -> u64
     requires { ⌜ 0 < x ⌝ }
-    ensures { λ r. ⌜ Member x r ⌝ }
+    ensures { λ r. ⌜ Lowest x r ⌝ }
 {
     minus(x, x - 1)
 }
@@ -62,4 +62,22 @@ pub fn highest(x: u64) -> u64
     ensures { λ r. ⌜ Highest x r ⌝ }
 {
     power((63 - u64::leading_zeros(x)) as u64)
+}
+
+// The index of the one member of m.
+pub fn index(m: u64) -> usize
+    requires { ⌜ Single m ⌝ }
+    ensures { λ r. ⌜ Index m r ⌝ }
+{
+    u64::trailing_zeros(m) as usize
+}
+
+// The one of x and y that has fewer members, x where they have as many.
+pub fn fewer(x: u64, y: u64) -> u64
+    ensures { λ r. ⌜ r ≡ fewer x y ⌝ }
+{
+    if u64::count_ones(y) < u64::count_ones(x) {
+        return y;
+    }
+    x
 }

@@ -8,19 +8,19 @@ use native.Mathlib.Omega.{arith}
 use lib.Bits.{bitAnd}
 use Rattle.cheapest_nodes.specs.declared.plan.Next.{Next}
 use Rattle.cheapest_nodes.specs.declared.plan.Next.the-variants.{Cut, Done, Split, Branch}
-use Rattle.cheapest_bounds.specs.declared.costs.Best.{Best}
+use Rattle.cheapest_bounds.specs.declared.costs.Incumbent.{Incumbent}
 use Rattle.bits.specs.Bits.{Member}
 use Rattle.rows.specs.Covers.{Cover, Between}
 use Rattle.cheapest_bounds.specs.Costs.{costOf, CoverBetween}
-use Rattle.cheapest_bounds.specs.Units.{Unit, Goal}
+use Rattle.cheapest_bounds.specs.Units.{CommonUnit, LimitBelow}
 use Rattle.cheapest.specs.Optimum.{Attained, Valued}
-use Rattle.cheapest_nodes.specs.Plan.{Worth, Halved, Planned}
+use Rattle.cheapest_nodes.specs.Plan.{Sufficient, Divided, Planned}
 use Rattle.bits.proofs.Digits.{digit-lt, digit-or}
 use Rattle.bits.proofs.Parts.{by-members}
 use Rattle.cheapest_bounds.proofs.Costing.{cost-part}
 use Rattle.cheapest_nodes.proofs.Thinning.{reached-wider}
 
-module _ (rows costs : List ℕ) (u s free limit : ℕ) (best : Best) (unit : Unit costs u) (goal : Goal (best .cost) u limit) where
+module _ (rows costs : List ℕ) (u s free limit : ℕ) (best : Incumbent) (unit : CommonUnit costs u) (goal : LimitBelow (best .cost) u limit) where
   -- a cover that is below best is below the limit
   below : (t : ℕ) → costOf costs t < best .cost → costOf costs t < limit
   below t lt = goal .kept (costOf costs t) (unit .whole t) lt
@@ -52,8 +52,8 @@ module _ (rows costs : List ℕ) (u s free limit : ℕ) (best : Best) (unit : Un
         least = λ t r. omega (arith, cost-part costs s t (by-members s t (r .1 .0)));
       }
 
-  pub valued-worth : (f : ℕ) (r : Best) → Worth rows costs s free limit f → Valued rows costs s f best r → Valued rows costs s free best r
-  valued-worth f r h v = record {
+  pub valued-sufficient : (f : ℕ) (r : Incumbent) → Sufficient rows costs s free limit f → Valued rows costs s f best r → Valued rows costs s free best r
+  valued-sufficient f r h v = record {
     within = v .within;
     found = ⊎-elim
         (λ (e : r ≡ best). inl e)
@@ -69,11 +69,11 @@ module _ (rows costs : List ℕ) (u s free limit : ℕ) (best : Best) (unit : Un
   }
 
 pub planned-split : (rows costs : List ℕ) (s free cost limit useful part : ℕ) (next : Next) → next ≡ Split useful part → Planned rows costs s free cost limit next
-    → Worth rows costs s free limit useful × Halved rows s useful part
+    → Sufficient rows costs s free limit useful × Divided rows s useful part
 unfolding Planned
 planned-split rows costs s free cost limit useful part next e h = subst (Planned rows costs s free cost limit) e h
 
 pub planned-branch : (rows costs : List ℕ) (s free cost limit useful m : ℕ) (next : Next) → next ≡ Branch useful m → Planned rows costs s free cost limit next
-    → Worth rows costs s free limit useful × Member useful m × (bitAnd s m ≡ 0)
+    → Sufficient rows costs s free limit useful × Member useful m × (bitAnd s m ≡ 0)
 unfolding Planned
 planned-branch rows costs s free cost limit useful m next e h = subst (Planned rows costs s free cost limit) e h

@@ -6,7 +6,7 @@ use Prim.Native.Nat.{ℕ, _+_, _≤_, _<_, min, max}
 use native.Mathlib.Omega.{arith}
 use lib.ListN.{getD}
 use lib.Bits.{bitAnd, bitOr}
-use Rattle.cheapest_bounds.specs.declared.costs.Best.{Best}
+use Rattle.cheapest_bounds.specs.declared.costs.Incumbent.{Incumbent}
 use Rattle.bits.specs.Bits.{digit, Part, Minus}
 use Rattle.rows.specs.Covers.{Cover, Between}
 use Rattle.cheapest_bounds.specs.Costs.{costOf, CoverBetween}
@@ -81,7 +81,7 @@ module _ (rows costs : List ℕ) (s free a b : ℕ) (apart : bitAnd s free ≡ 0
   )
 
   -- the part a alone costs too much
-  pub valued-over : (best p : Best) (w : ℕ) → w ≡ costOf costs b → Valued rows costs (bitOr s b) a (record { cost = best .cost + w; set = 0 }) p → best .cost + w ≤ p .cost
+  pub valued-over : (best p : Incumbent) (w : ℕ) → w ≡ costOf costs b → Valued rows costs (bitOr s b) a (record { cost = best .cost + w; set = 0 }) p → best .cost + w ≤ p .cost
       → Valued rows costs s free best best
   valued-over best p w f v le = record {
     within = omega arith;
@@ -173,12 +173,12 @@ module _ (rows costs : List ℕ) (s free a b : ℕ) (apart : bitAnd s free ≡ 0
           omega (arith, cost-modular costs mixed b, cost-modular costs t b, ap (costOf costs) any, ap (costOf costs) all)
 
   -- the part a first, then the rest with a's members chosen
-  pub valued-parts : (best p r : Best) (w : ℕ) → Valued rows costs (bitOr s b) a (record { cost = best .cost + w; set = 0 }) p → p .cost < best .cost + w
+  pub valued-parts : (best p r : Incumbent) (w : ℕ) → Valued rows costs (bitOr s b) a (record { cost = best .cost + w; set = 0 }) p → p .cost < best .cost + w
       → Valued rows costs (bitOr s (bitAnd (p .set) a)) b best r → Valued rows costs s free best r
   unfolding q
   valued-parts best p r w v lt u =
       let g : Attained rows costs (bitOr s b) a p = ⊎-elim
-      (λ (e : p ≡ record { cost = best .cost + w; set = 0 }). absurd (omega (arith, ap (λ (x : Best). x .cost) e)))
+      (λ (e : p ≡ record { cost = best .cost + w; set = 0 }). absurd (omega (arith, ap (λ (x : Incumbent). x .cost) e)))
       (λ (e : Attained rows costs (bitOr s b) a p × (p .cost < best .cost + w)). e .0)
       (v .found) in
       record {

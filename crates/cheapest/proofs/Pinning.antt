@@ -9,14 +9,14 @@ use native.Mathlib.Omega.{arith}
 use lib.ListN.{length, getD}
 use lib.Pow.{pow-pos, pow-mono, split}
 use lib.Bits.{bitAnd, bitOr, and-shifted, or-shifted, or-disjoint}
-use Rattle.cheapest_bounds.specs.declared.costs.Best.{Best}
-use Rattle.bits.specs.Bits.{digit, Single}
+use Rattle.cheapest_bounds.specs.declared.costs.Incumbent.{Incumbent}
+use Rattle.bits.specs.Bits.{digit, Single, Part, Minus, Member}
 use Rattle.rows.specs.Covers.{Cover, Between, Node}
-use Rattle.cheapest_bounds.specs.Costs.{costOf, Price, CoverBetween}
+use Rattle.cheapest_bounds.specs.Costs.{costOf, noCost, Price, CoverBetween}
 use Rattle.cheapest.specs.Optimum.{Priced, Attained, Known, Valued, LeastCost, Cheapest}
-use Rattle.bits.proofs.Digits.{digit-lt, digit-or, pow-here}
-use Rattle.bits.proofs.Members.{and-left, not-zero, above, within}
-use Rattle.bits.proofs.Parts.{part-le, by-members, no-common}
+use Rattle.bits.proofs.Digits.{eq?, digit-lt, digit-or, pow-here}
+use Rattle.bits.proofs.Members.{not-zero, above, within}
+use Rattle.bits.proofs.Parts.{part-le, members, by-members, part-self, part-trans, minus-part, no-common}
 use Rattle.cheapest_bounds.proofs.Costing.{cost-none, cost-join, cost-small}
 use Rattle.rows.proofs.Nodes.{halves, low-node, high-node}
 
@@ -46,37 +46,37 @@ module _ (rows : List ℕ) (j s t : ℕ) (z : s % 2 ^ j ≡ 0) where
 -- ---- the least cost
 
 -- the start of a search for all
-pub priced-start : (rows costs : List ℕ) (free : ℕ) (b : Best) → length costs ≤ 64 → ((k : ℕ) → getD costs k 0 < 65536) → Known rows costs free b → Priced costs 0 0 (b .cost)
+pub priced-start : (rows costs : List ℕ) (free : ℕ) (b : Incumbent) → length costs ≤ 64 → ((k : ℕ) → getD costs k 0 < 65536) → Known rows costs free b → Priced costs 0 0 (b .cost)
 unfolding Known
 priced-start rows costs free b l lt k = record {
   few = l;
   is = sym (cost-none costs);
   near = ⊎-elim
-      (λ (e : b .cost ≡ 4194305). omega arith)
+      (λ (e : b .cost ≡ noCost). omega arith)
       (λ (h : Attained rows costs 0 free b). omega (arith, h .cost-is, cost-small costs (b .set) lt))
       k;
 }
 
-module _ (rows costs : List ℕ) (n free : ℕ) (start best : Best) (e : free ≡ 2 ^ n - 1) (k : Known rows costs free start) (v : Valued rows costs 0 free start best) where
+module _ (rows costs : List ℕ) (n free : ℕ) (start best : Incumbent) (e : free ≡ 2 ^ n - 1) (k : Known rows costs free start) (v : Valued rows costs 0 free start best) where
   under : (t : ℕ) → t < 2 ^ n → Cover rows t → best .cost ≤ costOf costs t
   under t lt c = v .least t (subst (λ (f : ℕ). CoverBetween rows 0 f t) (sym e) (reached-inside rows n 0 t (zero-mod (2 ^ n)) c (omega arith) (omega arith)))
 
-  pub none-below : ((k : ℕ) → getD costs k 0 < 65536) → length costs ≤ 64 → best .cost ≡ 4194305 → (t : ℕ) → t < 2 ^ n → Cover rows t → ⊥
+  pub none-below : ((k : ℕ) → getD costs k 0 < 65536) → length costs ≤ 64 → best .cost ≡ noCost → (t : ℕ) → t < 2 ^ n → Cover rows t → ⊥
   none-below lt l b t h c = omega (arith, under t h c, cost-small costs t lt)
 
   -- a search that starts from a cover or from no bound ends with a cover, if with anything
-  attained : (best .cost ≡ 4194305 → ⊥) → Attained rows costs 0 free best
+  attained : (best .cost ≡ noCost → ⊥) → Attained rows costs 0 free best
   unfolding Known
   attained m =
       ⊎-elim
       (λ (q : best ≡ start). subst (Attained rows costs 0 free) (sym q) (⊎-elim
-      (λ (w : start .cost ≡ 4194305). absurd (m (ap (λ (x : Best). x .cost) q ∙ w)))
+      (λ (w : start .cost ≡ noCost). absurd (m (ap (λ (x : Incumbent). x .cost) q ∙ w)))
       (λ (w : Attained rows costs 0 free start). w)
       k))
       (λ (w : Attained rows costs 0 free best × (best .cost < start .cost)). w .0)
       (v .found)
 
-  pub least-cost : (best .cost ≡ 4194305 → ⊥) → LeastCost rows costs n best
+  pub least-cost : (best .cost ≡ noCost → ⊥) → LeastCost rows costs n best
   least-cost m =
       let a : Attained rows costs 0 free best = attained m in
       let c : CoverBetween rows 0 (2 ^ n - 1) (best .set) = subst (λ (f : ℕ). CoverBetween rows 0 f (best .set)) e (a .cover) in
@@ -96,7 +96,7 @@ pub record Pinned (rows costs : List ℕ) (n best i s cost w : ℕ) : Type 0 whe
   pub reaches : costOf costs w ≡ best
   pub first : (t : ℕ) → t < 2 ^ n → Cover rows t → costOf costs t ≡ best → s ≤ t
 
-pub pinned-none : (rows costs : List ℕ) (n : ℕ) (best : Best) → n ≤ 64 → LeastCost rows costs n best → Pinned rows costs n (best .cost) n 0 0 (best .set)
+pub pinned-none : (rows costs : List ℕ) (n : ℕ) (best : Incumbent) → n ≤ 64 → LeastCost rows costs n best → Pinned rows costs n (best .cost) n 0 0 (best .set)
 pinned-none rows costs n best le h =
     let p : 2 ^ n ≤ 2 ^ 64 = pow-mono le in
     record {
@@ -110,7 +110,7 @@ pinned-none rows costs n best le h =
       first = λ t lt c e. omega arith;
     }
 
-pub pinned-all : (rows costs : List ℕ) (n i s cost w : ℕ) (best : Best) → i ≡ 0 → LeastCost rows costs n best → Pinned rows costs n (best .cost) i s cost w → Cheapest rows costs n (best .cost) s
+pub pinned-all : (rows costs : List ℕ) (n i s cost w : ℕ) (best : Incumbent) → i ≡ 0 → LeastCost rows costs n best → Pinned rows costs n (best .cost) i s cost w → Cheapest rows costs n (best .cost) s
 pinned-all rows costs n i s cost w best z h p =
     let one : 2 ^ i ≡ 1 = ap (λ (k : ℕ). 2 ^ k) z in
     let e : w ≡ s = omega (arith, p .low, p .high) in
@@ -122,7 +122,7 @@ pinned-all rows costs n i s cost w best z h p =
       first = p .first;
     }
 
-module _ (rows costs : List ℕ) (n i s cost w m : ℕ) (best : Best) (h : LeastCost rows costs n best) (p : Pinned rows costs n (best .cost) i s cost w)
+module _ (rows costs : List ℕ) (n i s cost w m : ℕ) (best : Incumbent) (h : LeastCost rows costs n best) (p : Pinned rows costs n (best .cost) i s cost w)
     (pos : 0 < i) (is : m ≡ 2 ^ (i - 1)) where
   low-half : Node (i - 1) s
   low-half = low-node i s (p .node) pos
@@ -161,8 +161,8 @@ module _ (rows costs : List ℕ) (n i s cost w m : ℕ) (best : Best) (h : Least
     first = p .first;
   }
 
-  module _ (free : ℕ) (r : Best) (e : free ≡ 2 ^ (i - 1) - 1) (v₀ : Valued rows costs s free (record { cost = best .cost + 1; set = 0 }) r) where
-    limit : Best
+  module _ (free : ℕ) (r : Incumbent) (e : free ≡ 2 ^ (i - 1) - 1) (v₀ : Valued rows costs s free (record { cost = best .cost + 1; set = 0 }) r) where
+    limit : Incumbent
     limit = record { cost = best .cost + 1; set = 0 }
 
     val : Valued rows costs s (2 ^ (i - 1) - 1) limit r
@@ -173,7 +173,7 @@ module _ (rows costs : List ℕ) (n i s cost w m : ℕ) (best : Best) (h : Least
     unfolding limit
     hit n' =
         ⊎-elim
-        (λ (f : r ≡ record { cost = best .cost + 1; set = 0 }). absurd (n' (ap (λ (x : Best). x .cost) f)))
+        (λ (f : r ≡ record { cost = best .cost + 1; set = 0 }). absurd (n' (ap (λ (x : Incumbent). x .cost) f)))
         (λ (f : Attained rows costs s (2 ^ (i - 1) - 1) r × (r .cost < best .cost + 1)). f .0)
         (val .found)
 
@@ -230,24 +230,41 @@ unfolding Single
 power-single m i e = (i, e)
 
 -- the least cost fits
-pub best-fits : (rows costs : List ℕ) (n : ℕ) (best : Best) → length costs ≤ 64 → ((k : ℕ) → getD costs k 0 < 65536) → LeastCost rows costs n best → best .cost < 4194304
+pub best-fits : (rows costs : List ℕ) (n : ℕ) (best : Incumbent) → length costs ≤ 64 → ((k : ℕ) → getD costs k 0 < 65536) → LeastCost rows costs n best → best .cost < noCost
 best-fits rows costs n best l lt h = omega (arith, h .cost-is, cost-small costs (best .set) lt)
 
 -- the search for one that does without a candidate
-pub priced-without : (rows costs : List ℕ) (n i s cost w : ℕ) (best : Best) → length costs ≤ 64 → ((k : ℕ) → getD costs k 0 < 65536) → LeastCost rows costs n best
+pub priced-without : (rows costs : List ℕ) (n i s cost w : ℕ) (best : Incumbent) → length costs ≤ 64 → ((k : ℕ) → getD costs k 0 < 65536) → LeastCost rows costs n best
     → Pinned rows costs n (best .cost) i s cost w → (bound : ℕ) → bound ≤ best .cost + 1 → Priced costs s cost bound
 priced-without rows costs n i s cost w best l lt h p bound le =
     record { few = l; is = p .cost-is; near = omega (arith, best-fits rows costs n best l lt h) }
 
 -- ---- what a search starts from
 
-pub known-cover : (rows costs : List ℕ) (free x c : ℕ) → Cover rows (bitAnd free x) → c ≡ costOf costs (bitAnd free x) → Known rows costs free (record { cost = c; set = bitAnd free x })
+-- s is what is taken of free, and rest what is left
+pub record PartsOf (free s rest : ℕ) : Type 0 where
+  pub taken : Part s free
+  pub left : Part rest free
+
+pub parts-none : (free : ℕ) → PartsOf free 0 free
+parts-none free = record { taken = by-members 0 free (λ b m. absurd (not-zero b 0 m refl)); left = part-self free }
+
+pub parts-more : (free s rest m rest' : ℕ) → PartsOf free s rest → Member rest m → Minus rest m rest' → PartsOf free (bitOr s m) rest'
+parts-more free s rest m rest' h one d = record {
+  taken = by-members (bitOr s m) free (λ b q. ⊎-elim
+      (λ (e : digit b s ≡ 1). members s free (h .taken) b e)
+      (λ (e : digit b s ≡ 1 → ⊥). members rest free (h .left) b (members m rest (one .part) b (omega (arith, digit-or b s m, digit-lt b s, digit-lt b m))))
+      (eq? (digit b s) 1));
+  left = part-trans rest' rest free (minus-part rest m rest' d) (h .left);
+}
+
+pub known-cover : (rows costs : List ℕ) (free x c : ℕ) → Part x free → Cover rows x → c ≡ costOf costs x → Known rows costs free (record { cost = c; set = x })
 unfolding Known CoverBetween Between
-known-cover rows costs free x c h e = inr (record {
-  cover = (h, (λ b m. absurd (not-zero b 0 m refl), λ b m. omega (arith, and-left b free x m, digit-or b 0 free, digit-lt b 0)));
+known-cover rows costs free x c p h e = inr (record {
+  cover = (h, (λ b m. absurd (not-zero b 0 m refl), λ b m. omega (arith, members x free p b m, digit-or b 0 free, digit-lt b 0)));
   cost-is = sym e;
 })
 
-pub known-none : (rows costs : List ℕ) (free x : ℕ) → Known rows costs free (record { cost = 4194305; set = x })
+pub known-none : (rows costs : List ℕ) (free x : ℕ) → Known rows costs free (record { cost = noCost; set = x })
 unfolding Known
 known-none rows costs free x = inl refl

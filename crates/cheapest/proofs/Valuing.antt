@@ -6,10 +6,10 @@ use Prim.Native.Nat.{ℕ, _+_, _≤_, _<_}
 use native.Mathlib.Omega.{arith}
 use lib.ListN.{getD}
 use lib.Bits.{bitAnd, bitOr}
-use Rattle.cheapest_bounds.specs.declared.costs.Best.{Best}
+use Rattle.cheapest_bounds.specs.declared.costs.Incumbent.{Incumbent}
 use Rattle.bits.specs.Bits.{digit, Single, Part, Minus, Member}
 use Rattle.rows.specs.Covers.{Between}
-use Rattle.cheapest_bounds.specs.Costs.{Price, CoverBetween}
+use Rattle.cheapest_bounds.specs.Costs.{noCost, Price, CoverBetween}
 use Rattle.cheapest.specs.Optimum.{Priced, Attained, Valued}
 use Rattle.bits.proofs.Digits.{eq?, digit-lt, digit-or, pow-only}
 use Rattle.bits.proofs.Members.{and-right}
@@ -69,7 +69,7 @@ module _ (rows : List ℕ) (s free m rest : ℕ) (one : Member free m) (d : Minu
     (r .1 .0, λ b q. omega (arith, r .1 .1 b q, d b, digit-or b s free, digit-or b s rest, digit-lt b s, digit-lt b m, digit-lt b free)),
   )
 
-pub valued-both : (rows costs : List ℕ) (s free m rest : ℕ) (best with r : Best) → Member free m → Minus free m rest
+pub valued-both : (rows costs : List ℕ) (s free m rest : ℕ) (best with r : Incumbent) → Member free m → Minus free m rest
     → Valued rows costs (bitOr s m) rest best with → Valued rows costs s rest with r → Valued rows costs s free best r
 valued-both rows costs s free m rest best with r one d u v = record {
   within = omega (arith, u .within, v .within);
@@ -77,7 +77,7 @@ valued-both rows costs s free m rest best with r one d u v = record {
       (λ (e : r ≡ with). ⊎-elim
       (λ (f : with ≡ best). inl (e ∙ f))
       (λ (f : Attained rows costs (bitOr s m) rest with × (with .cost < best .cost)).
-      inr (subst (λ (x : Best). Attained rows costs s free x × (x .cost < best .cost)) (sym e)
+      inr (subst (λ (x : Incumbent). Attained rows costs s free x × (x .cost < best .cost)) (sym e)
       (record { cover = from-with rows s free m rest one d (with .set) (f .0 .cover); cost-is = f .0 .cost-is }, f .1)))
       (u .found))
       (λ (f : Attained rows costs s rest r × (r .cost < with .cost)).
@@ -99,7 +99,7 @@ pub priced-less : (costs : List ℕ) (s cost bound bound' : ℕ) → Priced cost
 priced-less costs s cost bound bound' h le = record { few = h .few; is = h .is; near = omega (arith, h .near) }
 
 -- a cost and a bound fit
-pub priced-fits : (costs : List ℕ) (s cost bound : ℕ) → ((k : ℕ) → getD costs k 0 < 65536) → Priced costs s cost bound → (cost < 4194304) × (bound < 8388609)
+pub priced-fits : (costs : List ℕ) (s cost bound : ℕ) → ((k : ℕ) → getD costs k 0 < 65536) → Priced costs s cost bound → (cost < noCost) × (bound < noCost + noCost)
 priced-fits costs s cost bound lt h =
-    let f : cost < 4194304 = cost-fits costs s cost (h .few) lt (h .is) in
+    let f : cost < noCost = cost-fits costs s cost (h .few) lt (h .is) in
     (f, omega (arith, h .near))

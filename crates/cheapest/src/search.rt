@@ -1,12 +1,12 @@
 // The cheapest cover: the least cost, then the least number.
 ghost use Prim.Native.Nat.{_≤_};
 ghost use lib.ListN.{length};
-ghost use Rattle.cheapest_bounds.specs.Units.{Unit};
+ghost use Rattle.cheapest_bounds.specs.Units.{CommonUnit};
 ghost use Rattle.cheapest.specs.Optimum.{Priced, Valued, LeastCost, Cheapest, Optimal};
 use crate::greedy;
 use bits::set;
 use cheapest_bounds::costs;
-use cheapest_bounds::costs::Best;
+use cheapest_bounds::costs::Incumbent;
 use cheapest_bounds::units;
 use cheapest_nodes::plan;
 use cheapest_nodes::plan::Next;
@@ -18,32 +18,32 @@ pub enum Optimum {
 }
 
 // The cheapest cover between s and s | free if it costs less than best, else best. cost is that of s, and unit measures the costs.
-pub fn value(
+fn value(
     rows: &[u64],
     costs: &[u16],
     unit: u64,
     s: u64,
     free: u64,
     cost: u64,
-    best: Best,
-) -> Best
+    best: Incumbent,
+) -> Incumbent
     requires { ⌜ length (now rows) ≤ 2048 ⌝ }
-    requires { ⌜ Unit (now costs) unit ⌝ }
+    requires { ⌜ CommonUnit (now costs) unit ⌝ }
     requires { ⌜ Priced (now costs) s cost (best .cost) ⌝ }
     ensures { λ r. ⌜ Valued (now (rows .entry)) (now (costs .entry)) s free best r ⌝ }
 {
-    let limit = units::goal(best.cost, unit);
+    let limit = units::limit_below(best.cost, unit);
     let next = plan::plan(rows, costs, s, free, cost, limit);
     match next {
         Next::Cut => best,
-        Next::Done => Best { cost: cost, set: s },
+        Next::Done => Incumbent { cost: cost, set: s },
         Next::Split(useful, part) => {
-            // With all of other taken only part's rows are left; the bar is as far above the cost as best is.
+            // With all of other taken only part's rows are left; the bound is as far above the cost as best is.
             let other = set::minus(useful, part);
             let spent = costs::total(costs, other);
             let over = best.cost + spent;
-            let bar = Best { cost: over, set: 0 };
-            let p = value(rows, costs, unit, s | other, part, cost + spent, bar);
+            let bound = Incumbent { cost: over, set: 0 };
+            let p = value(rows, costs, unit, s | other, part, cost + spent, bound);
             if over <= p.cost {
                 return best;
             }
@@ -62,9 +62,9 @@ pub fn value(
 
 // The first of the covers below 2^n that cost as little as best does: from the top, leaves out each candidate that it can do without.
 // The witness is such a cover with the members decided so far: where it lacks a candidate there is nothing to search for.
-pub fn first(rows: &[u64], costs: &[u16], unit: u64, n: u64, best: Best) -> u64
+fn first(rows: &[u64], costs: &[u16], unit: u64, n: u64, best: Incumbent) -> u64
     requires { ⌜ length (now rows) ≤ 2048 ⌝ }
-    requires { ⌜ Unit (now costs) unit ⌝ }
+    requires { ⌜ CommonUnit (now costs) unit ⌝ }
     requires { ⌜ n ≤ 64 ⌝ }
     requires { ⌜ length (now costs) ≤ 64 ⌝ }
     requires { ⌜ LeastCost (now rows) (now costs) n best ⌝ }
@@ -78,7 +78,7 @@ pub fn first(rows: &[u64], costs: &[u16], unit: u64, n: u64, best: Best) -> u64
         i -= 1;
         let m = set::power(i);
         if witness & m != 0 {
-            let limit = Best {
+            let limit = Incumbent {
                 cost: best.cost + 1,
                 set: 0,
             };
@@ -112,7 +112,7 @@ pub fn cheapest(rows: &[u64], costs: &[u16]) -> Optimum
         0,
         greedy::start(rows, costs, free),
     );
-    if best.cost == 4194305 {
+    if best.cost == costs::NO_COST {
         return Optimum::Nothing;
     }
     let s = first(rows, costs, unit, n, best);

@@ -6,16 +6,17 @@ use Prim.Native.Nat.{ℕ, zero, suc, _+_, _-_, _*_, _/_, _%_, _^_, _≤_, _<_}
 use native.Mathlib.Nat.{one-mul, zero-mul, mod-eq-of-lt}
 use native.Mathlib.Decide.{decLt}
 use native.Mathlib.Omega.{arith}
-use lib.ListN.{length, getD, set, replicate, length-set, length-replicate}
+use lib.ListN.{length, getD, List·getD-eq-default, set, replicate, length-set, length-replicate}
 use lib.Seq.{getD-set-same, getD-set-other}
 use lib.Bits.{bitAnd, and-mask}
 use Rattle.cheapest_bounds.specs.declared.ascent.Duals.{Duals}
-use Rattle.bits.specs.Bits.{digit, Single, Part, Minus, Member}
-use Rattle.cheapest_bounds.specs.Costs.{costOf, Numbered, Price, Floor}
-use Rattle.cheapest_bounds.specs.Ascent.{Charged, Paid, Meets, Raised, Padded, Dual, Trimmed, Worthy}
+use Rattle.bits.specs.Bits.{digit, Single, Part, Minus, Member, Index}
+use Rattle.cheapest_bounds.specs.Costs.{costOf, noCost, Price, Floor}
+use Rattle.cheapest_bounds.specs.Ascent.{Charged, Paid, Meets, Raised, SameCosts, Dual, Trimmed, Affordable}
 use Rattle.bits.proofs.Digits.{eq?, digit-first, digit-next, digit-lt, a-member, pow-here, pow-only}
 use Rattle.bits.proofs.Members.{and-left, and-right, not-zero}
 use Rattle.bits.proofs.Parts.{members, by-members, part-self, part-trans, minus-part}
+use Rattle.bits.proofs.Steps.{all-next, taken-gone, others-stay, Visited, visited-none, visited-more, visited-all}
 use Rattle.cheapest_bounds.proofs.Costing.{cost-part, cost-one, cost-small}
 
 -- ---- one entry
@@ -52,21 +53,21 @@ pub record Charging (x y rest : ℕ) (old new : List ℕ) : Type 0 where
   pub size : length new ≡ length old
   pub less : (t : ℕ) → costOf new t ≤ costOf old t
   pub can : (b : ℕ) → digit b rest ≡ 1 → y ≤ getD new b 0
-  pub paid : (t b : ℕ) → digit b x ≡ 1 → (digit b rest ≡ 1 → ⊥) → digit b t ≡ 1 → costOf new t + y ≤ costOf old t
+  pub paid : (t : ℕ) → Visited (λ b. digit b t ≡ 1 → costOf new t + y ≤ costOf old t) x rest
 
 pub charging-none : (x y : ℕ) (old : List ℕ) → Floor old x y → Charging x y x old old
 charging-none x y old f = record {
   size = omega arith;
   less = λ t. omega arith;
   can = λ b m. omega (arith, f .under b m, cost-one old b);
-  paid = λ t b m n. absurd (n m);
+  paid = λ t. visited-none _ x;
 }
 
 -- the next member can pay
-pub charging-can : (x y rest m i : ℕ) (old new : List ℕ) → Charging x y rest old new → Member rest m → Numbered m i → y ≤ getD new i 0
+pub charging-can : (x y rest m i : ℕ) (old new : List ℕ) → Charging x y rest old new → Member rest m → Index m i → y ≤ getD new i 0
 charging-can x y rest m i old new h one is = h .can i (members m rest (one .part) i (ap (digit i) (is .is) ∙ pow-here i))
 
-module _ (x y rest m i rest' : ℕ) (old mid : List ℕ) (h : Charging x y rest old mid) (one : Member rest m) (is : Numbered m i) (d : Minus rest m rest')
+module _ (x y rest m i rest' : ℕ) (old mid : List ℕ) (h : Charging x y rest old mid) (one : Member rest m) (is : Index m i) (d : Minus rest m rest')
     (lt : i < length mid) where
   new : List ℕ
   new = set mid i (getD mid i 0 - y)
@@ -74,32 +75,22 @@ module _ (x y rest m i rest' : ℕ) (old mid : List ℕ) (h : Charging x y rest 
   le : y ≤ getD mid i 0
   le = charging-can x y rest m i old mid h one is
 
-  -- the others are still to pay
-  others : (b : ℕ) → (b ≡ i → ⊥) → digit b rest' ≡ digit b rest
-  unfolding Minus
-  others b n =
-      let z : digit b m ≡ 1 → ⊥ = λ f. n (pow-only b i (sym (ap (digit b) (is .is)) ∙ f)) in
-      omega (arith, d b, digit-lt b m)
-
-  gone : digit i rest' ≡ 1 → ⊥
-  unfolding Minus
-  gone q = omega (arith, d i, digit-lt i rest, ap (digit i) (is .is), pow-here i)
-
   more-can : (b : ℕ) → digit b rest' ≡ 1 → y ≤ getD new b 0
   unfolding new
   more-can b q =
-      ⊎-elim (λ (e : b ≡ i). absurd (gone (subst (λ (j : ℕ). digit j rest' ≡ 1) e q)))
-      (λ (n : b ≡ i → ⊥). omega (arith, getD-set-other mid i b (getD mid i 0 - y) 0 n, h .can b (sym (others b n) ∙ q))) (eq? b i)
+      ⊎-elim (λ (e : b ≡ i). absurd (taken-gone rest m i rest' (is .is) d (subst (λ (j : ℕ). digit j rest' ≡ 1) e q)))
+      (λ (n : b ≡ i → ⊥). omega (arith, getD-set-other mid i b (getD mid i 0 - y) 0 n, h .can b (sym (others-stay rest m i rest' (is .is) d b n) ∙ q)))
+      (eq? b i)
 
   more-less : (t : ℕ) → costOf new t ≤ costOf mid t
   unfolding new
   more-less t = less-all mid i y t lt le
 
-  more-paid : (t b : ℕ) → digit b x ≡ 1 → (digit b rest' ≡ 1 → ⊥) → digit b t ≡ 1 → costOf new t + y ≤ costOf old t
-  unfolding new
-  more-paid t b p q r =
-      ⊎-elim (λ (e : b ≡ i). omega (arith, less-in mid i y t lt le (subst (λ (j : ℕ). digit j t ≡ 1) e r), h .less t))
-      (λ (n : b ≡ i → ⊥). omega (arith, more-less t, h .paid t b p (λ g. q (others b n ∙ g)) r)) (eq? b i)
+  more-paid : (t : ℕ) → Visited (λ b. digit b t ≡ 1 → costOf new t + y ≤ costOf old t) x rest'
+  unfolding new Visited
+  more-paid t =
+      visited-more (λ b. digit b t ≡ 1 → costOf new t + y ≤ costOf old t) x rest m i rest' (λ b p n r. omega (arith, more-less t, h .paid t b p n r)) (is .is) d
+      (λ r. omega (arith, less-in mid i y t lt le r, h .less t))
 
   pub charging-more : Charging x y rest' old (set mid i (getD mid i 0 - y))
   unfolding new
@@ -115,7 +106,7 @@ charging-all x y rest old new z h = record {
   size = h .size;
   paid = λ t n.
       let m : (b : ℕ) × (digit b (bitAnd x t) ≡ 1) = a-member (bitAnd x t) n in
-      h .paid t (m .0) (and-left (m .0) x t (m .1)) (λ q. not-zero (m .0) rest q z) (and-right (m .0) x t (m .1));
+      visited-all _ x rest (h .paid t) z (m .0) (and-left (m .0) x t (m .1)) (and-right (m .0) x t (m .1));
 }
 
 -- less than the floor is a floor
@@ -153,7 +144,7 @@ meets-all rows fit n k l nz z = nz (sym (and-mask (getD rows k 0) 64 ∙ mod-eq-
 
 -- so the sum is no more than what all cost
 pub raising-small : (rows : List ℕ) (n : ℕ) (old new : List ℕ) (sum : ℕ) → ((k : ℕ) → getD rows k 0 < 2 ^ 64) → length old ≡ 64
-    → ((k : ℕ) → getD old k 0 < 65536) → Raising rows n old new sum → sum ≤ 4194304
+    → ((k : ℕ) → getD old k 0 < 65536) → Raising rows n old new sum → sum < noCost
 raising-small rows n old new sum fit e lt h = omega (arith, h .under (2 ^ 64 - 1) (meets-all rows fit n), cost-small old (2 ^ 64 - 1) lt)
 
 pub raising-all : (rows : List ℕ) (n : ℕ) (old new : List ℕ) (sum : ℕ) → n ≡ length rows → Raising rows n old new sum → Raised rows old new sum
@@ -173,11 +164,6 @@ module _ (rows : List ℕ) {a b c d e f g : List ℕ} {p q r s t u : ℕ} where
       raised-then rows a f g (p + q + r + s + t) u h' h6
 
 -- ---- the costs with 0 behind them
-
-past : (l : List ℕ) (k : ℕ) → length l ≤ k → getD l k 0 ≡ 0
-past [] k le = refl
-past (x ∷ l) zero le = absurd (omega arith)
-past (x ∷ l) (suc k) le = past l k (omega arith)
 
 pub cost-zeros : (l : List ℕ) (t : ℕ) → ((k : ℕ) → getD l k 0 ≡ 0) → costOf l t ≡ 0
 unfolding costOf
@@ -214,23 +200,23 @@ padding-none costs = record { size = length-replicate {A = ℕ} 64 0; same = λ 
 pub padding-more : (costs left : List ℕ) (i : ℕ) → i < 64 → Padding costs left i → Padding costs (set left i (getD costs i 0)) (i + 1)
 padding-more costs left i lt h = record {
   size = length-set left i (getD costs i 0) ∙ h .size;
-  same = λ k l. ⊎-elim
-      (λ (e : k ≡ i). subst (λ (j : ℕ). getD (set left i (getD costs i 0)) j 0 ≡ getD costs j 0) (sym e) (getD-set-same left i (getD costs i 0) 0 (omega (arith, h .size))))
-      (λ (n : k ≡ i → ⊥). getD-set-other left i k (getD costs i 0) 0 n ∙ h .same k (omega arith)) (eq? k i);
+  same = all-next (λ k. getD (set left i (getD costs i 0)) k 0 ≡ getD costs k 0) i
+      (λ k l. getD-set-other left i k (getD costs i 0) 0 (λ e. omega arith) ∙ h .same k l)
+      (getD-set-same left i (getD costs i 0) 0 (omega (arith, h .size)));
   rest = λ k l. getD-set-other left i k (getD costs i 0) 0 (λ e. omega arith) ∙ h .rest k (omega arith);
 }
 
-pub padding-all : (costs left : List ℕ) (i : ℕ) → length costs ≤ i → Padding costs left i → Padded costs left
+pub padding-all : (costs left : List ℕ) (i : ℕ) → length costs ≤ i → Padding costs left i → SameCosts costs left
 padding-all costs left i le h = record {
   size = h .size;
-  same = λ t. cost-same left costs t (λ k. elim (decLt k i) [ yes lt ↦ h .same k lt | no ge ↦ h .rest k (omega arith) ∙ sym (past costs k (omega arith)) ]);
+  same = λ t. cost-same left costs t (λ k. elim (decLt k i) [ yes lt ↦ h .same k lt | no ge ↦ h .rest k (omega arith) ∙ sym (List·getD-eq-default costs 0 (omega arith)) ]);
 }
 
 -- ---- the sum of the passes
 
 module _ (rows costs left : List ℕ) (fit : (k : ℕ) → getD rows k 0 < 2 ^ 64) (few : length costs ≤ 64) (lt : (k : ℕ) → getD costs k 0 < 65536)
-    (h : Padded costs left) where
-  pub raised-small : (new : List ℕ) (sum : ℕ) → Raised rows left new sum → sum ≤ 4194304
+    (h : SameCosts costs left) where
+  pub raised-small : (new : List ℕ) (sum : ℕ) → Raised rows left new sum → sum < noCost
   raised-small new sum r = omega (arith, r .under (2 ^ 64 - 1) (meets-all rows fit (length rows)), h .same (2 ^ 64 - 1), cost-small costs (2 ^ 64 - 1) lt)
 
   pub dual : (d : Duals) → Raised rows left (d .left) (d .sum) → Dual rows costs d
@@ -257,18 +243,18 @@ trimmed-drop left free spare kept m p kept' h one q le d = record {
 
 -- ---- what a cheap set can have
 
-pub worthy-all : (rows costs : List ℕ) (free spare : ℕ) → Worthy rows costs free spare free
-worthy-all rows costs free spare = record { part = part-self free; keeps = λ t m p lt. p }
+pub affordable-all : (rows costs : List ℕ) (free spare : ℕ) → Affordable rows costs free spare free
+affordable-all rows costs free spare = record { part = part-self free; keeps = λ t m p lt. p }
 
-pub worthy-none : (rows costs : List ℕ) (free spare : ℕ) (d : Duals) → Dual rows costs d → spare ≤ d .sum → Worthy rows costs free spare 0
-worthy-none rows costs free spare d h le = record {
+pub affordable-none : (rows costs : List ℕ) (free spare : ℕ) (d : Duals) → Dual rows costs d → spare ≤ d .sum → Affordable rows costs free spare 0
+affordable-none rows costs free spare d h le = record {
   part = by-members 0 free (λ b m. absurd (not-zero b 0 m refl));
   keeps = λ t m p lt. absurd (omega (arith, h .under t m));
 }
 
-pub worthy-trimmed : (rows costs : List ℕ) (free spare r : ℕ) (d : Duals) → Dual rows costs d → d .sum < spare → Trimmed (d .left) free (spare - d .sum) r
-    → Worthy rows costs free spare r
-worthy-trimmed rows costs free spare r d h more w = record {
+pub affordable-trimmed : (rows costs : List ℕ) (free spare r : ℕ) (d : Duals) → Dual rows costs d → d .sum < spare → Trimmed (d .left) free (spare - d .sum) r
+    → Affordable rows costs free spare r
+affordable-trimmed rows costs free spare r d h more w = record {
   part = w .part;
   keeps = λ t m p lt. by-members t r (λ b q. ⊎-elim
       (λ (e : digit b r ≡ 1). e)

@@ -3,50 +3,22 @@ use mathlib.Core.Path.{_≡_, refl, sym, ap, _∙_, subst}
 use mathlib.Core.Logic.{⊎-elim}
 use mathlib.Core.List.{List, [], _∷_}
 use Prim.Native.Nat.{ℕ, zero, suc, _+_, _*_, _/_, _%_, _^_, _≤_, _<_}
-use native.Mathlib.Nat.{pow-suc}
-use native.Mathlib.Decide.{decLt}
 use native.Mathlib.Omega.{arith}
-use lib.ListN.{length, getD}
-use lib.Pow.{pow-mono}
-use lib.Count.{trailingZeros, under}
+use lib.ListN.{length, getD, List·getD-eq-default}
 use lib.Bits.{bitAnd, bitOr}
-use Rattle.bits.specs.Bits.{digit, Single, Part, Minus, Member}
+use Rattle.bits.specs.Bits.{digit, Part, Minus, Member, Index}
 use Rattle.rows.specs.Covers.{Cover, Between}
-use Rattle.cheapest_bounds.specs.Costs.{costOf, Numbered, Price, Floor, CoverBetween, Fresh, Bound}
+use Rattle.cheapest_bounds.specs.Costs.{costOf, noCost, Price, Floor, CoverBetween, Fresh, Bound}
 use Rattle.bits.proofs.Digits.{eq?, digit-lt, digit-or, a-member, pow-only}
 use Rattle.bits.proofs.Members.{not-zero, and-left, and-right, and-both}
 use Rattle.bits.proofs.Parts.{by-members, part-self, the-member, apart-by, no-common, and-or}
+use Rattle.bits.proofs.Steps.{Visited, visited-none, visited-more, visited-all}
 use Rattle.cheapest_bounds.proofs.Costing.{cost-join, cost-part, cost-one, cost-small, cost-floor}
 use Rattle.rows.proofs.Sets.{meets}
 
 -- ---- one candidate
 
-trailing-power : (k b : ℕ) → b < k → trailingZeros k (2 ^ b) ≡ b
-unfolding trailingZeros
-trailing-power zero b lt = absurd (omega arith)
-trailing-power (suc k) zero lt = refl
-trailing-power (suc k) (suc b) lt =
-    let e : 2 ^ suc b ≡ 2 ^ b * 2 = pow-suc 2 b in
-    let even : 2 ^ suc b % 2 ≡ 0 = omega arith in
-    let half : 2 ^ suc b / 2 ≡ 2 ^ b = omega arith in
-    ap (λ (d : ℕ). under d (trailingZeros k (2 ^ suc b / 2))) even
-    ∙ ap (λ (n : ℕ). suc (trailingZeros k n)) half
-    ∙ ap suc (trailing-power k b (omega arith))
-
-past : (l : List ℕ) (k : ℕ) → length l ≤ k → getD l k 0 ≡ 0
-past [] k le = refl
-past (x ∷ l) zero le = absurd (omega arith)
-past (x ∷ l) (suc k) le = past l k (omega arith)
-
-pub numbered : (m : ℕ) → Single m → m < 2 ^ 64 → Numbered m (trailingZeros 64 m)
-unfolding Single
-numbered m one fits =
-    let b : ℕ = one .0 in
-    let small : b < 64 = elim (decLt b 64) [ yes lt ↦ lt | no ge ↦ absurd (let le : 64 ≤ b = omega arith in let p : 2 ^ 64 ≤ 2 ^ b = pow-mono le in omega (arith, one .1)) ] in
-    let e : trailingZeros 64 m ≡ b = ap (trailingZeros 64) (one .1) ∙ trailing-power 64 b small in
-    record { small = omega arith; is = one .1 ∙ ap (λ (k : ℕ). 2 ^ k) (sym e) }
-
-module _ (costs : List ℕ) (m i : ℕ) (h : Numbered m i) where
+module _ (costs : List ℕ) (m i : ℕ) (h : Index m i) where
   price-is : getD costs i 0 ≡ costOf costs m
   price-is = sym (cost-one costs i) ∙ ap (costOf costs) (sym (h .is))
 
@@ -54,39 +26,30 @@ module _ (costs : List ℕ) (m i : ℕ) (h : Numbered m i) where
   priced lt = record { is = price-is; small = lt }
 
   pub priced-past : length costs ≤ i → Price costs m 0
-  priced-past le = record { is = sym (past costs i le) ∙ price-is; small = omega arith }
+  priced-past le = record { is = sym (List·getD-eq-default costs 0 le) ∙ price-is; small = omega arith }
 
 -- ---- the floor
 
 -- no member of x that is not in rest costs less than low
 unfoldable pub Floored : List ℕ → ℕ → ℕ → ℕ → Type 0
-Floored costs x rest low = (low < 65536) × ((b : ℕ) → digit b x ≡ 1 → (digit b rest ≡ 1 → ⊥) → low ≤ costOf costs (2 ^ b))
+Floored costs x rest low = (low < 65536) × Visited (λ b. low ≤ costOf costs (2 ^ b)) x rest
 
 pub floored-none : (costs : List ℕ) (x : ℕ) → Floored costs x x 65535
 unfolding Floored
-floored-none costs x = (omega arith, λ b m n. absurd (n m))
+floored-none costs x = (omega arith, visited-none _ x)
 
 pub floored-more : (costs : List ℕ) (x rest low m p rest' low' : ℕ) → Floored costs x rest low → Member rest m → Price costs m p → Minus rest m rest'
     → low' ≤ low → low' ≤ p → Floored costs x rest' low'
-unfolding Floored Minus
-floored-more costs x rest low m p rest' low' f one q d le le' = (
-  omega (arith, f .0),
-  λ b h n. ⊎-elim
-      (λ (e : digit b rest ≡ 1).
-      let k : (c : ℕ) × (m ≡ 2 ^ c) × (digit c rest ≡ 1) = the-member rest m one in
-      let in-m : digit b m ≡ 1 = ⊎-elim (λ (g : digit b m ≡ 1). g) (λ (g : digit b m ≡ 1 → ⊥). absurd (n (omega (arith, d b, digit-lt b m)))) (eq? (digit b m) 1) in
-      let same : b ≡ k .0 = pow-only b (k .0) (sym (ap (digit b) (k .1)) ∙ in-m) in
-      omega (arith, q .is, ap (costOf costs) (k .1 ∙ ap (λ (j : ℕ). 2 ^ j) (sym same))))
-      (λ (e : digit b rest ≡ 1 → ⊥). omega (arith, f .1 b h e))
-      (eq? (digit b rest) 1),
-)
+unfolding Floored Visited
+floored-more costs x rest low m p rest' low' f one q d le le' =
+    let k : (c : ℕ) × (m ≡ 2 ^ c) × (digit c rest ≡ 1) = the-member rest m one in (
+      omega (arith, f .0),
+      visited-more (λ b. low' ≤ costOf costs (2 ^ b)) x rest m (k .0) rest' (λ b h n. omega (arith, f .1 b h n)) (k .1) d (omega (arith, q .is, ap (costOf costs) (k .1))),
+    )
 
 pub floored-all : (costs : List ℕ) (x rest low : ℕ) → rest ≡ 0 → Floored costs x rest low → Floor costs x low
 unfolding Floored
-floored-all costs x rest low z f = record {
-  under = λ b m. f .1 b m (λ h. not-zero b rest h z);
-  small = f .0;
-}
+floored-all costs x rest low z f = record { under = visited-all _ x rest (f .1) z; small = f .0 }
 
 -- ---- disjoint unmet rows
 
@@ -139,7 +102,7 @@ packed-as rows costs s free {used} {used'} {sum} {sum'} e f h =
     subst (λ (u : ℕ). Packed rows costs s free u sum') (sym e) (subst (λ (v : ℕ). Packed rows costs s free used v) (sym f) h)
 
 -- the sum, and one cost more, stay small
-pub packed-small : (rows costs : List ℕ) (s free used sum : ℕ) → length costs ≤ 64 → ((k : ℕ) → getD costs k 0 < 65536) → Packed rows costs s free used sum → sum ≤ 4194305
+pub packed-small : (rows costs : List ℕ) (s free used sum : ℕ) → length costs ≤ 64 → ((k : ℕ) → getD costs k 0 < 65536) → Packed rows costs s free used sum → sum < noCost
 packed-small rows costs s free used sum l lt h = omega (arith, h .little, cost-small costs used lt)
 
 pub packed-all : (rows costs : List ℕ) (s free used sum : ℕ) → length costs ≤ 64 → ((k : ℕ) → getD costs k 0 < 65536) → Packed rows costs s free used sum → Bound rows costs s free sum
@@ -152,11 +115,11 @@ packed-all rows costs s free used sum l lt h = record {
       (λ (e : digit c s ≡ 1 → ⊥). and-left c t used (omega (arith, digit-or c s (bitAnd t used), digit-lt c s, digit-lt c (bitAnd t used))))
       (eq? (digit c s) 1)) in
       omega (arith, h .under t r, cost-join costs s (bitAnd t used) apart, cost-part costs (bitOr s (bitAnd t used)) t part);
-  small = packed-small rows costs s free used sum l lt h;
+  small = omega (arith, packed-small rows costs s free used sum l lt h);
 }
 
 -- a row with no member in s or free: no cover lies there
-pub bound-lost : (rows costs : List ℕ) (s free k : ℕ) → k < length rows → bitAnd (getD rows k 0) (bitOr s free) ≡ 0 → Bound rows costs s free 4194305
+pub bound-lost : (rows costs : List ℕ) (s free k : ℕ) → k < length rows → bitAnd (getD rows k 0) (bitOr s free) ≡ 0 → Bound rows costs s free noCost
 unfolding CoverBetween Between Cover
 bound-lost rows costs s free k lt z = record {
   under = λ t r.

@@ -8,7 +8,7 @@ use native.Mathlib.Omega.{arith}
 use lib.ListN.{length, getD}
 use lib.Bits.{bitAnd, bitOr, bitXor, and-step, or-step}
 use Rattle.bits.specs.Bits.{digit, Part, Minus, Member}
-use Rattle.cheapest_bounds.specs.Costs.{costOf, Price, Floor}
+use Rattle.cheapest_bounds.specs.Costs.{costOf, noCost, Price, Floor}
 use Rattle.bits.proofs.Digits.{eq?, digit-lt, digit-and, digit-or, digit-ext, digit-of-zero, a-member, pow-only}
 use Rattle.bits.proofs.Members.{and-left}
 use Rattle.bits.proofs.Parts.{members, by-members, minus-bits, apart-by, no-common}
@@ -110,7 +110,7 @@ pub totalled : (ws : List ℕ) (x rest m r sum p : ℕ) → Member rest m → Mi
 totalled ws x rest m r sum p one d pr e = omega (arith, cost-apart ws rest m r (one .part) d, pr .is)
 
 -- a sum so far, and one more, fit
-pub total-fits : (ws : List ℕ) (x rest sum : ℕ) → length ws ≤ 64 → ((k : ℕ) → getD ws k 0 < 65536) → costOf ws x ≡ sum + costOf ws rest → sum ≤ 4194304
+pub total-fits : (ws : List ℕ) (x rest sum : ℕ) → length ws ≤ 64 → ((k : ℕ) → getD ws k 0 < 65536) → costOf ws x ≡ sum + costOf ws rest → sum < noCost
 total-fits ws x rest sum l lt e = omega (arith, cost-small ws x lt)
 
 pub total-all : (ws : List ℕ) (x rest sum : ℕ) → rest ≡ 0 → costOf ws x ≡ sum + costOf ws rest → sum ≡ costOf ws x
@@ -125,5 +125,5 @@ product-fits g p a b =
     omega arith
 
 -- a set's cost fits, and sums of a few
-pub cost-fits : (costs : List ℕ) (s cost : ℕ) → length costs ≤ 64 → ((k : ℕ) → getD costs k 0 < 65536) → cost ≡ costOf costs s → cost < 4194304
+pub cost-fits : (costs : List ℕ) (s cost : ℕ) → length costs ≤ 64 → ((k : ℕ) → getD costs k 0 < 65536) → cost ≡ costOf costs s → cost < noCost
 cost-fits costs s cost l lt e = omega (arith, cost-small costs s lt)

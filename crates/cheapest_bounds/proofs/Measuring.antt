@@ -8,8 +8,9 @@ use native.Mathlib.Decide.{decLe}
 use native.Mathlib.Omega.{arith}
 use lib.ListN.{length, getD}
 use Rattle.cheapest_bounds.specs.Costs.{costOf}
-use Rattle.cheapest_bounds.specs.Units.{Multiple, Measures, Unit, Goal}
+use Rattle.cheapest_bounds.specs.Units.{Multiple, Measures, CommonUnit, LimitBelow}
 use Rattle.bits.proofs.Digits.{eq?}
+use Rattle.bits.proofs.Steps.{all-next}
 
 -- ---- the unit
 
@@ -23,11 +24,8 @@ measured-none costs u k lt = absurd (omega arith)
 
 pub measured-more : (costs : List ℕ) (u n : ℕ) → Measured costs u n → getD costs n 0 % u ≡ 0 → Measured costs u (n + 1)
 unfolding Measured Multiple
-measured-more costs u n h z k lt =
-    ⊎-elim
-    (λ (e : k ≡ n). (getD costs n 0 / u, ap (λ (j : ℕ). getD costs j 0) e ∙ omega (arith, div-add-mod' (getD costs n 0) u)))
-    (λ (e : k ≡ n → ⊥). h k (omega arith))
-    (eq? k n)
+measured-more costs u n h z =
+    all-next (λ k. Multiple u (getD costs k 0)) n h (getD costs n 0 / u, omega (arith, div-add-mod' (getD costs n 0) u))
 
 pub measured-all : (costs : List ℕ) (u n : ℕ) → n ≡ length costs → Measured costs u n → Measures costs u
 unfolding Measured Measures
@@ -46,17 +44,17 @@ whole (w ∷ ws) u h t =
     (a .0 + b .0, omega (arith, ap (λ (x : ℕ). x * w) o, one-mul w, a .1, b .1, add-mul (a .0) (b .0) u)))
     (eq? (t % 2) 0)
 
-pub unit-measures : (costs : List ℕ) (u : ℕ) → 0 < u → Measures costs u → Unit costs u
+pub unit-measures : (costs : List ℕ) (u : ℕ) → 0 < u → Measures costs u → CommonUnit costs u
 unit-measures costs u p h = record { positive = p; whole = whole costs u h }
 
-pub unit-one : (costs : List ℕ) → Unit costs 1
+pub unit-one : (costs : List ℕ) → CommonUnit costs 1
 unfolding Multiple
 unit-one costs = record { positive = omega arith; whole = λ t. (costOf costs t, omega (arith, mul-one (costOf costs t))) }
 
 -- ---- the goal
 
-pub goal-zero : (cost u : ℕ) → cost ≡ 0 → Goal cost u 0
-goal-zero cost u z = record { near = omega arith; kept = λ c m lt. absurd (omega arith) }
+pub limit-zero : (cost u : ℕ) → cost ≡ 0 → LimitBelow cost u 0
+limit-zero cost u z = record { near = omega arith; kept = λ c m lt. absurd (omega arith) }
 
 module _ (cost u : ℕ) (pos : 0 < u) (some : cost ≡ 0 → ⊥) where
   k : ℕ
@@ -65,14 +63,14 @@ module _ (cost u : ℕ) (pos : 0 < u) (some : cost ≡ 0 → ⊥) where
   split : k / u * u + k % u ≡ k
   split = div-add-mod' k u
 
-  pub goal-small : (cost - 1) / u * u ≤ cost - 1
+  pub limit-small : (cost - 1) / u * u ≤ cost - 1
   unfolding k
-  goal-small = omega (arith, split)
+  limit-small = omega (arith, split)
 
-  pub goal-is : Goal cost u ((cost - 1) / u * u + 1)
+  pub limit-is : LimitBelow cost u ((cost - 1) / u * u + 1)
   unfolding k Multiple
-  goal-is = record {
-    near = omega (arith, goal-small);
+  limit-is = record {
+    near = omega (arith, limit-small);
     kept = λ c m lt. elim (decLe (m .0) (k / u)) [
       | yes le ↦ let s : m .0 * u ≤ k / u * u = mul-le-mul-right u le in omega (arith, m .1)
       | no gt ↦

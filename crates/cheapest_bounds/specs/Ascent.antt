@@ -6,7 +6,7 @@ use lib.ListN.{length, getD}
 use lib.Bits.{bitAnd}
 use Rattle.cheapest_bounds.specs.declared.ascent.Duals.{Duals}
 use Rattle.bits.specs.Bits.{digit, Part}
-use Rattle.cheapest_bounds.specs.Costs.{costOf}
+use Rattle.cheapest_bounds.specs.Costs.{costOf, noCost}
 
 -- by new, a set with a member of x costs y less than by old, or less than that
 pub record Charged (x y : ℕ) (old new : List ℕ) : Type 0 where
@@ -28,14 +28,14 @@ pub record Raised (rows old new : List ℕ) (r : ℕ) : Type 0 where
   pub under : (t : ℕ) → Meets rows (length rows) t → costOf new t + r ≤ costOf old t
 
 -- 64 entries, by which each set costs as much
-pub record Padded (costs left : List ℕ) : Type 0 where
+pub record SameCosts (costs left : List ℕ) : Type 0 where
   pub size : length left ≡ 64
   pub same : (t : ℕ) → costOf left t ≡ costOf costs t
 
 -- a set that meets the rows costs the sum and what is left of its members, or more
 pub record Dual (rows costs : List ℕ) (d : Duals) : Type 0 where
   pub under : (t : ℕ) → Meets rows (length rows) t → d .sum + costOf (d .left) t ≤ costOf costs t
-  pub small : d .sum ≤ 4194304
+  pub small : d .sum < noCost
 
 -- r is a part of free, and each other member of free has spare left, or more
 pub record Trimmed (left : List ℕ) (free spare r : ℕ) : Type 0 where
@@ -43,6 +43,6 @@ pub record Trimmed (left : List ℕ) (free spare r : ℕ) : Type 0 where
   pub dear : (b : ℕ) → digit b free ≡ 1 → (digit b r ≡ 1 → ⊥) → spare ≤ costOf left (2 ^ b)
 
 -- r is a part of free, and has all of each part of free that meets the rows and costs less than spare
-pub record Worthy (rows costs : List ℕ) (free spare r : ℕ) : Type 0 where
+pub record Affordable (rows costs : List ℕ) (free spare r : ℕ) : Type 0 where
   pub part : Part r free
   pub keeps : (t : ℕ) → Meets rows (length rows) t → Part t free → costOf costs t < spare → Part t r

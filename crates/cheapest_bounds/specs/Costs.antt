@@ -11,10 +11,9 @@ unfoldable pub costOf : List ℕ → ℕ → ℕ
 costOf [] s = 0
 costOf (w ∷ ws) s = s % 2 * w + costOf ws (s / 2)
 
--- m is the one candidate i
-pub record Numbered (m i : ℕ) : Type 0 where
-  pub small : i < 64
-  pub is : m ≡ 2 ^ i
+-- more than any set costs: 64 candidates of 16-bit costs come to 64 * 65535 at most
+abbrev pub noCost : ℕ
+noCost = 64 * 65536 + 1
 
 -- r is the cost of the set x, and a byte pair holds it
 pub record Price (costs : List ℕ) (x r : ℕ) : Type 0 where
@@ -37,4 +36,4 @@ Fresh row s free used r = (r ≡ 0 → ⊥) → (bitAnd row s ≡ 0) × (r ≡ b
 -- every cover between s and s | free costs r more than s, or more
 pub record Bound (rows costs : List ℕ) (s free r : ℕ) : Type 0 where
   pub under : (t : ℕ) → CoverBetween rows s free t → costOf costs s + r ≤ costOf costs t
-  pub small : r ≤ 4194305
+  pub small : r ≤ noCost

@@ -14,11 +14,11 @@ unfoldable pub Measures : List ℕ → ℕ → Type 0
 Measures costs u = (k : ℕ) → k < length costs → Multiple u (getD costs k 0)
 
 -- the cost of each set is
-pub record Unit (costs : List ℕ) (u : ℕ) : Type 0 where
+pub record CommonUnit (costs : List ℕ) (u : ℕ) : Type 0 where
   pub positive : 0 < u
   pub whole : (t : ℕ) → Multiple u (costOf costs t)
 
 -- a multiple of u that is below cost is below r, which is not above cost
-pub record Goal (cost u r : ℕ) : Type 0 where
+pub record LimitBelow (cost u r : ℕ) : Type 0 where
   pub near : r ≤ cost
   pub kept : (c : ℕ) → Multiple u c → c < cost → c < r

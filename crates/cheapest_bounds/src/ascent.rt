@@ -4,7 +4,7 @@ ghost use mathlib.Core.Path.{_≡_};
 ghost use Prim.Native.Nat.{_≤_};
 ghost use lib.ListN.{length};
 ghost use Rattle.cheapest_bounds.specs.Costs.{Floor};
-ghost use Rattle.cheapest_bounds.specs.Ascent.{Charged, Paid, Raised, Padded, Dual, Trimmed, Worthy};
+ghost use Rattle.cheapest_bounds.specs.Ascent.{Charged, Paid, Raised, SameCosts, Dual, Trimmed, Affordable};
 use crate::costs;
 use bits::set;
 
@@ -15,7 +15,7 @@ pub struct Duals {
 }
 
 // Takes y from what is left of each member of x.
-pub fn charge(left: &mut [u16], x: u64, y: u64)
+fn charge(left: &mut [u16], x: u64, y: u64)
     requires { ⌜ length (now left) ≡ 64 ⌝ }
     requires { ⌜ Floor (now left) x y ⌝ }
     ensures { λ r. ⌜ Charged x y (now (left .entry)) (now (left .exit)) ⌝ }
@@ -24,15 +24,15 @@ pub fn charge(left: &mut [u16], x: u64, y: u64)
     let mut rest = x;
     while rest != 0 {
         let m = set::lowest(rest);
-        let i = costs::number(m);
+        let i = set::index(m);
         left[i] = left[i] - y16;
         rest = set::minus(rest, m);
     }
 }
 
 // One row charges its members as much as each of them has left, or half of that, rounded up; returns the amount. A row with more than
-// most members takes nothing.
-pub fn pay(x: u64, most: u32, half: bool, left: &mut [u16]) -> u64
+// most members takes nothing. How much a row takes is left open, here and below: a cover costs that much whatever it is.
+fn pay(x: u64, most: u32, half: bool, left: &mut [u16]) -> u64
     requires { ⌜ length (now left) ≡ 64 ⌝ }
     ensures { λ r. ⌜ Paid x (now (left .entry)) (now (left .exit)) r ⌝ }
 {
@@ -52,7 +52,7 @@ pub fn pay(x: u64, most: u32, half: bool, left: &mut [u16]) -> u64
 }
 
 // Each row charges its members in turn; returns the sum.
-pub fn raise(rows: &[u64], most: u32, half: bool, left: &mut [u16]) -> u64
+fn raise(rows: &[u64], most: u32, half: bool, left: &mut [u16]) -> u64
     requires { ⌜ length (now left) ≡ 64 ⌝ }
     ensures { λ r. ⌜ Raised (now (rows .entry)) (now (left .entry)) (now (left .exit)) r ⌝ }
 {
@@ -66,9 +66,9 @@ pub fn raise(rows: &[u64], most: u32, half: bool, left: &mut [u16]) -> u64
 }
 
 // The costs, and 0 behind them.
-pub fn padded(costs: &[u16]) -> [u16; 64]
+fn padded(costs: &[u16]) -> [u16; 64]
     requires { ⌜ length (now costs) ≤ 64 ⌝ }
-    ensures { λ r. ⌜ Padded (now (costs .entry)) r ⌝ }
+    ensures { λ r. ⌜ SameCosts (now (costs .entry)) r ⌝ }
 {
     let mut left: [u16; 64] = [0; 64];
     let mut i = 0;
@@ -81,7 +81,7 @@ pub fn padded(costs: &[u16]) -> [u16; 64]
 
 // The rows' charges: small rows first, each taking half of what it could, so that the rows that share its members get something too; then
 // what is left.
-pub fn ascent(rows: &[u64], costs: &[u16]) -> Duals
+fn ascent(rows: &[u64], costs: &[u16]) -> Duals
     requires { ⌜ length (now costs) ≤ 64 ⌝ }
     ensures { λ r. ⌜ Dual (now (rows .entry)) (now (costs .entry)) r ⌝ }
 {
@@ -98,8 +98,8 @@ pub fn ascent(rows: &[u64], costs: &[u16]) -> Duals
     }
 }
 
-// The members of free that have less than spare left.
-pub fn trim(left: &[u16], free: u64, spare: u64) -> u64
+// The members of free that have less than spare left; that no other one is kept is left open.
+fn trim(left: &[u16], free: u64, spare: u64) -> u64
     ensures { λ r. ⌜ Trimmed (now (left .entry)) free spare r ⌝ }
 {
     let mut kept = free;
@@ -114,11 +114,11 @@ pub fn trim(left: &[u16], free: u64, spare: u64) -> u64
     kept
 }
 
-// The members of free that a set can have which meets the rows and costs less than spare. With few rows all are kept: charging them
-// costs more time than it saves.
-pub fn worthy(rows: &[u64], costs: &[u16], free: u64, spare: u64) -> u64
+// The members of free that a set can have which meets the rows and costs less than spare, and maybe others: the contract leaves open how
+// many. With few rows all are kept: charging them costs more time than it saves.
+pub fn affordable(rows: &[u64], costs: &[u16], free: u64, spare: u64) -> u64
     requires { ⌜ length (now costs) ≤ 64 ⌝ }
-    ensures { λ r. ⌜ Worthy (now (rows .entry)) (now (costs .entry)) free spare r ⌝ }
+    ensures { λ r. ⌜ Affordable (now (rows .entry)) (now (costs .entry)) free spare r ⌝ }
 {
     if rows.len() <= 16 {
         return free;

@@ -3,21 +3,16 @@ ghost use mathlib.Core.Path.{_≡_};
 ghost use Prim.Native.Nat.{_≤_};
 ghost use lib.ListN.{length};
 ghost use Rattle.bits.specs.Bits.{Single};
-ghost use Rattle.cheapest_bounds.specs.Costs.{costOf, Numbered, Price, Floor};
+ghost use Rattle.cheapest_bounds.specs.Costs.{costOf, Price, Floor};
 use bits::set;
 
+// The cost where there is no cover: more than any set of 64 candidates of 16-bit costs has.
+pub const NO_COST: u64 = 64 * 65536 + 1;
+
 // A set and its cost: the best cover known, or a cost to stay below.
-pub struct Best {
+pub struct Incumbent {
     pub cost: u64,
     pub set: u64,
-}
-
-// The number of the one candidate in m.
-pub fn number(m: u64) -> usize
-    requires { ⌜ Single m ⌝ }
-    ensures { λ r. ⌜ Numbered m r ⌝ }
-{
-    u64::trailing_zeros(m) as usize
 }
 
 // The cost of the one candidate in m.
@@ -25,14 +20,14 @@ pub fn price(costs: &[u16], m: u64) -> u64
     requires { ⌜ Single m ⌝ }
     ensures { λ r. ⌜ Price (now (costs .entry)) m r ⌝ }
 {
-    let i = number(m);
+    let i = set::index(m);
     if i < costs.len() {
         return costs[i] as u64;
     }
     0
 }
 
-// At most the cost of the cheapest member of x.
+// At most the cost of the cheapest member of x: the bounds need no more.
 pub fn floor(costs: &[u16], x: u64) -> u64
     ensures { λ r. ⌜ Floor (now (costs .entry)) x r ⌝ }
 {

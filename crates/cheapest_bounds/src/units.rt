@@ -2,10 +2,10 @@
 ghost use mathlib.Core.Path.{_≡_};
 ghost use mathlib.Core.Bool.{true};
 ghost use Prim.Native.Nat.{_<_};
-ghost use Rattle.cheapest_bounds.specs.Units.{Measures, Unit, Goal};
+ghost use Rattle.cheapest_bounds.specs.Units.{Measures, CommonUnit, LimitBelow};
 
-// Whether each cost is a multiple of u.
-pub fn measures(costs: &[u16], u: u64) -> bool
+// Whether each cost is a multiple of u. Only true says something: with a smaller unit the search is slower, not wrong.
+fn measures(costs: &[u16], u: u64) -> bool
     requires { ⌜ 0 < u ⌝ }
     ensures { λ r. ⌜ (r ≡ true → Measures (now (costs .entry)) u) ⌝ }
 {
@@ -19,9 +19,9 @@ pub fn measures(costs: &[u16], u: u64) -> bool
     true
 }
 
-// The greatest number up to 16 of which each cost is a multiple; a term costs no more than 16.
+// The greatest number up to 16 of which each cost is a multiple; that it is the greatest is left open.
 pub fn unit(costs: &[u16]) -> u64
-    ensures { λ r. ⌜ Unit (now (costs .entry)) r ⌝ }
+    ensures { λ r. ⌜ CommonUnit (now (costs .entry)) r ⌝ }
 {
     let mut u: u64 = 16;
     while 1 < u {
@@ -34,9 +34,9 @@ pub fn unit(costs: &[u16]) -> u64
 }
 
 // The least limit above the multiples of u that are below cost.
-pub fn goal(cost: u64, u: u64) -> u64
+pub fn limit_below(cost: u64, u: u64) -> u64
     requires { ⌜ 0 < u ⌝ }
-    ensures { λ r. ⌜ Goal cost u r ⌝ }
+    ensures { λ r. ⌜ LimitBelow cost u r ⌝ }
 {
     if cost == 0 {
         return 0;

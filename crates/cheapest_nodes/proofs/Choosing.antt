@@ -15,34 +15,33 @@ use Rattle.cheapest_nodes.specs.Nodes.{Chosen}
 use Rattle.bits.proofs.Digits.{eq?}
 use Rattle.bits.proofs.Members.{not-zero, and-left, and-right}
 use Rattle.bits.proofs.Parts.{members, by-members, member-of-more, apart-by, no-common}
+use Rattle.bits.proofs.Steps.{all-next}
 use Rattle.rows.proofs.Sets.{meets}
 
 -- pick is free and not in s; where it is 0, s meets the first n rows
-pub record Scanned (rows : List ℕ) (n s free pick : ℕ) : Type 0 where
+pub record Picked (rows : List ℕ) (n s free pick : ℕ) : Type 0 where
   pub met : pick ≡ 0 → (k : ℕ) → k < n → bitAnd (getD rows k 0) s ≡ 0 → ⊥
   pub part : Part pick free
   pub apart : bitAnd s pick ≡ 0
 
-pub scanned-none : (rows : List ℕ) (s free : ℕ) → Scanned rows 0 s free 0
-scanned-none rows s free = record {
+pub picked-none : (rows : List ℕ) (s free : ℕ) → Picked rows 0 s free 0
+picked-none rows s free = record {
   met = λ e k lt. absurd (omega arith);
   part = by-members 0 free (λ b m. absurd (not-zero b 0 m refl));
   apart = apart-by s 0 (λ b p q. not-zero b 0 q refl);
 }
 
-module _ (rows : List ℕ) (n s free pick : ℕ) (h : Scanned rows n s free pick) where
-  pub scanned-met : (bitAnd (getD rows n 0) s ≡ 0 → ⊥) → Scanned rows (n + 1) s free pick
-  scanned-met m = record {
-    met = λ e k lt z. ⊎-elim
-        (λ (q : k ≡ n). m (subst (λ (j : ℕ). bitAnd (getD rows j 0) s ≡ 0) q z))
-        (λ (q : k ≡ n → ⊥). h .met e k (omega arith) z) (eq? k n);
+module _ (rows : List ℕ) (n s free pick : ℕ) (h : Picked rows n s free pick) where
+  pub picked-met : (bitAnd (getD rows n 0) s ≡ 0 → ⊥) → Picked rows (n + 1) s free pick
+  picked-met m = record {
+    met = λ e. all-next (λ k. bitAnd (getD rows k 0) s ≡ 0 → ⊥) n (h .met e) m;
     part = h .part;
     apart = h .apart;
   }
 
-  pub scanned-unmet : (pick' : ℕ) → bitAnd (getD rows n 0) s ≡ 0 → (bitAnd (getD rows n 0) free ≡ 0 → ⊥)
-      → (pick' ≡ bitAnd (getD rows n 0) free) ⊎ ((pick' ≡ pick) × (pick ≡ 0 → ⊥)) → Scanned rows (n + 1) s free pick'
-  scanned-unmet pick' z nz =
+  pub picked-unmet : (pick' : ℕ) → bitAnd (getD rows n 0) s ≡ 0 → (bitAnd (getD rows n 0) free ≡ 0 → ⊥)
+      → (pick' ≡ bitAnd (getD rows n 0) free) ⊎ ((pick' ≡ pick) × (pick ≡ 0 → ⊥)) → Picked rows (n + 1) s free pick'
+  picked-unmet pick' z nz =
       ⊎-elim
       (λ (e : pick' ≡ bitAnd (getD rows n 0) free). record {
         met = λ q. absurd (nz (sym e ∙ q));

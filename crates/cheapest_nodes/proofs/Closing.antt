@@ -8,22 +8,18 @@ use lib.ListN.{length, getD}
 use lib.Bits.{bitAnd}
 use Rattle.bits.specs.Bits.{Part}
 use Rattle.cheapest_nodes.specs.Nodes.{Closed, Component}
-use Rattle.bits.proofs.Digits.{eq?}
 use Rattle.bits.proofs.Members.{and-left, and-right}
 use Rattle.bits.proofs.Parts.{by-members, part-self}
+use Rattle.bits.proofs.Steps.{all-next}
 
 module _ (rows : List ℕ) (n s free a : ℕ) (h : Closed rows n s free a) where
   pub closed-met : (bitAnd (getD rows n 0) s ≡ 0 → ⊥) → Closed rows (n + 1) s free a
   unfolding Closed
-  closed-met d k lt z =
-      ⊎-elim (λ (e : k ≡ n). absurd (d (subst (λ (j : ℕ). bitAnd (getD rows j 0) s ≡ 0) e z))) (λ (e : k ≡ n → ⊥). h k (omega arith) z) (eq? k n)
+  closed-met d = all-next _ n h (λ z. absurd (d z))
 
   pub closed-more : (bitAnd (bitAnd (getD rows n 0) free) a ≡ 0) ⊎ Part (bitAnd (getD rows n 0) free) a → Closed rows (n + 1) s free a
   unfolding Closed
-  closed-more d k lt z =
-      ⊎-elim
-      (λ (e : k ≡ n). subst (λ (j : ℕ). (bitAnd (bitAnd (getD rows j 0) free) a ≡ 0) ⊎ Part (bitAnd (getD rows j 0) free) a) (sym e) d)
-      (λ (e : k ≡ n → ⊥). h k (omega arith) z) (eq? k n)
+  closed-more d = all-next _ n h (λ z. d)
 
 pub closed-none : (rows : List ℕ) (s free a : ℕ) → Closed rows 0 s free a
 unfolding Closed

@@ -1,5 +1,5 @@
 pub mod Choosing
-pub mod Narrowing
+pub mod Restricting
 pub mod Thinning
 pub mod Closing
 pub mod Planning

@@ -16,11 +16,12 @@ use Rattle.bits.specs.Bits.{digit, Part, Minus}
 use Rattle.rows.specs.Covers.{Cover, Between}
 use Rattle.cheapest_bounds.specs.Costs.{costOf, CoverBetween, Bound}
 use Rattle.cheapest_nodes.specs.Nodes.{Chosen, Closed, Component, Thinned}
-use Rattle.cheapest_bounds.specs.Ascent.{Worthy, Meets}
-use Rattle.cheapest_nodes.specs.Plan.{Residue, Filled, Open, Worth, Planned}
+use Rattle.cheapest_bounds.specs.Ascent.{Affordable, Meets}
+use Rattle.cheapest_nodes.specs.Plan.{Residue, ResidueIn, Open, Sufficient, Planned}
 use Rattle.bits.proofs.Digits.{eq?, digit-lt, digit-and, digit-or, digit-ext, a-member}
 use Rattle.bits.proofs.Members.{and-left, and-right, and-both}
 use Rattle.bits.proofs.Parts.{members, by-members, part-self, part-trans, part-and-left, minus-bits, apart-by, no-common}
+use Rattle.bits.proofs.Steps.{all-next}
 use Rattle.cheapest_bounds.proofs.Costing.{cost-apart}
 use Rattle.rows.proofs.Sets.{meets}
 use Rattle.cheapest_nodes.proofs.Choosing.{tried}
@@ -44,10 +45,7 @@ module _ (rows : List ℕ) (s free : ℕ) (out : List ℕ) (n i : ℕ) (g : Leav
   pub leaves-skip : (bitAnd (getD rows i 0) s ≡ 0 → ⊥) → Leaves rows s free out n (i + 1)
   leaves-skip met = record {
     few = omega (arith, g .few);
-    has = λ k lt z. ⊎-elim
-        (λ (e : k ≡ i). absurd (met (subst (λ (v : ℕ). bitAnd (getD rows v 0) s ≡ 0) e z)))
-        (λ (d : k ≡ i → ⊥). g .has k (omega arith) z)
-        (eq? k i);
+    has = all-next _ i (g .has) (λ z. absurd (met z));
     from = λ j lt.
         let r : (k : ℕ) × (k < i) × (bitAnd (getD rows k 0) s ≡ 0) × (getD out j 0 ≡ bitAnd (getD rows k 0) free) = g .from j lt in
         (r .0, omega (arith, r .1), r .2, r .3);
@@ -56,28 +54,23 @@ module _ (rows : List ℕ) (s free : ℕ) (out : List ℕ) (n i : ℕ) (g : Leav
   pub leaves-take : n < length out → bitAnd (getD rows i 0) s ≡ 0 → Leaves rows s free (set out n (bitAnd (getD rows i 0) free)) (n + 1) (i + 1)
   leaves-take room z = record {
     few = omega (arith, g .few);
-    has = λ k lt y. ⊎-elim
-        (λ (e : k ≡ i). (n, omega arith, at-n n refl ∙ ap (λ (v : ℕ). bitAnd (getD rows v 0) free) (sym e)))
-        (λ (d : k ≡ i → ⊥).
-        let r : (j : ℕ) × (j < n) × (getD out j 0 ≡ bitAnd (getD rows k 0) free) = g .has k (omega arith) y in
-        (r .0, omega (arith, r .1), other (r .0) (λ e. omega (arith, r .1)) ∙ r .2))
-        (eq? k i);
-    from = λ j lt. ⊎-elim
-        (λ (e : j ≡ n). (i, omega arith, z, at-n j e))
-        (λ (d : j ≡ n → ⊥).
-        let r : (k : ℕ) × (k < i) × (bitAnd (getD rows k 0) s ≡ 0) × (getD out j 0 ≡ bitAnd (getD rows k 0) free) = g .from j (omega arith) in
-        (r .0, omega (arith, r .1), r .2, other j d ∙ r .3))
-        (eq? j n);
+    has = all-next (λ k. bitAnd (getD rows k 0) s ≡ 0 → (j : ℕ) × (j < n + 1) × (getD (set out n x) j 0 ≡ bitAnd (getD rows k 0) free)) i
+        (λ k lt y.
+        let r : (j : ℕ) × (j < n) × (getD out j 0 ≡ bitAnd (getD rows k 0) free) = g .has k lt y in
+        (r .0, omega (arith, r .1), other (r .0) (r .1) ∙ r .2))
+        (λ y. (n, omega arith, getD-set-same out n x 0 room));
+    from = all-next (λ j. (k : ℕ) × (k < i + 1) × (bitAnd (getD rows k 0) s ≡ 0) × (getD (set out n x) j 0 ≡ bitAnd (getD rows k 0) free)) n
+        (λ j lt.
+        let r : (k : ℕ) × (k < i) × (bitAnd (getD rows k 0) s ≡ 0) × (getD out j 0 ≡ bitAnd (getD rows k 0) free) = g .from j lt in
+        (r .0, omega (arith, r .1), r .2, other j lt ∙ r .3))
+        (i, omega arith, z, getD-set-same out n x 0 room);
   }
     where
       x : ℕ
       x = bitAnd (getD rows i 0) free
 
-      at-n : (j : ℕ) → j ≡ n → getD (set out n x) j 0 ≡ x
-      at-n j e = ap (λ (v : ℕ). getD (set out n x) v 0) e ∙ getD-set-same out n x 0 room
-
-      other : (j : ℕ) → (j ≡ n → ⊥) → getD (set out n x) j 0 ≡ getD out j 0
-      other j d = getD-set-other out n j x 0 d
+      other : (j : ℕ) → j < n → getD (set out n x) j 0 ≡ getD out j 0
+      other j lt = getD-set-other out n j x 0 (λ e. omega arith)
 
 pub leaves-as : (rows : List ℕ) (s free : ℕ) {out out' : List ℕ} {n n' : ℕ} (i : ℕ) → out' ≡ out → n' ≡ n
     → Leaves rows s free out n i → Leaves rows s free out' n' i
@@ -85,7 +78,7 @@ leaves-as rows s free {out} {out'} {n} {n'} i e f g =
     subst (λ (o : List ℕ). Leaves rows s free o n' i) (sym e) (subst (λ (k : ℕ). Leaves rows s free out k i) (sym f) g)
 
 pub leaves-all : (rows : List ℕ) (s free : ℕ) (out : List ℕ) (n i size : ℕ) → Leaves rows s free out n i → i ≡ length rows → length out ≡ size
-    → n ≤ length out → Filled rows s free size n out
+    → n ≤ length out → ResidueIn rows s free size n out
 leaves-all rows s free out n i size g e l le = record {
   size-is = l;
   few = le;
@@ -118,8 +111,8 @@ module _ (rows costs : List ℕ) (s free : ℕ) (unmet : Open rows s free) where
       let not-s : digit b s ≡ 1 → ⊥ = no-common x s b (unmet k lt .0) in-x in
       no-common x u b z in-x (omega (arith, d b, digit-lt b s))
 
-  -- a cover that costs less than limit has beyond s only what is worthy
-  keeps-cheap : (cost limit kept : ℕ) → cost ≡ costOf costs s → Worthy rows costs free (limit - cost) kept → (t : ℕ) → CoverBetween rows s free t
+  -- a cover that costs less than limit has beyond s only what is affordable
+  keeps-cheap : (cost limit kept : ℕ) → cost ≡ costOf costs s → Affordable rows costs free (limit - cost) kept → (t : ℕ) → CoverBetween rows s free t
       → costOf costs t < limit → CoverBetween rows s kept t
   unfolding CoverBetween Between Minus
   keeps-cheap cost limit kept is w t r lt = (
@@ -151,9 +144,9 @@ module _ (rows costs : List ℕ) (s free : ℕ) (unmet : Open rows s free) where
       inside : Part u kept
       inside = w .keeps u (meets-beyond t u r (minus-bits t s)) in-free cheap
 
-  pub worth-thinned : (cost limit kept useful : ℕ) → cost ≡ costOf costs s → Worthy rows costs free (limit - cost) kept → Thinned rows costs s kept useful
-      → Worth rows costs s free limit useful
-  worth-thinned cost limit kept useful is w v = record {
+  pub sufficient-thinned : (cost limit kept useful : ℕ) → cost ≡ costOf costs s → Affordable rows costs free (limit - cost) kept → Thinned rows costs s kept useful
+      → Sufficient rows costs s free limit useful
+  sufficient-thinned cost limit kept useful is w v = record {
     part = part-trans useful kept free (v .part) (w .part);
     swap = λ t r lt. v .swap t (keeps-cheap cost limit kept is w t r lt);
   }
@@ -170,7 +163,7 @@ pub done-next : (rows costs : List ℕ) (s free cost limit useful more : ℕ) (c
 unfolding Planned Chosen
 done-next rows costs s free cost limit useful more choice e c lt = (subst (Chosen rows s useful) e c, omega arith)
 
-module _ (rows costs : List ℕ) (s free cost limit useful : ℕ) (w : Worth rows costs s free limit useful) where
+module _ (rows costs : List ℕ) (s free cost limit useful : ℕ) (w : Sufficient rows costs s free limit useful) where
   pub lost-next : (choice : Choice) → choice ≡ Lost → Chosen rows s useful choice → Planned rows costs s free cost limit Cut
   unfolding Planned Chosen
   lost-next choice e c₀ t r =
@@ -235,9 +228,9 @@ module _ (rows : List ℕ) (s free : ℕ) (xs : List ℕ) (h : Residue rows s fr
       no-common x t (m .0) w (and-left (m .0) x s (m .1)) (up (m .0) (and-right (m .0) x s (m .1))))
       (eq? (bitAnd x s) 0)
 
-  worth-whole : (costs : List ℕ) (limit f : ℕ) → Worth xs costs s free limit f → Worth rows costs s free limit f
+  sufficient-whole : (costs : List ℕ) (limit f : ℕ) → Sufficient xs costs s free limit f → Sufficient rows costs s free limit f
   unfolding CoverBetween Between
-  worth-whole costs limit f w = record {
+  sufficient-whole costs limit f w = record {
     part = w .part;
     swap = λ t r lt.
         let u : (u : ℕ) × CoverBetween xs s f u × (costOf costs u ≤ costOf costs t) = w .swap t (cover-less free t (part-self free) r) lt in
@@ -266,7 +259,7 @@ module _ (rows : List ℕ) (s free : ℕ) (xs : List ℕ) (h : Residue rows s fr
   planned-whole costs cost limit Cut q = λ t r. q t (cover-less free t (part-self free) r)
   planned-whole costs cost limit Done q = (cover-whole s (λ b m. m) (q .0), q .1)
   planned-whole costs cost limit (Split useful part) q = (
-    worth-whole costs limit useful (q .0),
+    sufficient-whole costs limit useful (q .0),
     record {
       component = component-whole useful part (q .0 .part) (q .1 .component);
       apart = q .1 .apart;
@@ -274,4 +267,4 @@ module _ (rows : List ℕ) (s free : ℕ) (xs : List ℕ) (h : Residue rows s fr
       other-less = q .1 .other-less;
     },
   )
-  planned-whole costs cost limit (Branch useful m) q = (worth-whole costs limit useful (q .0), q .1, q .2)
+  planned-whole costs cost limit (Branch useful m) q = (sufficient-whole costs limit useful (q .0), q .1, q .2)

@@ -7,9 +7,9 @@ use native.Mathlib.Omega.{arith}
 use lib.ListN.{length, getD}
 use lib.Bits.{bitAnd, bitOr, bitXor}
 use Rattle.bits.specs.Bits.{digit, Single, Part, Minus, Member}
-use Rattle.rows.specs.Covers.{Cover, Between}
+use Rattle.rows.specs.Covers.{Cover, Unmet, Between}
 use Rattle.cheapest_bounds.specs.Costs.{costOf, Price, CoverBetween}
-use Rattle.cheapest_nodes.specs.Nodes.{Wanted, Dominators, Cheaper, Thinned}
+use Rattle.cheapest_nodes.specs.Nodes.{Dominators, Cheaper, Thinned}
 use Rattle.bits.proofs.Digits.{eq?, digit-lt, digit-or, a-member, pow-only}
 use Rattle.bits.proofs.Members.{not-zero, and-left, and-right, and-both}
 use Rattle.bits.proofs.Parts.{members, by-members, part-trans, minus-bits, minus-part, member-of-more, no-common}
@@ -148,12 +148,12 @@ module _ (rows costs : List ℕ) (s free m f doms b : ℕ) (one : Single m) (d :
       only e q = pow-only e a (sym (ap (digit e) (one .1)) ∙ q)
 
 -- what meets no unmet row is not needed
-module _ (rows costs : List ℕ) (s free u : ℕ) (h : Wanted rows (length rows) s u) (t : ℕ) (r : CoverBetween rows s free t) where
+module _ (rows costs : List ℕ) (s free u : ℕ) (h : Unmet rows (length rows) s u) (t : ℕ) (r : CoverBetween rows s free t) where
   trimmed : ℕ
   trimmed = bitOr s (bitAnd t u)
 
   trimmed-cover : Cover rows trimmed
-  unfolding trimmed Cover CoverBetween Wanted
+  unfolding trimmed Cover CoverBetween Unmet
   trimmed-cover k lt w =
       let x : ℕ = getD rows k 0 in
       ⊎-elim
@@ -192,13 +192,13 @@ module _ (rows costs : List ℕ) (s free u : ℕ) (h : Wanted rows (length rows)
       (λ (e : digit c s ≡ 1 → ⊥). and-left c t u (omega (arith, digit-or c s (bitAnd t u), digit-lt c s, digit-lt c (bitAnd t u))))
       (eq? (digit c s) 1))
 
--- what is both free and wanted is free
+-- what is both free and in an unmet row is free
 pub free-part : (free u : ℕ) → Part (bitAnd free u) free
 free-part free u = by-members (bitAnd free u) free (λ c m. and-left c free u m)
 
-pub thinned-wanted : (rows costs : List ℕ) (s free u : ℕ) → Wanted rows (length rows) s u → Thinned rows costs s free (bitAnd free u)
+pub thinned-unmet : (rows costs : List ℕ) (s free u : ℕ) → Unmet rows (length rows) s u → Thinned rows costs s free (bitAnd free u)
 unfolding CoverBetween
-thinned-wanted rows costs s free u h = record {
+thinned-unmet rows costs s free u h = record {
   part = free-part free u;
   swap = λ t r. (trimmed rows costs s free u h t r, (trimmed-cover rows costs s free u h t r, trimmed-between rows costs s free u h t r), cost-part costs (trimmed rows costs s free u h t r) t (trimmed-part rows costs s free u h t r));
 }

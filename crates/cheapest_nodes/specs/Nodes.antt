@@ -17,16 +17,12 @@ Chosen rows s free Done = Cover rows s
 Chosen rows s free Lost = (t : ℕ) → CoverBetween rows s free t → ⊥
 Chosen rows s free (Try m) = Member free m × (bitAnd s m ≡ 0)
 
--- u has all of each row among the first n that s does not meet
-unfoldable pub Wanted : List ℕ → ℕ → ℕ → ℕ → Type 0
-Wanted rows n s u = (k : ℕ) → k < n → bitAnd (getD rows k 0) s ≡ 0 → Part (getD rows k 0) u
-
 -- a is in each row among the first n that s does not meet and m does
 unfoldable pub Dominators : List ℕ → ℕ → ℕ → ℕ → ℕ → Type 0
 Dominators rows n s m a = (k : ℕ) → k < n → bitAnd (getD rows k 0) s ≡ 0 → (bitAnd (getD rows k 0) m ≡ 0 → ⊥) → Part a (getD rows k 0)
 
 -- new is old with less in its entries; the entry of each member of x has only what is in row
-pub record Narrowed (row x : ℕ) (old new : List ℕ) : Type 0 where
+pub record Restricted (row x : ℕ) (old new : List ℕ) : Type 0 where
   pub size : length new ≡ length old
   pub less : (b : ℕ) → Part (getD new b 0) (getD old b 0)
   pub met : (b : ℕ) → digit b x ≡ 1 → Part (getD new b 0) row

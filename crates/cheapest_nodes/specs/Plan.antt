@@ -17,7 +17,7 @@ pub record Residue (rows : List ℕ) (s free : ℕ) (xs : List ℕ) : Type 0 whe
   pub from : (j : ℕ) → j < length xs → (k : ℕ) × (k < length rows) × (bitAnd (getD rows k 0) s ≡ 0) × (getD xs j 0 ≡ bitAnd (getD rows k 0) free)
 
 -- the first r entries of new are that, and new has as many entries as before
-pub record Filled (rows : List ℕ) (s free size r : ℕ) (new : List ℕ) : Type 0 where
+pub record ResidueIn (rows : List ℕ) (s free size r : ℕ) (new : List ℕ) : Type 0 where
   pub size-is : length new ≡ size
   pub few : r ≤ length new
   pub residue : Residue rows s free (take r new)
@@ -27,12 +27,12 @@ unfoldable pub Open : List ℕ → ℕ → ℕ → Type 0
 Open rows s free = (k : ℕ) → k < length rows → (bitAnd (getD rows k 0) s ≡ 0) × Part (getD rows k 0) free
 
 -- f is a part of free, and for each cover between s and s | free that costs less than limit there is one with f for free that costs no more
-pub record Worth (rows costs : List ℕ) (s free limit f : ℕ) : Type 0 where
+pub record Sufficient (rows costs : List ℕ) (s free limit f : ℕ) : Type 0 where
   pub part : Part f free
   pub swap : (t : ℕ) → CoverBetween rows s free t → costOf costs t < limit → (u : ℕ) × CoverBetween rows s f u × (costOf costs u ≤ costOf costs t)
 
 -- the two parts of useful are smaller than it, apart from s, and no unmet row is partly in one
-pub record Halved (rows : List ℕ) (s useful part : ℕ) : Type 0 where
+pub record Divided (rows : List ℕ) (s useful part : ℕ) : Type 0 where
   pub component : Component rows s useful part
   pub apart : bitAnd s useful ≡ 0
   pub less : part < useful
@@ -42,5 +42,5 @@ pub record Halved (rows : List ℕ) (s useful part : ℕ) : Type 0 where
 unfoldable pub Planned : List ℕ → List ℕ → ℕ → ℕ → ℕ → ℕ → Next → Type 0
 Planned rows costs s free cost limit Cut = (t : ℕ) → CoverBetween rows s free t → limit ≤ costOf costs t
 Planned rows costs s free cost limit Done = Cover rows s × (cost < limit)
-Planned rows costs s free cost limit (Split useful part) = Worth rows costs s free limit useful × Halved rows s useful part
-Planned rows costs s free cost limit (Branch useful m) = Worth rows costs s free limit useful × Member useful m × (bitAnd s m ≡ 0)
+Planned rows costs s free cost limit (Split useful part) = Sufficient rows costs s free limit useful × Divided rows s useful part
+Planned rows costs s free cost limit (Branch useful m) = Sufficient rows costs s free limit useful × Member useful m × (bitAnd s m ≡ 0)

@@ -14,8 +14,9 @@ pub enum Choice {
     Try(u64),
 }
 
-// How many rows m meets that s does not; 65535 stands for more, so that a product with a cost fits.
-pub fn gain(rows: &[u64], s: u64, m: u64) -> u64
+// How many rows m meets that s does not; 65535 stands for more, so that a product with a cost fits. The count is left open: it only
+// chooses what is tried first.
+fn gain(rows: &[u64], s: u64, m: u64) -> u64
     ensures { λ r. ⌜ r < 65536 ⌝ }
 {
     let mut n: u64 = 0;
@@ -33,8 +34,8 @@ pub fn gain(rows: &[u64], s: u64, m: u64) -> u64
     n
 }
 
-// The member of x of most gain per cost, the lowest among equals.
-pub fn richest(rows: &[u64], costs: &[u16], s: u64, x: u64) -> u64
+// The member of x of most gain per cost, the lowest among equals; the contract says only that it is a member.
+pub fn most_effective(rows: &[u64], costs: &[u16], s: u64, x: u64) -> u64
     requires { ⌜ 0 < x ⌝ }
     ensures { λ r. ⌜ Member x r ⌝ }
 {
@@ -53,20 +54,17 @@ pub fn richest(rows: &[u64], costs: &[u16], s: u64, x: u64) -> u64
     pick
 }
 
-// The one of x and y that has fewer members; x if y has none.
-pub fn smaller(x: u64, y: u64) -> u64
+// The one of x and y that has fewer members, y among equals; x if y has none.
+fn smaller(x: u64, y: u64) -> u64
     ensures { λ r. ⌜ ((r ≡ x) ⊎ ((r ≡ y) × (y ≡ 0 → ⊥))) ⌝ }
 {
     if y == 0 {
         return x;
     }
-    if u64::count_ones(x) < u64::count_ones(y) {
-        return x;
-    }
-    y
+    set::fewer(y, x)
 }
 
-// The richest free candidate of the unmet row with fewest of them; or that s is a cover, or that none lies between s and s | free.
+// The most effective free candidate of the unmet row with fewest of them; or that s is a cover, or that none lies between s and s | free.
 pub fn choose(rows: &[u64], costs: &[u16], s: u64, free: u64) -> Choice
     ensures { λ r. ⌜ Chosen (now (rows .entry)) s free r ⌝ }
 {
@@ -85,5 +83,5 @@ pub fn choose(rows: &[u64], costs: &[u16], s: u64, free: u64) -> Choice
     if pick == 0 {
         return Choice::Done;
     }
-    Choice::Try(richest(rows, costs, s, pick))
+    Choice::Try(most_effective(rows, costs, s, pick))
 }

@@ -8,8 +8,8 @@ ghost use lib.Bits.{bitAnd};
 ghost use Rattle.bits.specs.Bits.{Part};
 ghost use Rattle.cheapest_nodes.specs.Nodes.{Closed, Component};
 
-// Whether x is partly in a: it has members in a and others.
-pub fn straddles(x: u64, a: u64) -> bool
+// Whether x is partly in a: it has members in a and others. Only false says something.
+fn straddles(x: u64, a: u64) -> bool
     ensures { λ r. ⌜ (r ≡ false → (bitAnd x a ≡ 0) ⊎ Part x a) ⌝ }
 {
     if x & a == 0 {
@@ -18,8 +18,8 @@ pub fn straddles(x: u64, a: u64) -> bool
     x & a != x
 }
 
-// False if some unmet row is partly in a.
-pub fn closed(rows: &[u64], s: u64, free: u64, a: u64) -> bool
+// False if some unmet row is partly in a. Only true says something.
+fn closed(rows: &[u64], s: u64, free: u64, a: u64) -> bool
     ensures { λ r. ⌜ (r ≡ true → Closed (now (rows .entry)) (length (now (rows .entry))) s free a) ⌝ }
 {
     let mut i = 0;
@@ -35,7 +35,7 @@ pub fn closed(rows: &[u64], s: u64, free: u64, a: u64) -> bool
 }
 
 // a with what is free of each unmet row that it meets, in one pass.
-pub fn spread(rows: &[u64], s: u64, free: u64, a: u64) -> u64 {
+fn spread(rows: &[u64], s: u64, free: u64, a: u64) -> u64 {
     let mut acc = a;
     let mut i = 0;
     while i < rows.len() {
@@ -50,8 +50,8 @@ pub fn spread(rows: &[u64], s: u64, free: u64, a: u64) -> u64 {
     acc
 }
 
-// a spread until nothing changes, in at most 64 passes.
-pub fn grown(rows: &[u64], s: u64, free: u64, a: u64) -> u64 {
+// a spread until nothing changes, in at most 64 passes. `component` tests what it gets, so neither has a contract.
+fn grown(rows: &[u64], s: u64, free: u64, a: u64) -> u64 {
     let mut old = a;
     let mut i: u64 = 0;
     while i < 64 {
@@ -65,7 +65,7 @@ pub fn grown(rows: &[u64], s: u64, free: u64, a: u64) -> u64 {
     old
 }
 
-// The free candidates that are linked to m by unmet rows.
+// The free candidates that are linked to m by unmet rows. That no fewer would do is left open.
 pub fn component(rows: &[u64], s: u64, free: u64, m: u64) -> u64
     ensures { λ r. ⌜ Component (now (rows .entry)) s free r ⌝ }
 {
@@ -76,7 +76,7 @@ pub fn component(rows: &[u64], s: u64, free: u64, m: u64) -> u64
     free
 }
 
-// Whether a and b are less than free, and free is apart from s.
+// Whether a and b are less than free, and free is apart from s. Only true says something.
 pub fn divides(s: u64, free: u64, a: u64, b: u64) -> bool
     ensures { λ r. ⌜ (r ≡ true → (a < free) × (b < free) × (bitAnd s free ≡ 0)) ⌝ }
 {

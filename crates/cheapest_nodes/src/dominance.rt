@@ -2,13 +2,14 @@
 ghost use mathlib.Core.Path.{_≡_};
 ghost use lib.ListN.{length};
 ghost use Rattle.bits.specs.Bits.{Single};
-ghost use Rattle.cheapest_nodes.specs.Nodes.{Wanted, Narrowed, Shared, Cheaper, Thinned};
+ghost use Rattle.rows.specs.Covers.{Unmet};
+ghost use Rattle.cheapest_nodes.specs.Nodes.{Restricted, Shared, Cheaper, Thinned};
 use bits::set;
 use cheapest_bounds::costs;
 
-// The candidates in the rows that s does not meet.
-pub fn wanted(rows: &[u64], s: u64) -> u64
-    ensures { λ r. ⌜ Wanted (now (rows .entry)) (length (now (rows .entry))) s r ⌝ }
+// The candidates in the rows that s does not meet; others do no harm.
+fn unmet_members(rows: &[u64], s: u64) -> u64
+    ensures { λ r. ⌜ Unmet (now (rows .entry)) (length (now (rows .entry))) s r ⌝ }
 {
     let mut acc: u64 = 0;
     let mut i = 0;
@@ -22,36 +23,36 @@ pub fn wanted(rows: &[u64], s: u64) -> u64
 }
 
 // Keeps in the entry of each member of x only what is in row.
-pub fn narrow(common: &mut [u64], row: u64, x: u64)
+fn restrict(common: &mut [u64], row: u64, x: u64)
     requires { ⌜ length (now common) ≡ 64 ⌝ }
-    ensures { λ r. ⌜ Narrowed row x (now (common .entry)) (now (common .exit)) ⌝ }
+    ensures { λ r. ⌜ Restricted row x (now (common .entry)) (now (common .exit)) ⌝ }
 {
     let mut rest = x;
     while rest != 0 {
         let m = set::lowest(rest);
-        let i = costs::number(m);
+        let i = set::index(m);
         common[i] = common[i] & row;
         rest = set::minus(rest, m);
     }
 }
 
-// For each free candidate, by its number, what the rows that s does not meet and that have it have in common.
-pub fn shared(rows: &[u64], s: u64, free: u64) -> [u64; 64]
+// For each free candidate, by its number, what the rows that s does not meet and that have it have in common, or less.
+fn shared(rows: &[u64], s: u64, free: u64) -> [u64; 64]
     ensures { λ r. ⌜ Shared (now (rows .entry)) (length (now (rows .entry))) s free r ⌝ }
 {
     let mut common: [u64; 64] = [0xffff_ffff_ffff_ffff; 64];
     let mut i = 0;
     while i < rows.len() {
         if rows[i] & s == 0 {
-            narrow(&mut common, rows[i], rows[i] & free);
+            restrict(&mut common, rows[i], rows[i] & free);
         }
         i += 1;
     }
     common
 }
 
-// A member of x that costs less than m, or as much and has a lower number; or 0.
-pub fn cheaper(costs: &[u16], x: u64, m: u64) -> u64
+// A member of x that costs less than m, or as much and has a lower number; or 0, where the contract says nothing.
+fn cheaper(costs: &[u16], x: u64, m: u64) -> u64
     requires { ⌜ Single m ⌝ }
     ensures { λ r. ⌜ Cheaper (now (costs .entry)) x m r ⌝ }
 {
@@ -74,17 +75,18 @@ pub fn cheaper(costs: &[u16], x: u64, m: u64) -> u64
 }
 
 // The free candidates without those that meet no unmet row, or for which another one can stand in at no greater cost.
+// That all of these are left out is open.
 pub fn thin(rows: &[u64], costs: &[u16], s: u64, free: u64) -> u64
     ensures { λ r. ⌜ Thinned (now (rows .entry)) (now (costs .entry)) s free r ⌝ }
 {
     let common = shared(rows, s, free);
-    let mut f = free & wanted(rows, s);
+    let mut f = free & unmet_members(rows, s);
     let mut rest = f;
     while rest != 0 {
         let m = set::lowest(rest);
         rest = set::minus(rest, m);
         let others = set::minus(f, m);
-        let i = costs::number(m);
+        let i = set::index(m);
         if cheaper(costs, others & common[i], m) != 0 {
             f = others;
         }

@@ -23,7 +23,7 @@ pub enum Next {
 }
 
 // How to look for a cover of the rows, of which s meets none, between s and s | free that costs less than limit; cost is that of s.
-pub fn decide(rows: &[u64], costs: &[u16], s: u64, free: u64, cost: u64, limit: u64) -> Next
+fn decide(rows: &[u64], costs: &[u16], s: u64, free: u64, cost: u64, limit: u64) -> Next
     requires { ⌜ length (now costs) ≤ 64 ⌝ }
     requires { ⌜ cost ≡ costOf (now costs) s ⌝ }
     requires { ⌜ Open (now rows) s free ⌝ }
@@ -32,7 +32,7 @@ pub fn decide(rows: &[u64], costs: &[u16], s: u64, free: u64, cost: u64, limit: 
     if limit <= cost + disjoint::bound(rows, costs, s, free) {
         return Next::Cut;
     }
-    let kept = ascent::worthy(rows, costs, free, limit - cost);
+    let kept = ascent::affordable(rows, costs, free, limit - cost);
     let useful = dominance::thin(rows, costs, s, kept);
     let choice = branching::choose(rows, costs, s, useful);
     match choice {
@@ -50,7 +50,7 @@ pub fn decide(rows: &[u64], costs: &[u16], s: u64, free: u64, cost: u64, limit: 
 }
 
 // The same for any rows: what is free of those that s does not meet is put in front of out, and only that is looked at.
-pub fn look(
+fn look(
     rows: &[u64],
     costs: &[u16],
     s: u64,

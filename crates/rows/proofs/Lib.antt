@@ -1,4 +1,5 @@
 pub mod Sets
+pub mod Unmet
 pub mod Nodes
 pub mod Reducing
 pub mod Bridge

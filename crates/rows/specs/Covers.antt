@@ -5,15 +5,19 @@ use Prim.Native.Nat.{ℕ, _+_, _%_, _^_, _≤_, _<_}
 use lib.ListN.{length, getD, replicate}
 use lib.Bits.{bitAnd, bitOr}
 use Rattle.model.specs.Sets.{irredundants, ofRows}
-use Rattle.bits.specs.Bits.{digit}
+use Rattle.bits.specs.Bits.{digit, Part}
 
 -- every row has a bit of s
 unfoldable pub Cover : List ℕ → ℕ → Type 0
 Cover rows s = (k : ℕ) → k < length rows → bitAnd (getD rows k 0) s ≡ 0 → ⊥
 
+-- u has all of each row among the first n that s does not meet
+unfoldable pub Unmet : List ℕ → ℕ → ℕ → ℕ → Type 0
+Unmet rows n s u = (k : ℕ) → k < n → bitAnd (getD rows k 0) s ≡ 0 → Part (getD rows k 0) u
+
 -- a cover of which no other part is one
-unfoldable pub Irredundant : List ℕ → ℕ → Type 0
-Irredundant rows s = Cover rows s × ((t : ℕ) → bitAnd t s ≡ t → Cover rows t → t ≡ s)
+unfoldable pub IrredundantCover : List ℕ → ℕ → Type 0
+IrredundantCover rows s = Cover rows s × ((t : ℕ) → bitAnd t s ≡ t → Cover rows t → t ≡ s)
 
 -- a row among the first n whose only member of s is b
 unfoldable pub Own : List ℕ → ℕ → ℕ → ℕ → Type 0

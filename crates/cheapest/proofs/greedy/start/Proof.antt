@@ -15,7 +15,7 @@ total-requires : tie.Need-total-requires
 total-requires c κs = search needs
 
 returns : tie.Need-returns
-returns c = known-cover _ _ _ _ _ (decides-true _ _ (c .before .before .covers .ensures) (c .before .if1 .taken)) (c .total .ensures)
+returns c = known-cover _ _ _ _ _ (c .before .before .before .greedy .ensures) (decides-true _ _ (c .before .before .covers .ensures) (c .before .if1 .taken)) (c .total .ensures)
 
 returns-2 : tie.Need-returns-2
 returns-2 c = known-none _ _ _ _

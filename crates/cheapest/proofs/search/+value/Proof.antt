@@ -5,7 +5,7 @@ use Rattle.bits.proofs.Parts.{part-le, minus-member-less}
 use Rattle.cheapest.proofs.Parting.{priced-other, priced-this, valued-over, valued-parts}
 use Rattle.cheapest_bounds.proofs.Costing.{cost-fits}
 use Rattle.cheapest.proofs.Valuing.{valued-both, priced-with, priced-less, priced-fits}
-use Rattle.cheapest.proofs.Following.{valued-cut, valued-met, valued-worth, planned-split, planned-branch}
+use Rattle.cheapest.proofs.Following.{valued-cut, valued-met, valued-sufficient, planned-split, planned-branch}
 use Prim.Native.Nat.{ℕ, _<_}
 use borrow.Fn.Kinds.{In}
 use borrow.Fn.PlainCycle.{Measures, is, falls, and}
@@ -16,7 +16,7 @@ use Rattle.bits.proofs.set.minus.Reads as minus-reads
 use Rattle.cheapest_bounds.proofs.costs.price.Reads as price-reads
 use Rattle.cheapest_bounds.proofs.costs.total.Reads as total-reads
 use Rattle.cheapest_nodes.proofs.plan.plan.Reads as plan-reads
-use Rattle.cheapest_bounds.proofs.units.goal.Reads as goal-reads
+use Rattle.cheapest_bounds.proofs.units.limit_below.Reads as limit-below-reads
 use Rattle.cheapest.proofs.search.+value.{statement}
 use Rattle.cheapest.proofs.search.+value.Tie.{close}
 
@@ -31,10 +31,10 @@ value-below t = and 2 value-kinds.ps (falls 2 value-kinds.ps _<_ μ-value t) val
 
 -- what is asked and learnt at each call
 abbrev G : ℕ → value-lts.Claims
-G t = (goal-reads.Asked, goal-reads.Learnt, plan-reads.Asked, plan-reads.Learnt, minus-reads.Asked, minus-reads.Learnt, total-reads.Asked, total-reads.Learnt, value-below t, value.Post, price-reads.Asked, price-reads.Learnt)
+G t = (limit-below-reads.Asked, limit-below-reads.Learnt, plan-reads.Asked, plan-reads.Learnt, minus-reads.Asked, minus-reads.Learnt, total-reads.Asked, total-reads.Learnt, value-below t, value.Post, price-reads.Asked, price-reads.Learnt)
 
-value-goal-requires : (t : ℕ) → value-lts.Need-goal-requires (G t) (value-at t) value.Post
-value-goal-requires t c κs = c .before .before .pre .1 .1 .0 .positive
+value-limit-below-requires : (t : ℕ) → value-lts.Need-limit-below-requires (G t) (value-at t) value.Post
+value-limit-below-requires t c κs = c .before .before .pre .1 .1 .0 .positive
 
 value-plan-requires : (t : ℕ) → value-lts.Need-plan-requires (G t) (value-at t) value.Post
 value-plan-requires t c κs = (c .before .before .before .pre .1 .0, (c .before .before .before .pre .1 .1 .1 .few, c .before .before .before .pre .1 .1 .1 .is))
@@ -64,7 +64,7 @@ value-value-requires : (t : ℕ) → value-lts.Need-value-requires (G t) (value-
 value-value-requires t c κs = (omega (arith, c .before .before .before .before .before .before .before .before .before .before .pre .0, (planned-split _ _ _ _ _ _ _ _ _ (c .before .before .before .before .next .given .1) (c .before .before .before .before .before .before .plan .ensures)) .1 .less, part-le _ _ ((planned-split _ _ _ _ _ _ _ _ _ (c .before .before .before .before .next .given .1) (c .before .before .before .before .before .before .plan .ensures)) .0 .part)), (c .before .before .before .before .before .before .before .before .before .before .pre .1 .0, ((c .before .before .before .before .before .before .before .before .before .before .pre .1 .1 .0), priced-other _ _ _ _ _ _ ((planned-split _ _ _ _ _ _ _ _ _ (c .before .before .before .before .next .given .1) (c .before .before .before .before .before .before .plan .ensures)) .1 .apart) ((planned-split _ _ _ _ _ _ _ _ _ (c .before .before .before .before .next .given .1) (c .before .before .before .before .before .before .plan .ensures)) .1 .component) (c .before .before .minus .ensures) _ _ _ (c .before .before .before .before .before .before .before .before .before .before .pre .1 .1 .1) (c .before .total .ensures))))
 
 value-returns : (t : ℕ) → value-lts.Need-returns (G t) (value-at t) value.Post
-value-returns t c = valued-worth _ _ _ _ _ _ _ (c .before .before .before .before .before .before .before .before .before .before .before .before .before .pre .1 .1 .0) (c .before .before .before .before .before .before .before .before .before .before .goal .ensures) _ _ ((planned-split _ _ _ _ _ _ _ _ _ (c .before .before .before .before .before .before .before .next .given .1) (c .before .before .before .before .before .before .before .before .before .plan .ensures)) .0) (valued-over _ _ _ _ _ _ ((planned-split _ _ _ _ _ _ _ _ _ (c .before .before .before .before .before .before .before .next .given .1) (c .before .before .before .before .before .before .before .before .before .plan .ensures)) .1 .apart) ((planned-split _ _ _ _ _ _ _ _ _ (c .before .before .before .before .before .before .before .next .given .1) (c .before .before .before .before .before .before .before .before .before .plan .ensures)) .1 .component) (c .before .before .before .before .before .minus .ensures) _ _ _ (c .before .before .before .before .total .ensures) (c .before .before .value .ensures) (c .if1 .taken))
+value-returns t c = valued-sufficient _ _ _ _ _ _ _ (c .before .before .before .before .before .before .before .before .before .before .before .before .before .pre .1 .1 .0) (c .before .before .before .before .before .before .before .before .before .before .limit-below .ensures) _ _ ((planned-split _ _ _ _ _ _ _ _ _ (c .before .before .before .before .before .before .before .next .given .1) (c .before .before .before .before .before .before .before .before .before .plan .ensures)) .0) (valued-over _ _ _ _ _ _ ((planned-split _ _ _ _ _ _ _ _ _ (c .before .before .before .before .before .before .before .next .given .1) (c .before .before .before .before .before .before .before .before .before .plan .ensures)) .1 .apart) ((planned-split _ _ _ _ _ _ _ _ _ (c .before .before .before .before .before .before .before .next .given .1) (c .before .before .before .before .before .before .before .before .before .plan .ensures)) .1 .component) (c .before .before .before .before .before .minus .ensures) _ _ _ (c .before .before .before .before .total .ensures) (c .before .before .value .ensures) (c .if1 .taken))
 
 value-total-requires-2 : (t : ℕ) → value-lts.Need-total-requires-2 (G t) (value-at t) value.Post
 value-total-requires-2 t c κs = c .before .before .before .before .before .before .before .before .before .before .before .before .before .before .pre .1 .1 .1 .few
@@ -94,20 +94,20 @@ value-value-requires-4 : (t : ℕ) → value-lts.Need-value-requires-4 (G t) (va
 value-value-requires-4 t c κs = (omega (arith, c .before .before .before .before .before .before .before .before .before .before .pre .0, minus-member-less _ _ _ ((planned-branch _ _ _ _ _ _ _ _ _ (c .before .before .before .before .next2 .given .1) (c .before .before .before .before .before .before .plan .ensures)) .1) (c .before .before .minus2 .ensures), part-le _ _ ((planned-branch _ _ _ _ _ _ _ _ _ (c .before .before .before .before .next2 .given .1) (c .before .before .before .before .before .before .plan .ensures)) .0 .part)), (c .before .before .before .before .before .before .before .before .before .before .pre .1 .0, ((c .before .before .before .before .before .before .before .before .before .before .pre .1 .1 .0), priced-less _ _ _ _ _ (c .before .before .before .before .before .before .before .before .before .before .pre .1 .1 .1) (c .value3 .ensures .within))))
 
 value-returns-2 : (t : ℕ) → value-lts.Need-returns-2 (G t) (value-at t) value.Post
-value-returns-2 t c = valued-cut _ _ _ _ _ _ _ (c .before .before .before .before .before .before .pre .1 .1 .0) (c .before .before .before .goal .ensures) _ _ (c .enum-told .given .1) (c .before .before .plan .ensures)
+value-returns-2 t c = valued-cut _ _ _ _ _ _ _ (c .before .before .before .before .before .before .pre .1 .1 .0) (c .before .before .before .limit-below .ensures) _ _ (c .enum-told .given .1) (c .before .before .plan .ensures)
 
 value-returns-3 : (t : ℕ) → value-lts.Need-returns-3 (G t) (value-at t) value.Post
-value-returns-3 t c = valued-met _ _ _ _ _ _ _ (c .before .before .before .before .before .before .pre .1 .1 .0) (c .before .before .before .goal .ensures) _ _ ((c .before .before .before .before .before .before .pre .1 .1 .1) .is) (c .enum-told2 .given .1) (c .before .before .plan .ensures)
+value-returns-3 t c = valued-met _ _ _ _ _ _ _ (c .before .before .before .before .before .before .pre .1 .1 .0) (c .before .before .before .limit-below .ensures) _ _ ((c .before .before .before .before .before .before .pre .1 .1 .1) .is) (c .enum-told2 .given .1) (c .before .before .plan .ensures)
 
 value-returns-4 : (t : ℕ) → value-lts.Need-returns-4 (G t) (value-at t) value.Post
-value-returns-4 t c = valued-worth _ _ _ _ _ _ _ (c .before .before .before .before .before .before .before .before .before .before .before .before .before .before .before .before .pre .1 .1 .0) (c .before .before .before .before .before .before .before .before .before .before .before .before .before .goal .ensures) _ _ ((planned-split _ _ _ _ _ _ _ _ _ (c .before .before .before .before .before .before .before .before .before .before .next .given .1) (c .before .before .before .before .before .before .before .before .before .before .before .before .plan .ensures)) .0) (valued-parts _ _ _ _ _ _ ((planned-split _ _ _ _ _ _ _ _ _ (c .before .before .before .before .before .before .before .before .before .before .next .given .1) (c .before .before .before .before .before .before .before .before .before .before .before .before .plan .ensures)) .1 .apart) ((planned-split _ _ _ _ _ _ _ _ _ (c .before .before .before .before .before .before .before .before .before .before .next .given .1) (c .before .before .before .before .before .before .before .before .before .before .before .before .plan .ensures)) .1 .component) (c .before .before .before .before .before .before .before .before .minus .ensures) _ _ _ _ (c .before .before .before .before .before .value .ensures) (c .before .before .before .if1 .left) (c .value2 .ensures))
+value-returns-4 t c = valued-sufficient _ _ _ _ _ _ _ (c .before .before .before .before .before .before .before .before .before .before .before .before .before .before .before .before .pre .1 .1 .0) (c .before .before .before .before .before .before .before .before .before .before .before .before .before .limit-below .ensures) _ _ ((planned-split _ _ _ _ _ _ _ _ _ (c .before .before .before .before .before .before .before .before .before .before .next .given .1) (c .before .before .before .before .before .before .before .before .before .before .before .before .plan .ensures)) .0) (valued-parts _ _ _ _ _ _ ((planned-split _ _ _ _ _ _ _ _ _ (c .before .before .before .before .before .before .before .before .before .before .next .given .1) (c .before .before .before .before .before .before .before .before .before .before .before .before .plan .ensures)) .1 .apart) ((planned-split _ _ _ _ _ _ _ _ _ (c .before .before .before .before .before .before .before .before .before .before .next .given .1) (c .before .before .before .before .before .before .before .before .before .before .before .before .plan .ensures)) .1 .component) (c .before .before .before .before .before .before .before .before .minus .ensures) _ _ _ _ (c .before .before .before .before .before .value .ensures) (c .before .before .before .if1 .left) (c .value2 .ensures))
 
 value-returns-5 : (t : ℕ) → value-lts.Need-returns-5 (G t) (value-at t) value.Post
-value-returns-5 t c = valued-worth _ _ _ _ _ _ _ (c .before .before .before .before .before .before .before .before .before .before .before .pre .1 .1 .0) (c .before .before .before .before .before .before .before .before .goal .ensures) _ _ ((planned-branch _ _ _ _ _ _ _ _ _ (c .before .before .before .before .before .next2 .given .1) (c .before .before .before .before .before .before .before .plan .ensures)) .0) (valued-both _ _ _ _ _ _ _ _ _ ((planned-branch _ _ _ _ _ _ _ _ _ (c .before .before .before .before .before .next2 .given .1) (c .before .before .before .before .before .before .before .plan .ensures)) .1) (c .before .before .before .minus2 .ensures) (c .before .value3 .ensures) (c .value4 .ensures))
+value-returns-5 t c = valued-sufficient _ _ _ _ _ _ _ (c .before .before .before .before .before .before .before .before .before .before .before .pre .1 .1 .0) (c .before .before .before .before .before .before .before .before .limit-below .ensures) _ _ ((planned-branch _ _ _ _ _ _ _ _ _ (c .before .before .before .before .before .next2 .given .1) (c .before .before .before .before .before .before .before .plan .ensures)) .0) (valued-both _ _ _ _ _ _ _ _ _ ((planned-branch _ _ _ _ _ _ _ _ _ (c .before .before .before .before .before .next2 .given .1) (c .before .before .before .before .before .before .before .plan .ensures)) .1) (c .before .before .before .minus2 .ensures) (c .before .value3 .ensures) (c .value4 .ensures))
 
 pub +value-spec : {M : Type 1} → statement M
 +value-spec = close μ-value λ t. value-lts.spec (G t) (value-at t) value.Post
-    (value-goal-requires t)
+    (value-limit-below-requires t)
     (value-plan-requires t)
     (value-enum-told t)
     (value-enum-told-2 t)

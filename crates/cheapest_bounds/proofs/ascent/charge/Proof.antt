@@ -21,32 +21,32 @@ loop-holds c = charging-none _ _ _ (c .before .pre .1)
 lowest-requires : tie.Need-lowest-requires Inv-loop μ-loop
 lowest-requires c κs = omega (arith, c .loop-test .taken)
 
-number-requires : tie.Need-number-requires Inv-loop μ-loop
-number-requires c κs = c .lowest .ensures .single
+index-requires : tie.Need-index-requires Inv-loop μ-loop
+index-requires c κs = c .lowest .ensures .member .single
 
 mul-left : tie.Need-mul-left Inv-loop μ-loop
 mul-left c = search needs
 
 slice-read-left : tie.Need-slice-read-left Inv-loop μ-loop
-slice-read-left c = omega (arith, c .before .number .ensures .small, c .before .before .before .before .loop .inv .size, c .before .before .before .before .before .before .pre .0)
+slice-read-left c = omega (arith, c .before .index .ensures .small, c .before .before .before .before .loop .inv .size, c .before .before .before .before .before .before .pre .0)
 
 sub-left : tie.Need-sub-left Inv-loop μ-loop
-sub-left c = charging-can _ _ _ _ _ _ _ (c .before .before .before .before .loop .inv) (c .before .before .lowest .ensures) (c .before .number .ensures)
+sub-left c = charging-can _ _ _ _ _ _ _ (c .before .before .before .before .loop .inv) (c .before .before .lowest .ensures .member) (c .before .index .ensures)
 
 mul-left-2 : tie.Need-mul-left-2 Inv-loop μ-loop
 mul-left-2 c = search needs
 
 slice-write-left : tie.Need-slice-write-left Inv-loop μ-loop
-slice-write-left c = omega (arith, c .before .number .ensures .small, c .before .before .before .before .loop .inv .size, c .before .before .before .before .before .before .pre .0)
+slice-write-left c = omega (arith, c .before .index .ensures .small, c .before .before .before .before .loop .inv .size, c .before .before .before .before .before .before .pre .0)
 
 minus-requires : tie.Need-minus-requires Inv-loop μ-loop
 minus-requires c κs = search needs
 
 loop-less : tie.Need-loop-less Inv-loop μ-loop
-loop-less c = minus-member-less _ _ _ (c .before .before .before .lowest .ensures) (c .minus .ensures)
+loop-less c = minus-member-less _ _ _ (c .before .before .before .lowest .ensures .member) (c .minus .ensures)
 
 loop-again : tie.Need-loop-again Inv-loop μ-loop
-loop-again c = charging-more _ _ _ _ _ _ _ _ (c .before .before .before .before .before .loop .inv) (c .before .before .before .lowest .ensures) (c .before .before .number .ensures) (c .minus .ensures) (omega (arith, c .before .before .number .ensures .small, c .before .before .before .before .before .loop .inv .size, c .before .before .before .before .before .before .before .pre .0))
+loop-again c = charging-more _ _ _ _ _ _ _ _ (c .before .before .before .before .before .loop .inv) (c .before .before .before .lowest .ensures .member) (c .before .before .index .ensures) (c .minus .ensures) (omega (arith, c .before .before .index .ensures .small, c .before .before .before .before .before .loop .inv .size, c .before .before .before .before .before .before .before .pre .0))
 
 same-length : tie.Need-same-length Inv-loop μ-loop
 same-length c = c .before .loop .inv .size
@@ -63,7 +63,7 @@ charge-spec =
     cast-y16
     loop-holds
     lowest-requires
-    number-requires
+    index-requires
     mul-left
     slice-read-left
     sub-left

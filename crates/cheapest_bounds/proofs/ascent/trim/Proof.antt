@@ -23,19 +23,19 @@ minus-requires : tie.Need-minus-requires Inv-loop μ-loop
 minus-requires c κs = search needs
 
 price-requires : tie.Need-price-requires Inv-loop μ-loop
-price-requires c κs = c .before .lowest .ensures .single
+price-requires c κs = c .before .lowest .ensures .member .single
 
 minus-requires-2 : tie.Need-minus-requires-2 Inv-loop μ-loop
 minus-requires-2 c κs = search needs
 
 loop-less : tie.Need-loop-less Inv-loop μ-loop
-loop-less c = minus-member-less _ _ _ (c .before .before .before .before .lowest .ensures) (c .before .before .before .minus .ensures)
+loop-less c = minus-member-less _ _ _ (c .before .before .before .before .lowest .ensures .member) (c .before .before .before .minus .ensures)
 
 loop-again : tie.Need-loop-again Inv-loop μ-loop
-loop-again c = trimmed-drop _ _ _ _ _ _ _ (c .before .before .before .before .before .before .loop .inv) (c .before .before .before .before .lowest .ensures .single) (c .before .before .price .ensures) (omega (arith, c .before .if1 .taken)) (c .minus2 .ensures)
+loop-again c = trimmed-drop _ _ _ _ _ _ _ (c .before .before .before .before .before .before .loop .inv) (c .before .before .before .before .lowest .ensures .member .single) (c .before .before .price .ensures) (omega (arith, c .before .if1 .taken)) (c .minus2 .ensures)
 
 loop-less-2 : tie.Need-loop-less-2 Inv-loop μ-loop
-loop-less-2 c = minus-member-less _ _ _ (c .before .before .before .lowest .ensures) (c .before .before .minus .ensures)
+loop-less-2 c = minus-member-less _ _ _ (c .before .before .before .lowest .ensures .member) (c .before .before .minus .ensures)
 
 loop-again-2 : tie.Need-loop-again-2 Inv-loop μ-loop
 loop-again-2 c = c .before .before .before .before .before .loop .inv

@@ -20,17 +20,17 @@ lowest-requires : tie.Need-lowest-requires Inv-loop μ-loop
 lowest-requires c κs = omega (arith, c .loop-test .taken)
 
 price-requires : tie.Need-price-requires Inv-loop μ-loop
-price-requires c κs = c .lowest .ensures .single
+price-requires c κs = c .lowest .ensures .member .single
 
 minus-requires : tie.Need-minus-requires Inv-loop μ-loop
 minus-requires c κs = search needs
 
 loop-less : tie.Need-loop-less Inv-loop μ-loop
-loop-less c = minus-member-less _ _ _ (c .before .before .before .before .lowest .ensures) (c .minus .ensures)
+loop-less c = minus-member-less _ _ _ (c .before .before .before .before .lowest .ensures .member) (c .minus .ensures)
 
 loop-again : tie.Need-loop-again Inv-loop μ-loop
 loop-again c =
-    floored-more _ _ _ _ _ _ _ _ (c .before .before .before .before .before .before .loop .inv) (c .before .before .before .before .lowest .ensures) (c .before .before .before .price .ensures) (c .minus .ensures)
+    floored-more _ _ _ _ _ _ _ _ (c .before .before .before .before .before .before .loop .inv) (c .before .before .before .before .lowest .ensures .member) (c .before .before .before .price .ensures) (c .minus .ensures)
     (⊎-elim (λ w. omega (arith, w .0 .taken, w .1)) (λ w. omega (arith, w .1)) (c .before .if2 .came))
     (⊎-elim (λ w. omega (arith, w .1)) (λ w. omega (arith, w .0 .left, w .1)) (c .before .if2 .came))
 

@@ -22,7 +22,7 @@ lowest-requires : tie.Need-lowest-requires Inv-loop μ-loop
 lowest-requires c κs = omega (arith, c .loop-test .taken)
 
 price-requires : tie.Need-price-requires Inv-loop μ-loop
-price-requires c κs = c .lowest .ensures .single
+price-requires c κs = c .lowest .ensures .member .single
 
 add-sum : tie.Need-add-sum Inv-loop μ-loop
 add-sum c = omega (arith, c .price .ensures .small, total-fits _ _ _ _ (c .before .before .before .before .before .pre) (λ k. omega (arith, c .before .before .before .before .shared-slice-known .given k)) (c .before .before .before .loop .inv))
@@ -31,10 +31,10 @@ minus-requires : tie.Need-minus-requires Inv-loop μ-loop
 minus-requires c κs = search needs
 
 loop-less : tie.Need-loop-less Inv-loop μ-loop
-loop-less c = minus-member-less _ _ _ (c .before .before .lowest .ensures) (c .minus .ensures)
+loop-less c = minus-member-less _ _ _ (c .before .before .lowest .ensures .member) (c .minus .ensures)
 
 loop-again : tie.Need-loop-again Inv-loop μ-loop
-loop-again c = totalled _ _ _ _ _ _ _ (c .before .before .lowest .ensures) (c .minus .ensures) (c .before .price .ensures) (c .before .before .before .before .loop .inv)
+loop-again c = totalled _ _ _ _ _ _ _ (c .before .before .lowest .ensures .member) (c .minus .ensures) (c .before .price .ensures) (c .before .before .before .before .loop .inv)
 
 returns : tie.Need-returns Inv-loop μ-loop
 returns c = total-all _ _ _ _ (c .loop-test .left) (c .before .loop .inv)

@@ -5,18 +5,18 @@ use Prim.Native.Nat.{_-_, _≤_}
 use native.Mathlib.Omega.{arith}
 use lib.ListN.{length}
 use mathlib.Core.Logic.{⊎-elim}
-use Rattle.cheapest_nodes.proofs.Choosing.{Scanned, scanned-none, scanned-met, scanned-unmet, chosen-done, chosen-lost, chosen-try}
+use Rattle.cheapest_nodes.proofs.Choosing.{Picked, picked-none, picked-met, picked-unmet, chosen-done, chosen-lost, chosen-try}
 use Rattle.cheapest_nodes.proofs.branching.choose.Statement.{statement}
 use Rattle.cheapest_nodes.proofs.branching.choose.Tie as tie
 
 abbrev Inv-loop : tie.InvT-loop
-Inv-loop rows costs s free pick₀ i₀ pick i = (i ≤ length rows) × Scanned rows i s free pick
+Inv-loop rows costs s free pick₀ i₀ pick i = (i ≤ length rows) × Picked rows i s free pick
 
 abbrev μ-loop : tie.MeasureT-loop
 μ-loop rows costs s free pick₀ i₀ pick i = length rows - i
 
 loop-holds : tie.Need-loop-holds Inv-loop μ-loop
-loop-holds c = (search needs, scanned-none _ _ _)
+loop-holds c = (search needs, picked-none _ _ _)
 
 mul-if1 : tie.Need-mul-if1 Inv-loop μ-loop
 mul-if1 c = search needs
@@ -43,16 +43,16 @@ loop-less : tie.Need-loop-less Inv-loop μ-loop
 loop-less c = search needs
 
 loop-again : tie.Need-loop-again Inv-loop μ-loop
-loop-again c = (search needs, ⊎-elim (λ w. subst (Scanned _ _ _ _) (sym (w .4)) (scanned-unmet _ _ _ _ _ (c .before .before .before .loop .inv .1) _ (w .0 .taken) (w .2 .left) (w .3 .ensures))) (λ w. subst (Scanned _ _ _ _) (sym (w .1)) (scanned-met _ _ _ _ _ (c .before .before .before .loop .inv .1) (w .0 .left))) (c .if1 .came))
+loop-again c = (search needs, ⊎-elim (λ w. subst (Picked _ _ _ _) (sym (w .4)) (picked-unmet _ _ _ _ _ (c .before .before .before .loop .inv .1) _ (w .0 .taken) (w .2 .left) (w .3 .ensures))) (λ w. subst (Picked _ _ _ _) (sym (w .1)) (picked-met _ _ _ _ _ (c .before .before .before .loop .inv .1) (w .0 .left))) (c .if1 .came))
 
 returns-2 : tie.Need-returns-2 Inv-loop μ-loop
 returns-2 c = chosen-done _ _ _ _ _ (c .before .before .loop .inv .1) (omega arith) (c .if3 .taken)
 
-richest-requires : tie.Need-richest-requires Inv-loop μ-loop
-richest-requires c κs = omega (arith, c .if3 .left)
+most-effective-requires : tie.Need-most-effective-requires Inv-loop μ-loop
+most-effective-requires c κs = omega (arith, c .if3 .left)
 
 returns-3 : tie.Need-returns-3 Inv-loop μ-loop
-returns-3 c = chosen-try _ _ _ _ _ (c .before .before .before .loop .inv .1) _ (c .richest .ensures)
+returns-3 c = chosen-try _ _ _ _ _ (c .before .before .before .loop .inv .1) _ (c .most-effective .ensures)
 
 pub choose-spec : {M : Type 1} → statement M
 choose-spec =
@@ -71,5 +71,5 @@ choose-spec =
     loop-less
     loop-again
     returns-2
-    richest-requires
+    most-effective-requires
     returns-3)

@@ -23,19 +23,19 @@ lowest-requires : tie.Need-lowest-requires Inv-loop μ-loop
 lowest-requires c κs = omega (arith, c .loop-test .taken)
 
 price-requires-2 : tie.Need-price-requires-2 Inv-loop μ-loop
-price-requires-2 c κs = c .lowest .ensures .single
+price-requires-2 c κs = c .lowest .ensures .member .single
 
 returns : tie.Need-returns Inv-loop μ-loop
-returns c = cheaper-one _ _ _ _ _ _ _ (c .before .before .before .before .loop .inv) (c .before .before .lowest .ensures) (c .before .price2 .ensures) (c .before .before .before .before .before .price .ensures) (omega (arith, c .if1 .taken))
+returns c = cheaper-one _ _ _ _ _ _ _ (c .before .before .before .before .loop .inv) (c .before .before .lowest .ensures .member) (c .before .price2 .ensures) (c .before .before .before .before .before .price .ensures) (omega (arith, c .if1 .taken))
 
 returns-2 : tie.Need-returns-2 Inv-loop μ-loop
-returns-2 c = cheaper-one _ _ _ _ _ _ _ (c .before .before .before .before .before .before .loop .inv) (c .before .before .before .before .lowest .ensures) (c .before .before .before .price2 .ensures) (c .before .before .before .before .before .before .before .price .ensures) (omega (arith, c .before .if2 .taken))
+returns-2 c = cheaper-one _ _ _ _ _ _ _ (c .before .before .before .before .before .before .loop .inv) (c .before .before .before .before .lowest .ensures .member) (c .before .before .before .price2 .ensures) (c .before .before .before .before .before .before .before .price .ensures) (omega (arith, c .before .if2 .taken))
 
 minus-requires : tie.Need-minus-requires Inv-loop μ-loop
 minus-requires c κs = search needs
 
 loop-less : tie.Need-loop-less Inv-loop μ-loop
-loop-less c = minus-member-less _ _ _ (c .before .before .before .before .lowest .ensures) (c .minus .ensures)
+loop-less c = minus-member-less _ _ _ (c .before .before .before .before .lowest .ensures .member) (c .minus .ensures)
 
 loop-again : tie.Need-loop-again Inv-loop μ-loop
 loop-again c = part-trans _ _ _ (minus-part _ _ _ (c .minus .ensures)) (c .before .before .before .before .before .before .loop .inv)

@@ -6,7 +6,7 @@ use Prim.Native.Nat.{_-_, _≤_}
 use native.Mathlib.Omega.{arith}
 use lib.ListN.{length}
 use Rattle.cheapest_nodes.specs.Nodes.{Shared}
-use Rattle.cheapest_nodes.proofs.Narrowing.{shared-none, shared-met, shared-more, shared-all}
+use Rattle.cheapest_nodes.proofs.Restricting.{shared-none, shared-met, shared-more, shared-all}
 use Rattle.cheapest_nodes.proofs.dominance.shared.Statement.{statement}
 use Rattle.cheapest_nodes.proofs.dominance.shared.Tie as tie
 
@@ -25,23 +25,23 @@ mul-if1 c = search needs
 shared-slice-read-if1 : tie.Need-shared-slice-read-if1 Inv-loop μ-loop
 shared-slice-read-if1 c = search needs
 
-slice-aggregate-narrow : tie.Need-slice-aggregate-narrow Inv-loop μ-loop
-slice-aggregate-narrow c = search needs
+slice-aggregate-restrict : tie.Need-slice-aggregate-restrict Inv-loop μ-loop
+slice-aggregate-restrict c = search needs
 
-mul-narrow : tie.Need-mul-narrow Inv-loop μ-loop
-mul-narrow c = search needs
+mul-restrict : tie.Need-mul-restrict Inv-loop μ-loop
+mul-restrict c = search needs
 
-shared-slice-read-narrow : tie.Need-shared-slice-read-narrow Inv-loop μ-loop
-shared-slice-read-narrow c = search needs
+shared-slice-read-restrict : tie.Need-shared-slice-read-restrict Inv-loop μ-loop
+shared-slice-read-restrict c = search needs
 
-mul-narrow-2 : tie.Need-mul-narrow-2 Inv-loop μ-loop
-mul-narrow-2 c = search needs
+mul-restrict-2 : tie.Need-mul-restrict-2 Inv-loop μ-loop
+mul-restrict-2 c = search needs
 
-shared-slice-read-narrow-2 : tie.Need-shared-slice-read-narrow-2 Inv-loop μ-loop
-shared-slice-read-narrow-2 c = search needs
+shared-slice-read-restrict-2 : tie.Need-shared-slice-read-restrict-2 Inv-loop μ-loop
+shared-slice-read-restrict-2 c = search needs
 
-narrow-requires : tie.Need-narrow-requires Inv-loop μ-loop
-narrow-requires c κs = search needs
+restrict-requires : tie.Need-restrict-requires Inv-loop μ-loop
+restrict-requires c κs = search needs
 
 add-i : tie.Need-add-i Inv-loop μ-loop
 add-i c = search needs
@@ -64,12 +64,12 @@ shared-spec =
     loop-holds
     mul-if1
     shared-slice-read-if1
-    slice-aggregate-narrow
-    mul-narrow
-    shared-slice-read-narrow
-    mul-narrow-2
-    shared-slice-read-narrow-2
-    narrow-requires
+    slice-aggregate-restrict
+    mul-restrict
+    shared-slice-read-restrict
+    mul-restrict-2
+    shared-slice-read-restrict-2
+    restrict-requires
     add-i
     loop-less
     loop-again

@@ -1,11 +1,11 @@
 -- `cheapest_nodes::dominance::thin` meets its contract. The invariant: f is thinned from free, and rest is a part of free.
 use Rattle.bits.proofs.Parts.{part-trans, minus-part, minus-member-less}
-use Rattle.cheapest_nodes.proofs.Thinning.{free-part, thinned-wanted, thinned-trans, thinned-drop}
+use Rattle.cheapest_nodes.proofs.Thinning.{free-part, thinned-unmet, thinned-trans, thinned-drop}
 use borrow.Author.Needs.{needs}
 use native.Mathlib.Omega.{arith}
 use Rattle.bits.specs.Bits.{Part}
 use Rattle.cheapest_nodes.specs.Nodes.{Thinned}
-use Rattle.cheapest_nodes.proofs.Narrowing.{shared-one}
+use Rattle.cheapest_nodes.proofs.Restricting.{shared-one}
 use Rattle.cheapest_nodes.proofs.dominance.thin.Statement.{statement}
 use Rattle.cheapest_nodes.proofs.dominance.thin.Tie as tie
 
@@ -18,11 +18,11 @@ abbrev μ-loop : tie.MeasureT-loop
 shared-requires : tie.Need-shared-requires Inv-loop μ-loop
 shared-requires c κs = search needs
 
-wanted-requires : tie.Need-wanted-requires Inv-loop μ-loop
-wanted-requires c κs = search needs
+unmet-members-requires : tie.Need-unmet-members-requires Inv-loop μ-loop
+unmet-members-requires c κs = search needs
 
 loop-holds : tie.Need-loop-holds Inv-loop μ-loop
-loop-holds c = (thinned-wanted _ _ _ _ _ (c .wanted .ensures), free-part (c .before .before .before .before .args .free) (c .wanted .result))
+loop-holds c = (thinned-unmet _ _ _ _ _ (c .unmet-members .ensures), free-part (c .before .before .before .before .args .free) (c .unmet-members .result))
 
 lowest-requires : tie.Need-lowest-requires Inv-loop μ-loop
 lowest-requires c κs = omega (arith, c .loop-test .taken)
@@ -33,26 +33,26 @@ minus-requires c κs = search needs
 minus-requires-2 : tie.Need-minus-requires-2 Inv-loop μ-loop
 minus-requires-2 c κs = search needs
 
-number-requires : tie.Need-number-requires Inv-loop μ-loop
-number-requires c κs = c .before .before .lowest .ensures .single
+index-requires : tie.Need-index-requires Inv-loop μ-loop
+index-requires c κs = c .before .before .lowest .ensures .member .single
 
 mul-cheaper : tie.Need-mul-cheaper Inv-loop μ-loop
 mul-cheaper c = search needs
 
 array-read-cheaper : tie.Need-array-read-cheaper Inv-loop μ-loop
-array-read-cheaper c = omega (arith, c .number .ensures .small, c .before .before .before .before .before .before .before .shared .ensures .size)
+array-read-cheaper c = omega (arith, c .index .ensures .small, c .before .before .before .before .before .before .before .shared .ensures .size)
 
 cheaper-requires : tie.Need-cheaper-requires Inv-loop μ-loop
-cheaper-requires c κs = c .before .before .before .lowest .ensures .single
+cheaper-requires c κs = c .before .before .before .lowest .ensures .member .single
 
 loop-less : tie.Need-loop-less Inv-loop μ-loop
-loop-less c = minus-member-less _ _ _ (c .before .before .before .before .before .lowest .ensures) (c .before .before .before .before .minus .ensures)
+loop-less c = minus-member-less _ _ _ (c .before .before .before .before .before .lowest .ensures .member) (c .before .before .before .before .minus .ensures)
 
 loop-again : tie.Need-loop-again Inv-loop μ-loop
-loop-again c = (thinned-trans _ _ _ _ _ _ (c .before .before .before .before .before .before .before .loop .inv .0) (thinned-drop _ _ _ _ _ _ _ _ (c .before .before .before .before .before .lowest .ensures .single) (c .before .before .before .minus2 .ensures) (shared-one _ _ _ _ _ _ _ (c .before .before .before .before .before .before .before .before .before .shared .ensures) (c .before .before .before .before .before .before .before .loop .inv .1) (c .before .before .before .before .before .lowest .ensures) (c .before .before .number .ensures)) (c .before .cheaper .ensures) (c .if1 .taken)), part-trans _ _ _ (minus-part _ _ _ (c .before .before .before .before .minus .ensures)) (c .before .before .before .before .before .before .before .loop .inv .1))
+loop-again c = (thinned-trans _ _ _ _ _ _ (c .before .before .before .before .before .before .before .loop .inv .0) (thinned-drop _ _ _ _ _ _ _ _ (c .before .before .before .before .before .lowest .ensures .member .single) (c .before .before .before .minus2 .ensures) (shared-one _ _ _ _ _ _ _ (c .before .before .before .before .before .before .before .before .before .shared .ensures) (c .before .before .before .before .before .before .before .loop .inv .1) (c .before .before .before .before .before .lowest .ensures .member) (c .before .before .index .ensures)) (c .before .cheaper .ensures) (c .if1 .taken)), part-trans _ _ _ (minus-part _ _ _ (c .before .before .before .before .minus .ensures)) (c .before .before .before .before .before .before .before .loop .inv .1))
 
 loop-less-2 : tie.Need-loop-less-2 Inv-loop μ-loop
-loop-less-2 c = minus-member-less _ _ _ (c .before .before .before .before .before .lowest .ensures) (c .before .before .before .before .minus .ensures)
+loop-less-2 c = minus-member-less _ _ _ (c .before .before .before .before .before .lowest .ensures .member) (c .before .before .before .before .minus .ensures)
 
 loop-again-2 : tie.Need-loop-again-2 Inv-loop μ-loop
 loop-again-2 c = (c .before .before .before .before .before .before .before .loop .inv .0, part-trans _ _ _ (minus-part _ _ _ (c .before .before .before .before .minus .ensures)) (c .before .before .before .before .before .before .before .loop .inv .1))
@@ -67,12 +67,12 @@ thin-spec =
     Inv-loop
     μ-loop
     shared-requires
-    wanted-requires
+    unmet-members-requires
     loop-holds
     lowest-requires
     minus-requires
     minus-requires-2
-    number-requires
+    index-requires
     mul-cheaper
     array-read-cheaper
     cheaper-requires

@@ -1,6 +1,6 @@
 -- `cheapest_nodes::plan::decide` meets its contract.
 use Rattle.cheapest_bounds.proofs.Costing.{cost-fits}
-use Rattle.cheapest_nodes.proofs.Planning.{cut-bound, worth-thinned, done-next, lost-next, split-next, branch-next}
+use Rattle.cheapest_nodes.proofs.Planning.{cut-bound, sufficient-thinned, done-next, lost-next, split-next, branch-next}
 use native.Mathlib.Omega.{arith}
 use borrow.Author.Needs.{needs}
 use Rattle.cheapest_nodes.proofs.plan.decide.Statement.{statement}
@@ -15,11 +15,11 @@ add-if1 c = omega (arith, cost-fits _ _ _ (c .before .before .before .pre .0) (�
 returns : tie.Need-returns
 returns c = cut-bound _ _ _ _ _ _ _ (c .before .before .before .before .pre .1 .0) (c .before .bound .ensures) (c .if1 .taken)
 
-sub-worthy : tie.Need-sub-worthy
-sub-worthy c = omega (arith, c .if1 .left)
+sub-affordable : tie.Need-sub-affordable
+sub-affordable c = omega (arith, c .if1 .left)
 
-worthy-requires : tie.Need-worthy-requires
-worthy-requires c κs = search needs
+affordable-requires : tie.Need-affordable-requires
+affordable-requires c κs = search needs
 
 thin-requires : tie.Need-thin-requires
 thin-requires c κs = search needs
@@ -46,16 +46,16 @@ divides-requires : tie.Need-divides-requires
 divides-requires c κs = search needs
 
 returns-2 : tie.Need-returns-2
-returns-2 c = split-next _ _ _ _ _ _ _ (worth-thinned _ _ _ _ (c .before .before .before .before .before .before .before .before .before .before .before .before .before .before .pre .1 .1) _ _ _ _ (c .before .before .before .before .before .before .before .before .before .before .before .before .before .before .pre .1 .0) (c .before .before .before .before .before .before .before .before .before .worthy .ensures) (c .before .before .before .before .before .before .before .before .thin .ensures)) _ _ (c .before .before .before .component .ensures) (c .before .before .minus .ensures) (c .before .divides .ensures (c .if2 .taken))
+returns-2 c = split-next _ _ _ _ _ _ _ (sufficient-thinned _ _ _ _ (c .before .before .before .before .before .before .before .before .before .before .before .before .before .before .pre .1 .1) _ _ _ _ (c .before .before .before .before .before .before .before .before .before .before .before .before .before .before .pre .1 .0) (c .before .before .before .before .before .before .before .before .before .affordable .ensures) (c .before .before .before .before .before .before .before .before .thin .ensures)) _ _ (c .before .before .before .component .ensures) (c .before .before .minus .ensures) (c .before .divides .ensures (c .if2 .taken))
 
 returns-3 : tie.Need-returns-3
 returns-3 c = done-next _ _ _ _ _ _ _ _ _ (c .enum-told .given .1) (c .before .before .choose .ensures) (c .before .before .before .before .before .if1 .left)
 
 returns-4 : tie.Need-returns-4
-returns-4 c = lost-next _ _ _ _ _ _ _ (worth-thinned _ _ _ _ (c .before .before .before .before .before .before .before .before .before .pre .1 .1) _ _ _ _ (c .before .before .before .before .before .before .before .before .before .pre .1 .0) (c .before .before .before .before .worthy .ensures) (c .before .before .before .thin .ensures)) _ (c .enum-told2 .given .1) (c .before .before .choose .ensures)
+returns-4 c = lost-next _ _ _ _ _ _ _ (sufficient-thinned _ _ _ _ (c .before .before .before .before .before .before .before .before .before .pre .1 .1) _ _ _ _ (c .before .before .before .before .before .before .before .before .before .pre .1 .0) (c .before .before .before .before .affordable .ensures) (c .before .before .before .thin .ensures)) _ (c .enum-told2 .given .1) (c .before .before .choose .ensures)
 
 returns-5 : tie.Need-returns-5
-returns-5 c = branch-next _ _ _ _ _ _ _ (worth-thinned _ _ _ _ (c .before .before .before .before .before .before .before .before .before .before .before .before .before .before .pre .1 .1) _ _ _ _ (c .before .before .before .before .before .before .before .before .before .before .before .before .before .before .pre .1 .0) (c .before .before .before .before .before .before .before .before .before .worthy .ensures) (c .before .before .before .before .before .before .before .before .thin .ensures)) _ _ (c .before .before .before .before .before .choice .given .1) (c .before .before .before .before .before .before .before .choose .ensures)
+returns-5 c = branch-next _ _ _ _ _ _ _ (sufficient-thinned _ _ _ _ (c .before .before .before .before .before .before .before .before .before .before .before .before .before .before .pre .1 .1) _ _ _ _ (c .before .before .before .before .before .before .before .before .before .before .before .before .before .before .pre .1 .0) (c .before .before .before .before .before .before .before .before .before .affordable .ensures) (c .before .before .before .before .before .before .before .before .thin .ensures)) _ _ (c .before .before .before .before .before .choice .given .1) (c .before .before .before .before .before .before .before .choose .ensures)
 
 pub decide-spec : {M : Type 1} → statement M
 decide-spec =
@@ -64,8 +64,8 @@ decide-spec =
     bound-requires
     add-if1
     returns
-    sub-worthy
-    worthy-requires
+    sub-affordable
+    affordable-requires
     thin-requires
     choose-requires
     enum-told

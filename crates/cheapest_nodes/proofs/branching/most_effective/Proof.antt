@@ -1,12 +1,12 @@
--- `cheapest_nodes::branching::richest` meets its contract. The invariant: pick is a member of x, most is a count, and rest is a part of x.
+-- `cheapest_nodes::branching::most_effective` meets its contract. The invariant: pick is a member of x, most is a count, and rest is a part of x.
 use borrow.Author.Needs.{needs}
 use Prim.Native.Nat.{_<_}
 use native.Mathlib.Omega.{arith}
 use Rattle.bits.specs.Bits.{Part, Member}
 use Rattle.bits.proofs.Parts.{part-trans, minus-part, minus-member-less, member-of-more}
 use Rattle.cheapest_bounds.proofs.Costing.{product-fits}
-use Rattle.cheapest_nodes.proofs.branching.richest.Statement.{statement}
-use Rattle.cheapest_nodes.proofs.branching.richest.Tie as tie
+use Rattle.cheapest_nodes.proofs.branching.most_effective.Statement.{statement}
+use Rattle.cheapest_nodes.proofs.branching.most_effective.Tie as tie
 
 abbrev Inv-loop : tie.InvT-loop
 Inv-loop rows costs s x pick₀ most₀ rest₀ pick most rest = Member x pick × Part rest x × (most < 65536)
@@ -24,7 +24,7 @@ minus-requires : tie.Need-minus-requires Inv-loop μ-loop
 minus-requires c κs = search needs
 
 loop-holds : tie.Need-loop-holds Inv-loop μ-loop
-loop-holds c = ((c .before .before .lowest .ensures), minus-part _ _ _ (c .minus .ensures), c .before .gain .ensures)
+loop-holds c = ((c .before .before .lowest .ensures .member), minus-part _ _ _ (c .minus .ensures), c .before .gain .ensures)
 
 lowest-requires-2 : tie.Need-lowest-requires-2 Inv-loop μ-loop
 lowest-requires-2 c κs = omega (arith, c .loop-test .taken)
@@ -36,7 +36,7 @@ gain-requires-2 : tie.Need-gain-requires-2 Inv-loop μ-loop
 gain-requires-2 c κs = search needs
 
 price-requires : tie.Need-price-requires Inv-loop μ-loop
-price-requires c κs = c .before .before .lowest2 .ensures .single
+price-requires c κs = c .before .before .lowest2 .ensures .member .single
 
 mul-if1 : tie.Need-mul-if1 Inv-loop μ-loop
 mul-if1 c = omega (arith, product-fits _ _ (c .before .before .before .before .before .loop .inv .2) (c .price .ensures .small))
@@ -48,13 +48,13 @@ mul-if1-2 : tie.Need-mul-if1-2 Inv-loop μ-loop
 mul-if1-2 c = omega (arith, product-fits _ _ (c .before .before .gain2 .ensures) (c .price2 .ensures .small))
 
 loop-less : tie.Need-loop-less Inv-loop μ-loop
-loop-less c = minus-member-less _ _ _ (c .before .before .before .before .before .lowest2 .ensures) (c .before .before .before .before .minus2 .ensures)
+loop-less c = minus-member-less _ _ _ (c .before .before .before .before .before .lowest2 .ensures .member) (c .before .before .before .before .minus2 .ensures)
 
 loop-again : tie.Need-loop-again Inv-loop μ-loop
-loop-again c = (member-of-more _ _ _ (c .before .before .before .before .before .before .before .loop .inv .1) (c .before .before .before .before .before .lowest2 .ensures), part-trans _ _ _ (minus-part _ _ _ (c .before .before .before .before .minus2 .ensures)) (c .before .before .before .before .before .before .before .loop .inv .1), c .before .before .before .gain2 .ensures)
+loop-again c = (member-of-more _ _ _ (c .before .before .before .before .before .before .before .loop .inv .1) (c .before .before .before .before .before .lowest2 .ensures .member), part-trans _ _ _ (minus-part _ _ _ (c .before .before .before .before .minus2 .ensures)) (c .before .before .before .before .before .before .before .loop .inv .1), c .before .before .before .gain2 .ensures)
 
 loop-less-2 : tie.Need-loop-less-2 Inv-loop μ-loop
-loop-less-2 c = minus-member-less _ _ _ (c .before .before .before .before .before .lowest2 .ensures) (c .before .before .before .before .minus2 .ensures)
+loop-less-2 c = minus-member-less _ _ _ (c .before .before .before .before .before .lowest2 .ensures .member) (c .before .before .before .before .minus2 .ensures)
 
 loop-again-2 : tie.Need-loop-again-2 Inv-loop μ-loop
 loop-again-2 c = (c .before .before .before .before .before .before .before .loop .inv .0, part-trans _ _ _ (minus-part _ _ _ (c .before .before .before .before .minus2 .ensures)) (c .before .before .before .before .before .before .before .loop .inv .1), c .before .before .before .before .before .before .before .loop .inv .2)
@@ -62,8 +62,8 @@ loop-again-2 c = (c .before .before .before .before .before .before .before .loo
 returns : tie.Need-returns Inv-loop μ-loop
 returns c = c .before .loop .inv .0
 
-pub richest-spec : {M : Type 1} → statement M
-richest-spec =
+pub most-effective-spec : {M : Type 1} → statement M
+most-effective-spec =
     tie.close
     (tie.spec
     Inv-loop

@@ -1,0 +1,47 @@
+-- The steps of loops: from the first n to the first n + 1, and from a set to the set without one of its members.
+use mathlib.Core.Path.{_≡_, sym, ap, _∙_, subst}
+use mathlib.Core.Logic.{⊎-elim}
+use Prim.Native.Nat.{ℕ, _+_, _^_, _<_}
+use native.Mathlib.Omega.{arith}
+use borrow.Author.Count.{below-more}
+use Rattle.bits.specs.Bits.{digit, Minus}
+use Rattle.bits.proofs.Digits.{eq?, digit-lt, pow-here, pow-only}
+use Rattle.bits.proofs.Members.{not-zero}
+
+-- ---- the first n + 1
+
+-- what holds of all before n, and of n, holds of all before n + 1
+pub all-next : (P : ℕ → Type 0) (n : ℕ) → ((k : ℕ) → k < n → P k) → P n → (k : ℕ) → k < n + 1 → P k
+all-next = below-more
+
+-- ---- x without its member i: rest
+
+module _ (x m i rest : ℕ) (is : m ≡ 2 ^ i) (d : Minus x m rest) where
+  pub taken-gone : digit i rest ≡ 1 → ⊥
+  unfolding Minus
+  taken-gone q = omega (arith, d i, digit-lt i x, ap (digit i) is, pow-here i)
+
+  pub others-stay : (b : ℕ) → (b ≡ i → ⊥) → digit b rest ≡ digit b x
+  unfolding Minus
+  others-stay b n =
+      let z : digit b m ≡ 1 → ⊥ = λ f. n (pow-only b i (sym (ap (digit b) is) ∙ f)) in
+      omega (arith, d b, digit-lt b m)
+
+-- ---- a loop over the members of x, which takes them out of rest one by one
+
+-- P holds of the members of x that are no more in rest
+unfoldable pub Visited : (ℕ → Type 0) → ℕ → ℕ → Type 0
+Visited P x rest = (b : ℕ) → digit b x ≡ 1 → (digit b rest ≡ 1 → ⊥) → P b
+
+pub visited-none : (P : ℕ → Type 0) (x : ℕ) → Visited P x x
+unfolding Visited
+visited-none P x b h n = absurd (n h)
+
+pub visited-more : (P : ℕ → Type 0) (x rest m i rest' : ℕ) → Visited P x rest → m ≡ 2 ^ i → Minus rest m rest' → P i → Visited P x rest'
+unfolding Visited
+visited-more P x rest m i rest' v is d p b h n =
+    ⊎-elim (λ (e : b ≡ i). subst P (sym e) p) (λ (o : b ≡ i → ⊥). v b h (λ q. n (others-stay rest m i rest' is d b o ∙ q))) (eq? b i)
+
+pub visited-all : (P : ℕ → Type 0) (x rest : ℕ) → Visited P x rest → rest ≡ 0 → (b : ℕ) → digit b x ≡ 1 → P b
+unfolding Visited
+visited-all P x rest v z b h = v b h (λ q. not-zero b rest q z)
