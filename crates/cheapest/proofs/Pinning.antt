@@ -20,18 +20,18 @@ use Rattle.bits.proofs.Parts.{part-le, members, by-members, part-self, part-tra
 use Rattle.cheapest_bounds.proofs.Costing.{cost-none, cost-join, cost-small}
 use Rattle.rows.proofs.Nodes.{halves, low-node, high-node}
 
-pub reached-cover : (rows : List ℕ) (s free t : ℕ) → CoverBetween rows s free t → Cover rows t
+reached-cover : (rows : List ℕ) (s free t : ℕ) → CoverBetween rows s free t → Cover rows t
 unfolding CoverBetween
 reached-cover rows s free t r = r .0
 
 -- ---- an interval is what lies between s and s with its low bits
 
 module _ (rows : List ℕ) (j s t : ℕ) (z : s % 2 ^ j ≡ 0) where
-  pub reached-inside : Cover rows t → s ≤ t → t < s + 2 ^ j → CoverBetween rows s (2 ^ j - 1) t
+  reached-inside : Cover rows t → s ≤ t → t < s + 2 ^ j → CoverBetween rows s (2 ^ j - 1) t
   unfolding CoverBetween Between
   reached-inside c lo hi = (c, (above j s t z lo hi, within j s t z lo hi))
 
-  pub inside-reached : CoverBetween rows s (2 ^ j - 1) t → (s ≤ t) × (t < s + 2 ^ j)
+  inside-reached : CoverBetween rows s (2 ^ j - 1) t → (s ≤ t) × (t < s + 2 ^ j)
   unfolding CoverBetween Between
   inside-reached r =
       let e : s / 2 ^ j * 2 ^ j + s % 2 ^ j ≡ s = split s j in
@@ -110,7 +110,8 @@ pinned-none rows costs n best le h =
       first = λ t lt c e. omega arith;
     }
 
-pub pinned-all : (rows costs : List ℕ) (n i s cost w : ℕ) (best : Incumbent) → i ≡ 0 → LeastCost rows costs n best → Pinned rows costs n (best .cost) i s cost w → Cheapest rows costs n (best .cost) s
+pub pinned-all : (rows costs : List ℕ) (n i s cost w : ℕ) (best : Incumbent) → i ≡ 0 → LeastCost rows costs n best
+    → Pinned rows costs n (best .cost) i s cost w → Cheapest rows costs n (best .cost) s
 pinned-all rows costs n i s cost w best z h p =
     let one : 2 ^ i ≡ 1 = ap (λ (k : ℕ). 2 ^ k) z in
     let e : w ≡ s = omega (arith, p .low, p .high) in

@@ -22,7 +22,7 @@ use Rattle.cheapest_bounds.proofs.Costing.{cost-part, cost-one, cost-sm
 -- ---- one entry
 
 -- a set that has the entry pays v for what was there
-pub cost-set : (l : List ℕ) (i v t : ℕ) → i < length l → costOf (set l i v) t + digit i t * getD l i 0 ≡ costOf l t + digit i t * v
+cost-set : (l : List ℕ) (i v t : ℕ) → i < length l → costOf (set l i v) t + digit i t * getD l i 0 ≡ costOf l t + digit i t * v
 unfolding costOf
 cost-set [] i v t lt = absurd (omega arith)
 cost-set (w ∷ ws) zero v t lt = omega (arith, ap (λ (d : ℕ). d * w) (digit-first t), ap (λ (d : ℕ). d * v) (digit-first t))
@@ -31,19 +31,19 @@ cost-set (w ∷ ws) (suc i) v t lt =
 
 module _ (l : List ℕ) (i y t : ℕ) (lt : i < length l) (le : y ≤ getD l i 0) where
   -- a set without the entry costs what it did
-  pub less-out : (digit i t ≡ 1 → ⊥) → costOf (set l i (getD l i 0 - y)) t ≡ costOf l t
+  less-out : (digit i t ≡ 1 → ⊥) → costOf (set l i (getD l i 0 - y)) t ≡ costOf l t
   less-out n =
       let z : digit i t ≡ 0 = omega (arith, digit-lt i t) in
       let v : ℕ = getD l i 0 - y in
       omega (arith, cost-set l i v t lt, ap (λ (d : ℕ). d * getD l i 0) z, ap (λ (d : ℕ). d * v) z, zero-mul (getD l i 0), zero-mul v)
 
   -- a set with it costs y less
-  pub less-in : digit i t ≡ 1 → costOf (set l i (getD l i 0 - y)) t + y ≡ costOf l t
+  less-in : digit i t ≡ 1 → costOf (set l i (getD l i 0 - y)) t + y ≡ costOf l t
   less-in o =
       let v : ℕ = getD l i 0 - y in
       omega (arith, cost-set l i v t lt, ap (λ (d : ℕ). d * getD l i 0) o, ap (λ (d : ℕ). d * v) o, one-mul (getD l i 0), one-mul v)
 
-  pub less-all : costOf (set l i (getD l i 0 - y)) t ≤ costOf l t
+  less-all : costOf (set l i (getD l i 0 - y)) t ≤ costOf l t
   less-all = ⊎-elim (λ (o : digit i t ≡ 1). omega (arith, less-in o)) (λ (n : digit i t ≡ 1 → ⊥). omega (arith, less-out n)) (eq? (digit i t) 1)
 
 -- ---- one row
@@ -138,7 +138,7 @@ raising-more rows n old mid new sum y h p = record {
 }
 
 -- the set of all 64 meets all rows
-pub meets-all : (rows : List ℕ) → ((k : ℕ) → getD rows k 0 < 2 ^ 64) → (n : ℕ) → Meets rows n (2 ^ 64 - 1)
+meets-all : (rows : List ℕ) → ((k : ℕ) → getD rows k 0 < 2 ^ 64) → (n : ℕ) → Meets rows n (2 ^ 64 - 1)
 unfolding Meets
 meets-all rows fit n k l nz z = nz (sym (and-mask (getD rows k 0) 64 ∙ mod-eq-of-lt (fit k)) ∙ z)
 
@@ -151,7 +151,7 @@ pub raising-all : (rows : List ℕ) (n : ℕ) (old new : List ℕ) (sum : ℕ) �
 raising-all rows n old new sum e h = record { size = h .size; under = λ t m. h .under t (subst (λ (k : ℕ). Meets rows k t) (sym e) m) }
 
 -- one pass over the rows and then another
-pub raised-then : (rows a b c : List ℕ) (p q : ℕ) → Raised rows a b p → Raised rows b c q → Raised rows a c (p + q)
+raised-then : (rows a b c : List ℕ) (p q : ℕ) → Raised rows a b p → Raised rows b c q → Raised rows a c (p + q)
 raised-then rows a b c p q f g = record { size = g .size ∙ f .size; under = λ t m. omega (arith, f .under t m, g .under t m) }
 
 -- six passes
@@ -165,7 +165,7 @@ module _ (rows : List ℕ) {a b c d e f g : List ℕ} {p q r s t u : ℕ} where
 
 -- ---- the costs with 0 behind them
 
-pub cost-zeros : (l : List ℕ) (t : ℕ) → ((k : ℕ) → getD l k 0 ≡ 0) → costOf l t ≡ 0
+cost-zeros : (l : List ℕ) (t : ℕ) → ((k : ℕ) → getD l k 0 ≡ 0) → costOf l t ≡ 0
 unfolding costOf
 cost-zeros [] t z = refl
 cost-zeros (w ∷ ws) t z =
@@ -175,7 +175,7 @@ cost-zeros (w ∷ ws) t z =
     omega (arith, cost-zeros ws (t / 2) (λ k. z (suc k)), ap (λ (d : ℕ). d * w) o, zero-mul w)) (eq? (t % 2) 1)
 
 -- the same entries make the same cost
-pub cost-same : (a b : List ℕ) (t : ℕ) → ((k : ℕ) → getD a k 0 ≡ getD b k 0) → costOf a t ≡ costOf b t
+cost-same : (a b : List ℕ) (t : ℕ) → ((k : ℕ) → getD a k 0 ≡ getD b k 0) → costOf a t ≡ costOf b t
 unfolding costOf
 cost-same [] b t h = sym (cost-zeros b t (λ k. sym (h k)))
 cost-same (v ∷ vs) [] t h = cost-zeros (v ∷ vs) t h
@@ -229,16 +229,10 @@ trimmed-none left free spare = record { part = part-self free; dear = λ b m n. 
 
 pub trimmed-drop : (left : List ℕ) (free spare kept m p kept' : ℕ) → Trimmed left free spare kept → Single m → Price left m p → spare ≤ p → Minus kept m kept'
     → Trimmed left free spare kept'
-unfolding Minus Single
+unfolding Single Visited
 trimmed-drop left free spare kept m p kept' h one q le d = record {
   part = part-trans kept' kept free (minus-part kept m kept' d) (h .part);
-  dear = λ b f n. ⊎-elim
-      (λ (e : digit b kept ≡ 1).
-      let in-m : digit b m ≡ 1 = ⊎-elim (λ (g : digit b m ≡ 1). g) (λ (g : digit b m ≡ 1 → ⊥). absurd (n (omega (arith, d b, digit-lt b m)))) (eq? (digit b m) 1) in
-      let same : b ≡ one .0 = pow-only b (one .0) (sym (ap (digit b) (one .1)) ∙ in-m) in
-      omega (arith, q .is, ap (costOf left) (one .1 ∙ ap (λ (j : ℕ). 2 ^ j) (sym same))))
-      (λ (e : digit b kept ≡ 1 → ⊥). h .dear b f e)
-      (eq? (digit b kept) 1);
+  dear = visited-more (λ b. spare ≤ costOf left (2 ^ b)) free kept m (one .0) kept' (h .dear) (one .1) d (omega (arith, q .is, ap (costOf left) (one .1)));
 }
 
 -- ---- what a cheap set can have

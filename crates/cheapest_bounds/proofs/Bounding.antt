@@ -1,15 +1,15 @@
 -- The cost of one candidate, the floor of a set, and the bound by disjoint unmet rows.
 use mathlib.Core.Path.{_≡_, refl, sym, ap, _∙_, subst}
 use mathlib.Core.Logic.{⊎-elim}
-use mathlib.Core.List.{List, [], _∷_}
-use Prim.Native.Nat.{ℕ, zero, suc, _+_, _*_, _/_, _%_, _^_, _≤_, _<_}
+use mathlib.Core.List.{List}
+use Prim.Native.Nat.{ℕ, _+_, _^_, _≤_, _<_}
 use native.Mathlib.Omega.{arith}
 use lib.ListN.{length, getD, List·getD-eq-default}
 use lib.Bits.{bitAnd, bitOr}
 use Rattle.bits.specs.Bits.{digit, Part, Minus, Member, Index}
 use Rattle.rows.specs.Covers.{Cover, Between}
 use Rattle.cheapest_bounds.specs.Costs.{costOf, noCost, Price, Floor, CoverBetween, Fresh, Bound}
-use Rattle.bits.proofs.Digits.{eq?, digit-lt, digit-or, a-member, pow-only}
+use Rattle.bits.proofs.Digits.{eq?, digit-lt, digit-or, a-member}
 use Rattle.bits.proofs.Members.{not-zero, and-left, and-right, and-both}
 use Rattle.bits.proofs.Parts.{by-members, part-self, the-member, apart-by, no-common, and-or}
 use Rattle.bits.proofs.Steps.{Visited, visited-none, visited-more, visited-all}
@@ -105,7 +105,8 @@ packed-as rows costs s free {used} {used'} {sum} {sum'} e f h =
 pub packed-small : (rows costs : List ℕ) (s free used sum : ℕ) → length costs ≤ 64 → ((k : ℕ) → getD costs k 0 < 65536) → Packed rows costs s free used sum → sum < noCost
 packed-small rows costs s free used sum l lt h = omega (arith, h .little, cost-small costs used lt)
 
-pub packed-all : (rows costs : List ℕ) (s free used sum : ℕ) → length costs ≤ 64 → ((k : ℕ) → getD costs k 0 < 65536) → Packed rows costs s free used sum → Bound rows costs s free sum
+pub packed-all : (rows costs : List ℕ) (s free used sum : ℕ) → length costs ≤ 64 → ((k : ℕ) → getD costs k 0 < 65536)
+    → Packed rows costs s free used sum → Bound rows costs s free sum
 unfolding CoverBetween Between
 packed-all rows costs s free used sum l lt h = record {
   under = λ t r.

@@ -12,7 +12,6 @@ use Rattle.bits.specs.Bits.{digit, Part, Member}
 use Rattle.rows.specs.Covers.{Cover}
 use Rattle.cheapest_bounds.specs.Costs.{CoverBetween}
 use Rattle.cheapest_nodes.specs.Nodes.{Chosen}
-use Rattle.bits.proofs.Digits.{eq?}
 use Rattle.bits.proofs.Members.{not-zero, and-left, and-right}
 use Rattle.bits.proofs.Parts.{members, by-members, member-of-more, apart-by, no-common}
 use Rattle.bits.proofs.Steps.{all-next}

@@ -6,12 +6,12 @@ use Prim.Native.Nat.{ℕ, _+_, _^_, _<_}
 use native.Mathlib.Omega.{arith}
 use lib.ListN.{length, getD, set, length-set}
 use lib.Seq.{getD-set-same, getD-set-other}
-use lib.Bits.{bitAnd, bitOr}
+use lib.Bits.{bitAnd}
 use Rattle.bits.specs.Bits.{digit, Part, Minus, Member, Index}
 use Rattle.cheapest_nodes.specs.Nodes.{Dominators, Restricted, Shared}
-use Rattle.bits.proofs.Digits.{eq?, digit-lt, digit-or, a-member, pow-here, pow-only}
-use Rattle.bits.proofs.Members.{and-left, and-right, and-both, not-zero}
-use Rattle.bits.proofs.Parts.{members, by-members, part-self, part-trans, part-and-left, part-and-less}
+use Rattle.bits.proofs.Digits.{eq?, a-member, pow-here, pow-only}
+use Rattle.bits.proofs.Members.{and-left, and-right, and-both}
+use Rattle.bits.proofs.Parts.{members, part-self, part-trans, part-and-left, part-and-less}
 use Rattle.bits.proofs.Steps.{all-next, Visited, visited-none, visited-more, visited-all}
 
 -- ---- one row

@@ -200,7 +200,9 @@ pub thinned-unmet : (rows costs : List ℕ) (s free u : ℕ) → Unmet rows (len
 unfolding CoverBetween
 thinned-unmet rows costs s free u h = record {
   part = free-part free u;
-  swap = λ t r. (trimmed rows costs s free u h t r, (trimmed-cover rows costs s free u h t r, trimmed-between rows costs s free u h t r), cost-part costs (trimmed rows costs s free u h t r) t (trimmed-part rows costs s free u h t r));
+  swap = λ t r.
+      let x : ℕ = trimmed rows costs s free u h t r in
+      (x, (trimmed-cover rows costs s free u h t r, trimmed-between rows costs s free u h t r), cost-part costs x t (trimmed-part rows costs s free u h t r));
 }
 
 -- ---- the value
