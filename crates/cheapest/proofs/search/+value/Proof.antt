@@ -108,7 +108,7 @@ value-returns t c =
     let c10 = c9 .before in
     let start = c10 .before .before .before in
     let planned = planned-split _ _ _ _ _ _ _ _ _ (c7 .next .given .1) (c9 .plan .ensures) in
-    valued-sufficient _ _ _ _ _ _ _ (start .pre .1 .1 .0) (c10 .limit-below .ensures) _ _ (planned .0)
+    valued-sufficient _ _ _ _ _ _ (start .args .best) (start .pre .1 .1 .0) (c10 .limit-below .ensures) _ _ (planned .0)
     (valued-over _ _ _ _ _ _ (planned .1 .apart) (planned .1 .component) (c5 .minus .ensures) _ _ _ (c4 .total .ensures) (c .before .before .value .ensures) (c .if1 .taken))
 
 value-total-requires-2 : (t : ℕ) → value-lts.Need-total-requires-2 (G t) (value-at t) value.Post
@@ -183,13 +183,13 @@ value-returns-2 : (t : ℕ) → value-lts.Need-returns-2 (G t) (value-at t) valu
 value-returns-2 t c =
     let c3 = c .before .before .before in
     let start = c3 .before .before .before in
-    valued-cut _ _ _ _ _ _ _ (start .pre .1 .1 .0) (c3 .limit-below .ensures) _ _ (c .enum-told .given .1) (c .before .before .plan .ensures)
+    valued-cut _ _ _ _ _ _ (start .args .best) (start .pre .1 .1 .0) (c3 .limit-below .ensures) _ _ (c .enum-told .given .1) (c .before .before .plan .ensures)
 
 value-returns-3 : (t : ℕ) → value-lts.Need-returns-3 (G t) (value-at t) value.Post
 value-returns-3 t c =
     let c3 = c .before .before .before in
     let start = c3 .before .before .before in
-    valued-met _ _ _ _ _ _ _ (start .pre .1 .1 .0) (c3 .limit-below .ensures) _ _ ((start .pre .1 .1 .1) .is) (c .enum-told2 .given .1) (c .before .before .plan .ensures)
+    valued-met _ _ _ _ _ _ (start .args .best) (start .pre .1 .1 .0) (c3 .limit-below .ensures) _ _ ((start .pre .1 .1 .1) .is) (c .enum-told2 .given .1) (c .before .before .plan .ensures)
 
 value-returns-4 : (t : ℕ) → value-lts.Need-returns-4 (G t) (value-at t) value.Post
 value-returns-4 t c =
@@ -201,7 +201,7 @@ value-returns-4 t c =
     let c13 = c12 .before in
     let start = c13 .before .before .before in
     let planned = planned-split _ _ _ _ _ _ _ _ _ (c10 .next .given .1) (c12 .plan .ensures) in
-    valued-sufficient _ _ _ _ _ _ _ (start .pre .1 .1 .0) (c13 .limit-below .ensures) _ _ (planned .0)
+    valued-sufficient _ _ _ _ _ _ (start .args .best) (start .pre .1 .1 .0) (c13 .limit-below .ensures) _ _ (planned .0)
     (valued-parts _ _ _ _ _ _ (planned .1 .apart) (planned .1 .component) (c8 .minus .ensures) _ _ _ _ (c5 .value .ensures) (c3 .if1 .left) (c .value2 .ensures))
 
 value-returns-5 : (t : ℕ) → value-lts.Need-returns-5 (G t) (value-at t) value.Post
@@ -212,7 +212,7 @@ value-returns-5 t c =
     let c8 = c7 .before in
     let start = c8 .before .before .before in
     let planned = planned-branch _ _ _ _ _ _ _ _ _ (c5 .next2 .given .1) (c7 .plan .ensures) in
-    valued-sufficient _ _ _ _ _ _ _ (start .pre .1 .1 .0) (c8 .limit-below .ensures) _ _ (planned .0)
+    valued-sufficient _ _ _ _ _ _ (start .args .best) (start .pre .1 .1 .0) (c8 .limit-below .ensures) _ _ (planned .0)
     (valued-both _ _ _ _ _ _ _ _ _ (planned .1) (c3 .minus2 .ensures) (c .before .value3 .ensures) (c .value4 .ensures))
 
 pub +value-spec : {M : Type 1} → statement M
