@@ -1,4 +1,4 @@
--- Sets by their members: of an `and`, a part, a set without one member, and the numbers between s and s with all its low bits.
+-- Sets by their members: of an `and`, an `or`, a part, a set without one member, and the numbers between s and s with all its low bits.
 use mathlib.Core.Path.{_≡_, refl, sym, ap, _∙_, subst}
 use mathlib.Core.Logic.{⊎-elim}
 use Prim.Native.Nat.{ℕ, zero, suc, _+_, _-_, _*_, _/_, _%_, _^_, _≤_, _<_}
@@ -19,6 +19,16 @@ and-right b x y h = omega (arith, digit-and b x y, digit-lt b y)
 
 pub and-both : (b x y : ℕ) → digit b x ≡ 1 → digit b y ≡ 1 → digit b (bitAnd x y) ≡ 1
 and-both b x y hx hy = omega (arith, digit-and b x y)
+
+-- ---- and of an `or`
+
+pub or-left : (b x y : ℕ) → digit b x ≡ 1 → digit b (bitOr x y) ≡ 1
+or-left b x y h = omega (arith, digit-or b x y, digit-lt b y)
+
+pub or-right : (b x y : ℕ) → digit b y ≡ 1 → digit b (bitOr x y) ≡ 1
+or-right b x y h = omega (arith, digit-or b x y, digit-lt b x)
+
+-- ---- parts
 
 -- what has a member is not 0
 pub not-zero : (b x : ℕ) → digit b x ≡ 1 → x ≡ 0 → ⊥

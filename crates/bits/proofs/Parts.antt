@@ -11,7 +11,7 @@ use lib.Dec.{ltb}
 use lib.Pow.{pow-mono}
 use Rattle.bits.specs.Bits.{digit, Single, Part, Minus, Member, Lowest, fewer}
 use Rattle.bits.proofs.Digits.{eq?, digit-first, digit-next, digit-lt, digit-and, digit-or, digit-xor, digit-ext, member-ext, a-member, pow-here, pow-only}
-use Rattle.bits.proofs.Members.{part-of, to-part, and-left, and-right, and-both, not-zero}
+use Rattle.bits.proofs.Members.{part-of, to-part, and-left, and-right, and-both, or-left, or-right, not-zero}
 
 -- ---- parts
 
@@ -145,13 +145,19 @@ minus-member-less x m r h d =
     let le : r ≤ x = part-le r x (minus-part x m r d) in
     ⊎-elim (λ e. absurd (omega (arith, d b, w .2, ap (digit b) e))) (λ n. omega arith) (eq? r x)
 
--- ---- parts of an `and`, and disjoint sets
+-- ---- parts of an `and` and of an `or`, and disjoint sets
 
 pub part-and-left : (a b : ℕ) → Part (bitAnd a b) b
 part-and-left a b = by-members (bitAnd a b) b (λ c h. and-right c a b h)
 
 pub part-and-less : (a b x : ℕ) → Part a x → Part (bitAnd a b) x
 part-and-less a b x p = by-members (bitAnd a b) x (λ c h. members a x p c (and-left c a b h))
+
+pub part-or-left : (x a b : ℕ) → Part x a → Part x (bitOr a b)
+part-or-left x a b p = by-members x (bitOr a b) (λ c m. or-left c a b (members x a p c m))
+
+pub part-or-right : (a b : ℕ) → Part b (bitOr a b)
+part-or-right a b = by-members b (bitOr a b) (λ c m. or-right c a b m)
 
 pub apart-by : (a b : ℕ) → ((c : ℕ) → digit c a ≡ 1 → digit c b ≡ 1 → ⊥) → bitAnd a b ≡ 0
 apart-by a b f =

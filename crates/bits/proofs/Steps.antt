@@ -1,20 +1,18 @@
 -- The steps of loops: from the first n to the first n + 1, and from a set to the set without one of its members.
 use mathlib.Core.Path.{_≡_, sym, ap, _∙_, subst}
-use mathlib.Core.Logic.{_⊎_, inl, inr, ⊎-elim}
+use mathlib.Core.Logic.{⊎-elim}
 use Prim.Native.Nat.{ℕ, _+_, _^_, _<_}
 use native.Mathlib.Omega.{arith}
+use borrow.Author.Count.{below-more}
 use Rattle.bits.specs.Bits.{digit, Minus}
 use Rattle.bits.proofs.Digits.{eq?, digit-lt, pow-here, pow-only}
 use Rattle.bits.proofs.Members.{not-zero}
 
 -- ---- the first n + 1
 
-pub earlier-or-last : (k n : ℕ) → k < n + 1 → (k < n) ⊎ (k ≡ n)
-earlier-or-last k n lt = ⊎-elim (λ (e : k ≡ n). inr e) (λ (d : k ≡ n → ⊥). inl (omega arith)) (eq? k n)
-
 -- what holds of all before n, and of n, holds of all before n + 1
 pub all-next : (P : ℕ → Type 0) (n : ℕ) → ((k : ℕ) → k < n → P k) → P n → (k : ℕ) → k < n + 1 → P k
-all-next P n h last k lt = ⊎-elim (λ (l : k < n). h k l) (λ (e : k ≡ n). subst P (sym e) last) (earlier-or-last k n lt)
+all-next = below-more
 
 -- ---- x without its member i: rest
 

@@ -21,7 +21,7 @@ use Rattle.model.proofs.Cheapest.{best-cheapest}
 use Rattle.model.proofs.Matrix.{rows-cost}
 use Rattle.cheapest.specs.declared.search.Optimum.{Optimum}
 use Rattle.cheapest.specs.declared.search.Optimum.the-variants.{Cover as AtCover, Nothing}
-use Rattle.lister.specs.declared.cursor.Filled.{Filled}
+use Rattle.lister.specs.declared.cursor.PageFill.{PageFill}
 use Rattle.rows.specs.Covers.{rowCovers}
 use Rattle.lister.specs.Lister.{Paged}
 use Rattle.cheapest.specs.Optimum.{Optimal}
@@ -61,7 +61,7 @@ rows-cost-any k rows s = rows-cost k s
 
 -- ---- a page
 
-module _ (all : List ℕ) (s : ℕ) (old new : List ℕ) (f : Filled) (p : Paged all s old new f) where
+module _ (all : List ℕ) (s : ℕ) (old new : List ℕ) (f : PageFill) (p : Paged all s old new f) where
   pub page-front : take (f .count) new ≡ page all s (length old)
   page-front = ap (take (f .count)) (p .row) ∙ take-at (page all s (length old)) (drop (length (page all s (length old))) old) (f .count) (sym (p .count))
 

@@ -24,7 +24,7 @@ use Rattle.model.proofs.Runs.{Numbered, first-before, first-behind}
 use Rattle.model.proofs.Library.{listed-refused}
 use Rattle.table.specs.Lists.{Filled}
 use Rattle.table.specs.Cubes.{Allowed, MayOf, TellsFormed, TellsNoOff}
-use Rattle.lister.specs.declared.cursor.Filled as page
+use Rattle.lister.specs.declared.cursor.PageFill as page
 use Rattle.rows.specs.Covers.{rowCovers}
 use Rattle.lister.specs.Lister.{Paged}
 use Rattle.answers.specs.Writers.{InFront}
@@ -239,7 +239,7 @@ words-here p may words r z of f q h g = f (q .table) (of (q .table) (p .n) (z .i
 
 -- ---- the sets
 
-pub page-of : (p : Problem) (out rows : List ℕ) (r n start : ℕ) (old new : List ℕ) (f : page.Filled) → Prepares p out r → rows ≡ take r out → n ≡ p .count → Paged (rowCovers n rows) start old new f → PageOf p start old new f
+pub page-of : (p : Problem) (out rows : List ℕ) (r n start : ℕ) (old new : List ℕ) (f : page.PageFill) → Prepares p out r → rows ≡ take r out → n ≡ p .count → Paged (rowCovers n rows) start old new f → PageOf p start old new f
 page-of p out rows r n start old new f d e m w q h =
     subst (λ (all : List ℕ). Paged all start old new f) (rows-listed p q rows n h (subst⁻¹ (λ (l : List ℕ). RowsOf (basisOf q) l) e (d .rows q h)) m) w
 
@@ -280,7 +280,7 @@ module _ (p : Table) (words : List ℕ) (start : ℕ) (old : List ℕ) where
         none-left : c ≡ true → firstOf (callRefusals p words) ≡ 0
         none-left k = behind-words ∙ rw (← t (problemOf p words) h, k)
 
-        pub call-filled : c ≡ true → (new : List ℕ) (s : page.Filled) → PageOf q start old new s → Answers (listCovers p words start old) (FilledWith (s .count) (s .more)) new
+        pub call-filled : c ≡ true → (new : List ℕ) (s : page.PageFill) → PageOf q start old new s → Answers (listCovers p words start old) (FilledWith (s .count) (s .more)) new
         unfolding listCovers
         call-filled k new s o =
             let a = o (problemOf p words) h in

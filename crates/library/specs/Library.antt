@@ -15,7 +15,7 @@ use Rattle.model.specs.Refusals.{Refusal, refuse, firstOf, size, badRow}
 use Rattle.model.specs.Library as model-library
 use Rattle.model.specs.Library.{unpack, badVertex, refusalsOfWord}
 use Rattle.table.specs.Cubes.{Allowed}
-use Rattle.lister.specs.declared.cursor.Filled as page
+use Rattle.lister.specs.declared.cursor.PageFill as page
 use Rattle.lister.specs.Lister.{Paged}
 use Rattle.answers.specs.Writers.{InFront}
 use Rattle.problem.specs.declared.Problem.{Problem}
@@ -107,5 +107,5 @@ WordsRefusal p words r =
 -- ---- the sets
 
 -- the page of the problem that p holds
-abbrev pub PageOf : Problem → ℕ → List ℕ → List ℕ → page.Filled → Type 0
+abbrev pub PageOf : Problem → ℕ → List ℕ → List ℕ → page.PageFill → Type 0
 PageOf p start old new f = (q : model.Problem) → Holds p q → Paged (irredundants (covering (basisOf q))) start old new f

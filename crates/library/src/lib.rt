@@ -172,7 +172,7 @@ fn words_refusal(p: Problem, words: &[u32]) -> u8
 }
 
 // Fills the row with the covers of a problem from `start` on.
-fn fill_row(p: Problem, start: u64, row: &mut [u64]) -> cursor::Filled
+fn fill_row(p: Problem, start: u64, row: &mut [u64]) -> cursor::PageFill
     requires { ⌜ Sized p ⌝ }
     ensures { λ r. ⌜ PageOf p start (now (row .entry)) (now (row .exit)) r ⌝ }
 {

@@ -9,9 +9,9 @@ use lib.Pow.{pow-pos, pow-mono, pow-add, split, shr-lt, shr-shr}
 use Rattle.lister.specs.declared.cursor.Found.{Found}
 use Rattle.lister.specs.declared.cursor.Found.the-variants.{At, Nothing}
 use Rattle.bits.specs.Bits.{digit}
-use Rattle.rows.specs.Covers.{Irredundant, Node}
-use Rattle.lister_narrowing.specs.Pruning.{NoneBetween}
-use Rattle.lister.specs.Levels.{top, Hopeful}
+use Rattle.rows.specs.Covers.{IrredundantCover, Node}
+use Rattle.lister_narrowing.specs.Narrowing.{NoneBetween}
+use Rattle.lister.specs.Levels.{top, PossibleLevels}
 use Rattle.lister.specs.Lister.{Among, LeastIn}
 use Rattle.lister.proofs.Tree.{has-bit, lacks-bit, in-first, in-second}
 
@@ -56,18 +56,18 @@ pub out-of-range : (rows : List ℕ) (n at all : ℕ) → all ≡ 2 ^ n - 1 → 
 unfolding LeastIn Among
 out-of-range rows n at all e lt y a = omega (arith, a .0, a .1)
 
-pub at-once : (rows : List ℕ) (n at all : ℕ) → all ≡ 2 ^ n - 1 → at ≤ all → Irredundant rows at → LeastIn rows at (2 ^ n) (At at)
+pub at-once : (rows : List ℕ) (n at all : ℕ) → all ≡ 2 ^ n - 1 → at ≤ all → IrredundantCover rows at → LeastIn rows at (2 ^ n) (At at)
 unfolding LeastIn Among
 at-once rows n at all e le f = ((omega arith, omega (arith, pow-pos n), f), λ y a. a .0)
 
-pub climbed-none : (rows : List ℕ) (n at all : ℕ) → all ≡ 2 ^ n - 1 → at ≤ all → (Irredundant rows at → ⊥) → Climbed rows n at 0
+pub climbed-none : (rows : List ℕ) (n at all : ℕ) → all ≡ 2 ^ n - 1 → at ≤ all → (IrredundantCover rows at → ⊥) → Climbed rows n at 0
 unfolding LeastIn Among top
 climbed-none rows n at all e le f = record {
   within = omega arith;
   below = omega (arith, pow-pos n);
   none = λ y a.
       let q : y ≡ at = omega (arith, a .0, a .1, div-one at) in
-      f (subst (Irredundant rows) q (a .2));
+      f (subst (IrredundantCover rows) q (a .2));
 }
 
 module _ (rows : List ℕ) (n at i : ℕ) (c : Climbed rows n at i) (lt : i < n) (m : ℕ) (e : m ≡ 2 ^ i) where
@@ -101,11 +101,11 @@ module _ (rows : List ℕ) (n at i : ℕ) (c : Climbed rows n at i) (lt : i < n)
       room = omega (arith, after, pow-mono l);
     }
 
-    -- a range without hope
-    pub no-hope : (hope s : ℕ) → Hopeful rows at hope → s ≡ top at i → bitAnd hope m ≡ 0 → NoneBetween rows s (m - 1)
-    unfolding Hopeful
-    no-hope hope s h f w =
-        let r : NoneBetween rows (top at i) (2 ^ i - 1) = h i (lacks-bit i m e at z) (lacks-bit i m e hope w) in
+    -- a range without possible
+    pub impossible-level : (possible s : ℕ) → PossibleLevels rows at possible → s ≡ top at i → bitAnd possible m ≡ 0 → NoneBetween rows s (m - 1)
+    unfolding PossibleLevels
+    impossible-level possible s h f w =
+        let r : NoneBetween rows (top at i) (2 ^ i - 1) = h i (lacks-bit i m e at z) (lacks-bit i m e possible w) in
         subst (λ (k : ℕ). NoneBetween rows k (m - 1)) (sym f) (subst (λ (k : ℕ). NoneBetween rows (top at i) (k - 1)) (sym e) r)
 
     module _ (s : ℕ) (f : s ≡ top at i) (r : Found) (h : LeastIn rows s (s + 2 ^ i) r) where

@@ -13,11 +13,12 @@ use lib.Bits.{bitAnd, bitOr}
 use lib.Pow.{pow-pos, high, shr-shr}
 use Rattle.bits.specs.Bits.{digit, Part, Minus, Member, Highest}
 use Rattle.rows.specs.Covers.{Own, Between}
-use Rattle.lister_narrowing.specs.Pruning.{IrredundantBetween, NoneBetween, Tightened}
-use Rattle.lister.specs.Levels.{top, OwnAt, NewAt, OwnLevels, Kept, Hopeful}
-use Rattle.bits.proofs.Digits.{eq?, digit-lt, digit-or, pow-here, pow-only}
-use Rattle.bits.proofs.Members.{and-left, and-right, and-both, not-zero}
+use Rattle.lister_narrowing.specs.Narrowing.{IrredundantBetween, NoneBetween, Tightened}
+use Rattle.lister.specs.Levels.{top, OwnAt, NewAt, OwnLevels, KeptLevels, PossibleLevels}
+use Rattle.bits.proofs.Digits.{eq?, digit-lt, pow-here, pow-only}
+use Rattle.bits.proofs.Members.{and-left, and-right, and-both, or-left, or-right, not-zero}
 use Rattle.bits.proofs.Parts.{members, the-member}
+use borrow.Author.Count.{below-more}
 use Rattle.bits.proofs.Tops.{digit-in, mask-below, mask-above, highest-is}
 use Rattle.rows.proofs.Sets.{own-rows}
 
@@ -96,14 +97,14 @@ module _ (row own m : ℕ) (h : Highest own m) where
 
 -- ---- the levels that every member of at leaves
 
-pub kept-all : (alone : List ℕ) (fresh at : ℕ) → Kept alone fresh at fresh
-unfolding Kept
-kept-all alone fresh at i f h = f
+pub kept-levels-all : (alone : List ℕ) (fresh at : ℕ) → KeptLevels alone fresh at fresh
+unfolding KeptLevels
+kept-levels-all alone fresh at i f h = f
 
-pub kept-less : (alone : List ℕ) (fresh at good rest m k lost r : ℕ) → Kept alone fresh at good → Part rest at → Member rest m → m ≡ 2 ^ k
-    → Minus (m - 1) (getD alone k 0) lost → Minus good lost r → Kept alone fresh at r
-unfolding Kept Minus
-kept-less alone fresh at good rest m k lost r g p one e dl dr i f h =
+pub kept-levels-less : (alone : List ℕ) (fresh at good rest m k lost r : ℕ) → KeptLevels alone fresh at good → Part rest at → Member rest m → m ≡ 2 ^ k
+    → Minus (m - 1) (getD alone k 0) lost → Minus good lost r → KeptLevels alone fresh at r
+unfolding KeptLevels Minus
+kept-levels-less alone fresh at good rest m k lost r g p one e dl dr i f h =
     let in-at : digit k at ≡ 1 = members rest at p k (members m rest (one .part) k (ap (digit k) e ∙ pow-here k)) in
     let was : digit i good ≡ 1 = g i f h in
     let mask : digit i (m - 1) ≡ digit i (2 ^ k - 1) = ap (λ (x : ℕ). digit i (x - 1)) e in
@@ -116,22 +117,24 @@ kept-less alone fresh at good rest m k lost r g p one e dl dr i f h =
 
 -- ---- the pass
 
+-- alone has each level at which the row can be some member's own
+abbrev Owns : ℕ → List ℕ → ℕ → Type 0
+Owns at alone row = (i b : ℕ) → OwnAt row (bitAnd row at) i b → digit i (getD alone b 0) ≡ 1
+
+-- fresh has each level at which the row can be that level's own
+abbrev News : ℕ → ℕ → ℕ → Type 0
+News at fresh row = (i : ℕ) → NewAt row (bitAnd row at) i → digit i fresh ≡ 1
+
 -- what the first n rows tell
-pub record Glanced (rows : List ℕ) (at n : ℕ) (alone : List ℕ) (fresh : ℕ) : Type 0 where
+pub record LevelsPassed (rows : List ℕ) (at n : ℕ) (alone : List ℕ) (fresh : ℕ) : Type 0 where
   pub size : length alone ≡ 64
-  pub owns : (k : ℕ) → k < n → (i b : ℕ) → OwnAt (getD rows k 0) (bitAnd (getD rows k 0) at) i b → digit i (getD alone b 0) ≡ 1
-  pub news : (k : ℕ) → k < n → (i : ℕ) → NewAt (getD rows k 0) (bitAnd (getD rows k 0) at) i → digit i fresh ≡ 1
+  pub owns : (k : ℕ) → k < n → Owns at alone (getD rows k 0)
+  pub news : (k : ℕ) → k < n → News at fresh (getD rows k 0)
 
-pub glanced-none : (rows : List ℕ) (at : ℕ) (alone : List ℕ) → length alone ≡ 64 → Glanced rows at 0 alone 0
-glanced-none rows at alone l = record { size = l; owns = λ k lt. absurd (omega arith); news = λ k lt. absurd (omega arith) }
+pub levels-none : (rows : List ℕ) (at : ℕ) (alone : List ℕ) → length alone ≡ 64 → LevelsPassed rows at 0 alone 0
+levels-none rows at alone l = record { size = l; owns = λ k lt. absurd (omega arith); news = λ k lt. absurd (omega arith) }
 
-or-left : (b x y : ℕ) → digit b x ≡ 1 → digit b (bitOr x y) ≡ 1
-or-left b x y h = omega (arith, digit-or b x y, digit-lt b y)
-
-or-right : (b x y : ℕ) → digit b y ≡ 1 → digit b (bitOr x y) ≡ 1
-or-right b x y h = omega (arith, digit-or b x y, digit-lt b x)
-
-module _ (rows : List ℕ) (at n : ℕ) (alone : List ℕ) (fresh : ℕ) (h : Glanced rows at n alone fresh) where
+module _ (rows : List ℕ) (at n : ℕ) (alone : List ℕ) (fresh : ℕ) (h : LevelsPassed rows at n alone fresh) where
   abbrev row : ℕ
   row = getD rows n 0
 
@@ -139,17 +142,13 @@ module _ (rows : List ℕ) (at n : ℕ) (alone : List ℕ) (fresh : ℕ) (h : Gl
   own = bitAnd (getD rows n 0) at
 
   -- a row that at does not meet
-  pub glanced-open : bitAnd (getD rows n 0) at ≡ 0 → Glanced rows at (n + 1) alone (bitOr fresh (getD rows n 0))
-  glanced-open z = record {
+  pub levels-open : bitAnd (getD rows n 0) at ≡ 0 → LevelsPassed rows at (n + 1) alone (bitOr fresh (getD rows n 0))
+  levels-open z = record {
     size = h .size;
-    owns = λ k lt i b o. ⊎-elim
-        (λ (e : k ≡ n). absurd (not-zero b own (subst (λ (j : ℕ). digit b (bitAnd (getD rows j 0) at) ≡ 1) e (o .has)) z))
-        (λ (d : k ≡ n → ⊥). h .owns k (omega arith) i b o)
-        (eq? k n);
-    news = λ k lt i o. ⊎-elim
-        (λ (e : k ≡ n). or-right i fresh row (subst (λ (j : ℕ). digit i (getD rows j 0) ≡ 1) e (o .has)))
-        (λ (d : k ≡ n → ⊥). or-left i fresh row (h .news k (omega arith) i o))
-        (eq? k n);
+    owns = below-more (λ k. Owns at alone (getD rows k 0)) n (h .owns) (λ i b o. absurd (not-zero b own (o .has) z));
+    news = below-more (λ k. News at (bitOr fresh row) (getD rows k 0)) n
+        (λ k lt i o. or-left i fresh row (h .news k lt i o))
+        (λ i o. or-right i fresh row (o .has));
   }
 
   -- one that it meets, k the highest
@@ -182,22 +181,18 @@ module _ (rows : List ℕ) (at n : ℕ) (alone : List ℕ) (fresh : ℕ) (h : Gl
         let out : digit i (m - 1) ≡ 0 = ap (λ (x : ℕ). digit i (x - 1)) (w .1) ∙ mask-above (w .0) i (o .none (w .0) (w .2)) in
         omega (arith, u i, o .has)
 
-    pub glanced-met : Glanced rows at (n + 1) (set alone k (bitOr (getD alone k 0) levels)) (bitOr fresh up)
-    glanced-met = record {
+    pub levels-met : LevelsPassed rows at (n + 1) (set alone k (bitOr (getD alone k 0) levels)) (bitOr fresh up)
+    levels-met = record {
       size = simp length-set (h .size);
-      owns = λ j lt i b o. ⊎-elim
-          (λ (f : j ≡ n). here i b (subst (λ (q : ℕ). OwnAt (getD rows q 0) (bitAnd (getD rows q 0) at) i b) f o))
-          (λ (d : j ≡ n → ⊥). grows i b (h .owns j (omega arith) i b o))
-          (eq? j n);
-      news = λ j lt i o. ⊎-elim
-          (λ (f : j ≡ n). or-right i fresh up (fresh-here i (subst (λ (q : ℕ). NewAt (getD rows q 0) (bitAnd (getD rows q 0) at) i) f o)))
-          (λ (d : j ≡ n → ⊥). or-left i fresh up (h .news j (omega arith) i o))
-          (eq? j n);
+      owns = below-more (λ j. Owns at (set alone k (bitOr (getD alone k 0) levels)) (getD rows j 0)) n (λ j lt i b o. grows i b (h .owns j lt i b o)) here;
+      news = below-more (λ j. News at (bitOr fresh up) (getD rows j 0)) n
+          (λ j lt i o. or-left i fresh up (h .news j lt i o))
+          (λ i o. or-right i fresh up (fresh-here i o));
     }
 
-pub glanced-as : {rows : List ℕ} {at n : ℕ} {alone alone' : List ℕ} {fresh fresh' : ℕ}
-    → alone ≡ alone' → fresh ≡ fresh' → Glanced rows at n alone' fresh' → Glanced rows at n alone fresh
-glanced-as a b h = rw (a, b) h
+pub levels-as : {rows : List ℕ} {at n : ℕ} {alone alone' : List ℕ} {fresh fresh' : ℕ}
+    → alone ≡ alone' → fresh ≡ fresh' → LevelsPassed rows at n alone' fresh' → LevelsPassed rows at n alone fresh
+levels-as a b h = rw (a, b) h
 
 -- ---- an irredundant cover of level i has the own rows that the pass looks for
 
@@ -240,7 +235,7 @@ module _ (rows : List ℕ) (at i t : ℕ) (z : digit i at ≡ 0) (w : Irredundan
           ];
     }
 
-  module _ (alone : List ℕ) (fresh : ℕ) (g : Glanced rows at (length rows) alone fresh) where
+  module _ (alone : List ℕ) (fresh : ℕ) (g : LevelsPassed rows at (length rows) alone fresh) where
     level-found : digit i fresh ≡ 1
     unfolding Own
     level-found =
@@ -253,17 +248,17 @@ module _ (rows : List ℕ) (at i t : ℕ) (z : digit i at ≡ 0) (w : Irredundan
         let r : Own rows (length rows) t b = own-of b (has-above b lt m) in
         g .owns (r .0) (r .1) i b (old-own (getD rows (r .0) 0) b (r .2) lt m)
 
-pub glanced-all : (rows : List ℕ) (at n : ℕ) (alone : List ℕ) (fresh r : ℕ) → Glanced rows at n alone fresh → length rows ≤ n → n ≤ length rows
-    → Kept alone fresh at r → Hopeful rows at r
-unfolding Hopeful Kept NoneBetween
-glanced-all rows at n alone fresh r h ge le k i z out t w =
+pub levels-all : (rows : List ℕ) (at n : ℕ) (alone : List ℕ) (fresh r : ℕ) → LevelsPassed rows at n alone fresh → length rows ≤ n → n ≤ length rows
+    → KeptLevels alone fresh at r → PossibleLevels rows at r
+unfolding PossibleLevels KeptLevels NoneBetween
+levels-all rows at n alone fresh r h ge le k i z out t w =
     let e : n ≡ length rows = omega arith in
-    let g : Glanced rows at (length rows) alone fresh = subst (λ (j : ℕ). Glanced rows at j alone fresh) e h in
+    let g : LevelsPassed rows at (length rows) alone fresh = subst (λ (j : ℕ). LevelsPassed rows at j alone fresh) e h in
     let found : digit i r ≡ 1 = k i (level-found rows at i t z w alone fresh g) (members-found rows at i t z w alone fresh g) in
     omega arith
 
--- ---- a level without hope
+-- ---- a level without possible
 
-pub hopeless : (rows : List ℕ) (s free : ℕ) → NoneBetween rows s free → Tightened rows s free (record { dead = true; s = s; free = free })
+pub tightened-none : (rows : List ℕ) (s free : ℕ) → NoneBetween rows s free → Tightened rows s free (record { dead = true; s = s; free = free })
 unfolding NoneBetween
-hopeless rows s free f = record { less = omega arith; keeps = λ t w. absurd (f t w) }
+tightened-none rows s free f = record { less = omega arith; keeps = λ t w. absurd (f t w) }

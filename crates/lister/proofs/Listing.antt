@@ -21,7 +21,7 @@ use Rattle.model.proofs.Sets.{listed}
 use Rattle.lister.specs.declared.cursor.Found.{Found}
 use Rattle.lister.specs.declared.cursor.Found.the-variants.{At, Nothing}
 use Rattle.lister.specs.declared.cursor.Cursor.{Cursor}
-use Rattle.rows.specs.Covers.{Irredundant, rowCovers}
+use Rattle.rows.specs.Covers.{IrredundantCover, rowCovers}
 use Rattle.lister.specs.Lister.{Among, LeastIn, comingTo, atFirst, coming, sought, advanced, Paged}
 use Rattle.bits.proofs.Decide.{true-is-not-false}
 use Rattle.rows.proofs.Bridge.{irredundant-to, irredundant-from}
@@ -29,7 +29,7 @@ use Rattle.rows.proofs.Bridge.{irredundant-to, irredundant-from}
 -- ---- the list
 
 module _ (n : ℕ) (rows : List ℕ) where
-  pub row-covers : (s : ℕ) → List·Memᴰ s (rowCovers n rows) ↔ ((s < 2 ^ n) × Irredundant rows s)
+  pub row-covers : (s : ℕ) → List·Memᴰ s (rowCovers n rows) ↔ ((s < 2 ^ n) × IrredundantCover rows s)
   unfolding rowCovers
   row-covers s = (
     λ m.

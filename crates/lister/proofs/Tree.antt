@@ -13,9 +13,9 @@ use Rattle.lister.specs.declared.cursor.Found.{Found}
 use Rattle.lister.specs.declared.cursor.Found.the-variants.{At, Nothing}
 use Rattle.lister_narrowing.specs.declared.Tight.{Tight}
 use Rattle.bits.specs.Bits.{digit, Minus}
-use Rattle.rows.specs.Covers.{Irredundant, Between, Node}
-use Rattle.lister.specs.Lister.{Among, LeastIn, Narrowed}
-use Rattle.lister_narrowing.specs.Pruning.{IrredundantBetween, Tightened}
+use Rattle.rows.specs.Covers.{IrredundantCover, Between, Node}
+use Rattle.lister.specs.Lister.{Among, LeastIn, RangeKept}
+use Rattle.lister_narrowing.specs.Narrowing.{IrredundantBetween, Tightened}
 use Rattle.bits.proofs.Digits.{eq?, digit-lt, digit-of-zero, digit-and, digit-or, a-member, pow-here, pow-only}
 use Rattle.bits.proofs.Decide.{true-is-not-false}
 use Rattle.bits.proofs.Members.{and-left, and-right, above, within}
@@ -98,29 +98,29 @@ module _ (rows : List ℕ) (lo mid hi : ℕ) where
 -- ---- a node
 
 module _ (rows : List ℕ) (i s : ℕ) where
-  pub leaf : i ≡ 0 → Irredundant rows s → LeastIn rows s (s + 2 ^ i) (At s)
+  pub leaf : i ≡ 0 → IrredundantCover rows s → LeastIn rows s (s + 2 ^ i) (At s)
   unfolding LeastIn Among
   leaf z f = let p : 2 ^ i ≡ 1 = ap (λ (k : ℕ). 2 ^ k) z in ((omega arith, omega arith, f), λ y a. a .0)
 
-  pub no-leaf : i ≡ 0 → (Irredundant rows s → ⊥) → LeastIn rows s (s + 2 ^ i) Nothing
+  pub no-leaf : i ≡ 0 → (IrredundantCover rows s → ⊥) → LeastIn rows s (s + 2 ^ i) Nothing
   unfolding LeastIn Among
   no-leaf z f y a =
       let p : 2 ^ i ≡ 1 = ap (λ (k : ℕ). 2 ^ k) z in
       let e : y ≡ s = omega (arith, a .0, a .1) in
-      f (subst (Irredundant rows) e (a .2))
+      f (subst (IrredundantCover rows) e (a .2))
 
   -- narrowed from the bits of s and all the free ones
-  pub narrowed-node : (free : ℕ) (t : Tight) → free ≡ 2 ^ i - 1 → Node i s → Tightened rows s free t → Narrowed rows i s t
-  unfolding Narrowed Among IrredundantBetween Between
-  narrowed-node free t e n h y a =
+  pub range-node : (free : ℕ) (t : Tight) → free ≡ 2 ^ i - 1 → Node i s → Tightened rows s free t → RangeKept rows i s t
+  unfolding RangeKept Among IrredundantBetween Between
+  range-node free t e n h y a =
       let w : (b : ℕ) → digit b y ≡ 1 → digit b (bitOr s free) ≡ 1
       = subst (λ (f : ℕ). (b : ℕ) → digit b y ≡ 1 → digit b (bitOr s f) ≡ 1) (sym e) (within i s y (n .aligned) (a .0) (a .1)) in
       let k = h .keeps y (a .2, (above i s y (n .aligned) (a .0) (a .1), w)) in
       (k .0, k .1 .1)
 
-  module _ (t : Tight) (h : Narrowed rows i s t) where
+  module _ (t : Tight) (h : RangeKept rows i s t) where
     pub gone : t .dead ≡ true → LeastIn rows s (s + 2 ^ i) Nothing
-    unfolding LeastIn Narrowed
+    unfolding LeastIn RangeKept
     gone e y a = true-is-not-false (sym e ∙ h y a .0)
 
     module _ (m : ℕ) (e : m ≡ 2 ^ (i - 1)) (n : Node i s) (p : 0 < i) where
@@ -135,17 +135,17 @@ module _ (rows : List ℕ) (i s : ℕ) where
       whole : s + m + 2 ^ (i - 1) ≡ s + 2 ^ i
       whole = omega (arith, halves i p)
 
-      pub low-narrowed : Narrowed rows (i - 1) s t
-      unfolding Narrowed
-      low-narrowed y a = h y (low y a)
+      pub low-range : RangeKept rows (i - 1) s t
+      unfolding RangeKept
+      low-range y a = h y (low y a)
 
-      pub high-narrowed : Narrowed rows (i - 1) (s + m) t
-      unfolding Narrowed
-      high-narrowed y a = h y (up y a)
+      pub high-range : RangeKept rows (i - 1) (s + m) t
+      unfolding RangeKept
+      high-range y a = h y (up y a)
 
       -- t has the candidate: the low half has nothing
       pub with-bit : (r : Found) → (bitAnd (t .s) m ≡ 0 → ⊥) → LeastIn rows (s + m) (s + m + 2 ^ (i - 1)) r → LeastIn rows s (s + 2 ^ i) r
-      unfolding LeastIn Among Narrowed Between
+      unfolding LeastIn Among RangeKept Between
       with-bit r d u =
           in-second rows s (s + m) (s + 2 ^ i) r (omega arith)
           (λ y a.
@@ -155,7 +155,7 @@ module _ (rows : List ℕ) (i s : ℕ) where
 
       -- t lacks it: the high half has nothing
       pub without-bit : (r : Found) → bitAnd (t .s) m ≡ 0 → bitAnd (t .free) m ≡ 0 → LeastIn rows s (s + 2 ^ (i - 1)) r → LeastIn rows s (s + 2 ^ i) r
-      unfolding LeastIn Among Narrowed Between
+      unfolding LeastIn Among RangeKept Between
       without-bit r z w l =
           only-first rows s (s + 2 ^ (i - 1)) (s + 2 ^ i) r (omega (arith, halves i p))
           (λ y a.
@@ -166,8 +166,8 @@ module _ (rows : List ℕ) (i s : ℕ) where
 
       module _ (rest : ℕ) (d : Minus (t .free) m rest) (r : Tight) where
         -- t is open: without the candidate
-        pub low-open : Tightened rows (t .s) rest r → Narrowed rows (i - 1) s r
-        unfolding Narrowed Among IrredundantBetween Between Minus
+        pub low-open : Tightened rows (t .s) rest r → RangeKept rows (i - 1) s r
+        unfolding RangeKept Among IrredundantBetween Between Minus
         low-open g y a =
             let w : Between (t .s) (t .free) y = h y (low y a) .1 in
             let zero : digit (i - 1) y ≡ 0 = low-digit i s n p y (a .0) (a .1) in
@@ -184,8 +184,8 @@ module _ (rows : List ℕ) (i s : ℕ) where
             (k .0, k .1 .1)
 
         -- and with it
-        pub high-open : Tightened rows (bitOr (t .s) m) rest r → Narrowed rows (i - 1) (s + m) r
-        unfolding Narrowed Among IrredundantBetween Between Minus
+        pub high-open : Tightened rows (bitOr (t .s) m) rest r → RangeKept rows (i - 1) (s + m) r
+        unfolding RangeKept Among IrredundantBetween Between Minus
         high-open g y a =
             let w : Between (t .s) (t .free) y = h y (up y a) .1 in
             let one : digit (i - 1) y ≡ 1 = high-digit i s n p y (omega (arith, a .0)) (omega (arith, a .1, whole)) in

@@ -4,7 +4,7 @@ use mathlib.Core.List.{List}
 use Prim.Native.Nat.{ℕ, _+_, _-_, _*_, _/_, _^_, _≤_, _<_}
 use lib.ListN.{getD}
 use Rattle.bits.specs.Bits.{digit}
-use Rattle.lister_narrowing.specs.Pruning.{NoneBetween}
+use Rattle.lister_narrowing.specs.Narrowing.{NoneBetween}
 
 -- the first multiple of 2^i above at: where level i begins
 unfoldable pub top : ℕ → ℕ → ℕ
@@ -27,9 +27,9 @@ unfoldable pub OwnLevels : ℕ → ℕ → ℕ → Type 0
 OwnLevels row own r = (i b : ℕ) → OwnAt row own i b → digit i r ≡ 1
 
 -- r has each level of fresh that stands in the entry of every member of at above it
-unfoldable pub Kept : List ℕ → ℕ → ℕ → ℕ → Type 0
-Kept alone fresh at r = (i : ℕ) → digit i fresh ≡ 1 → ((b : ℕ) → digit b at ≡ 1 → i < b → digit i (getD alone b 0) ≡ 1) → digit i r ≡ 1
+unfoldable pub KeptLevels : List ℕ → ℕ → ℕ → ℕ → Type 0
+KeptLevels alone fresh at r = (i : ℕ) → digit i fresh ≡ 1 → ((b : ℕ) → digit b at ≡ 1 → i < b → digit i (getD alone b 0) ≡ 1) → digit i r ≡ 1
 
 -- no irredundant cover is of a level that r lacks
-unfoldable pub Hopeful : List ℕ → ℕ → ℕ → Type 0
-Hopeful rows at r = (i : ℕ) → digit i at ≡ 0 → digit i r ≡ 0 → NoneBetween rows (top at i) (2 ^ i - 1)
+unfoldable pub PossibleLevels : List ℕ → ℕ → ℕ → Type 0
+PossibleLevels rows at r = (i : ℕ) → digit i at ≡ 0 → digit i r ≡ 0 → NoneBetween rows (top at i) (2 ^ i - 1)

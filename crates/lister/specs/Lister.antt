@@ -9,15 +9,15 @@ use Rattle.model.specs.Pages.{atOrAbove, page, more}
 use Rattle.lister.specs.declared.cursor.Found.{Found}
 use Rattle.lister.specs.declared.cursor.Found.the-variants.{At, Nothing}
 use Rattle.lister.specs.declared.cursor.Cursor.{Cursor}
-use Rattle.lister.specs.declared.cursor.Filled.{Filled}
+use Rattle.lister.specs.declared.cursor.PageFill.{PageFill}
 use Rattle.lister_narrowing.specs.declared.Tight.{Tight}
-use Rattle.rows.specs.Covers.{Irredundant, Between}
+use Rattle.rows.specs.Covers.{IrredundantCover, Between}
 
 -- ---- the search
 
 -- y is an irredundant cover in [lo, hi)
 unfoldable pub Among : List ℕ → ℕ → ℕ → ℕ → Type 0
-Among rows lo hi y = (lo ≤ y) × (y < hi) × Irredundant rows y
+Among rows lo hi y = (lo ≤ y) × (y < hi) × IrredundantCover rows y
 
 -- the least of these, or that there is none
 unfoldable pub LeastIn : List ℕ → ℕ → ℕ → Found → Type 0
@@ -25,12 +25,12 @@ LeastIn rows lo hi (At x) = Among rows lo hi x × ((y : ℕ) → Among rows lo h
 LeastIn rows lo hi Nothing = (y : ℕ) → Among rows lo hi y → ⊥
 
 -- each irredundant cover in [s, s + 2^i) lies between t's set and what this can grow to; where t is dead there is none
-unfoldable pub Narrowed : List ℕ → ℕ → ℕ → Tight → Type 0
-Narrowed rows i s t = (y : ℕ) → Among rows s (s + 2 ^ i) y → (t .dead ≡ false) × Between (t .s) (t .free) y
+unfoldable pub RangeKept : List ℕ → ℕ → ℕ → Tight → Type 0
+RangeKept rows i s t = (y : ℕ) → Among rows s (s + 2 ^ i) y → (t .dead ≡ false) × Between (t .s) (t .free) y
 
 -- ---- the cursor
 
--- what a cursor has yet to come to: those at or above its place, none where it is over
+-- what a cursor has yet to come to: those at or above where it stands, none where it is over
 abbrev pub comingTo : List ℕ → ℕ → Bool → List ℕ
 comingTo all at true = []
 comingTo all at false = atOrAbove all at
@@ -53,7 +53,7 @@ advanced c = cond (c .over) c (cond (ltb (c .at) 18446744073709551615) (record {
 -- ---- a page
 
 -- what was put into the row old, as r counts it: the page for a row of that length, and the rest of the row as it was
-pub record Paged (all : List ℕ) (start : ℕ) (old new : List ℕ) (r : Filled) : Type 0 where
+pub record Paged (all : List ℕ) (start : ℕ) (old new : List ℕ) (r : PageFill) : Type 0 where
   pub count : r .count ≡ length (page all start (length old))
   pub more : r .more ≡ more all start (length old)
   pub row : new ≡ page all start (length old) ++ drop (length (page all start (length old))) old

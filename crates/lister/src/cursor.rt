@@ -3,14 +3,14 @@ ghost use mathlib.Core.Path.{_≡_};
 ghost use mathlib.Core.Bool.{false};
 ghost use Prim.Native.Nat.{_+_, _^_, _≤_};
 ghost use Rattle.rows.specs.Covers.{Node, rowCovers};
-ghost use Rattle.lister.specs.Lister.{LeastIn, Narrowed, sought, advanced, Paged};
+ghost use Rattle.lister.specs.Lister.{LeastIn, RangeKept, sought, advanced, Paged};
 use crate::levels;
 use bits::set;
 use lister_narrowing::Tight;
 use rows::covering;
 
 // A set, or that there is none.
-pub enum Found {
+enum Found {
     At(u64),
     Nothing,
 }
@@ -18,9 +18,9 @@ pub enum Found {
 // The least irredundant cover in [s, s + 2^i). All of them lie between t.s and t.s | t.free, so that a candidate which t has decided
 // costs no test; of one that is open, the half without it comes first. Where that half had none, the other may well have none either: it is
 // tested exactly before it is searched, so that a range without a cover is left after one walk down.
-pub fn least(rows: &[u64], i: u64, s: u64, t: Tight) -> Found
+fn least(rows: &[u64], i: u64, s: u64, t: Tight) -> Found
     requires { ⌜ Node i s ⌝ }
-    requires { ⌜ Narrowed (now rows) i s t ⌝ }
+    requires { ⌜ RangeKept (now rows) i s t ⌝ }
     ensures { λ r. ⌜ LeastIn (now (rows .entry)) s (s + 2 ^ i) r ⌝ }
 {
     if t.dead {
@@ -54,8 +54,8 @@ pub fn least(rows: &[u64], i: u64, s: u64, t: Tight) -> Found
 }
 
 // The least irredundant cover at or above at and below 2^n. From at, each 0 bit of at starts the next higher range of numbers: those
-// with this bit at 1, the bits above as in at, and the bits below free. A range without hope is left at a glance.
-pub fn climb(rows: &[u64], n: u64, at: u64) -> Found
+// with this bit at 1, the bits above as in at, and the bits below free. `levels` tells which ranges need no search.
+fn climb(rows: &[u64], n: u64, at: u64) -> Found
     requires { ⌜ n ≤ 64 ⌝ }
     ensures { λ r. ⌜ LeastIn (now (rows .entry)) at (2 ^ n) r ⌝ }
 {
@@ -65,13 +65,18 @@ pub fn climb(rows: &[u64], n: u64, at: u64) -> Found
     if covering::irredundant(rows, at) {
         return Found::At(at);
     }
-    let hope = levels::hopeful(rows, at);
+    let possible = levels::possible_levels(rows, at);
     let mut i: u64 = 0;
     while i < n {
         let m = set::power(i);
         if at & m == 0 {
             let s = at - (at & (m - 1)) + m;
-            let found = least(rows, i, s, levels::glance(rows, hope & m, s, m - 1));
+            let found = least(
+                rows,
+                i,
+                s,
+                levels::narrow_level(rows, possible & m, s, m - 1),
+            );
             if let Found::At(x) = found {
                 return Found::At(x);
             }
@@ -81,14 +86,14 @@ pub fn climb(rows: &[u64], n: u64, at: u64) -> Found
     Found::Nothing
 }
 
-// The lister's place: the next set is the least at or above at; none is left where it is over.
-pub struct Cursor {
+// Where the lister stands: the next set is the least at or above at; none is left where it is over.
+struct Cursor {
     pub at: u64,
     pub over: bool,
 }
 
 impl Cursor {
-    pub fn new(start: u64) -> Cursor
+    fn new(start: u64) -> Cursor
         ensures { λ r. ⌜ r ≡ record { at = start; over = false } ⌝ }
     {
         Cursor {
@@ -97,8 +102,8 @@ impl Cursor {
         }
     }
 
-    // Moves to the least irredundant cover at or above its place.
-    pub fn seek(self, rows: &[u64], n: u64) -> Cursor
+    // Moves to the least irredundant cover at or above where it stands.
+    fn seek(self, rows: &[u64], n: u64) -> Cursor
         requires { ⌜ n ≤ 64 ⌝ }
         ensures { λ r. ⌜ r ≡ sought (rowCovers n (now (rows .entry))) self ⌝ }
     {
@@ -115,7 +120,7 @@ impl Cursor {
     }
 
     // Moves one above.
-    pub fn past(self) -> Cursor
+    fn past(self) -> Cursor
         ensures { λ r. ⌜ r ≡ advanced self ⌝ }
     {
         if self.over {
@@ -135,13 +140,13 @@ impl Cursor {
 }
 
 // How many sets were put into a row, and whether one stands above those.
-pub struct Filled {
+pub struct PageFill {
     pub count: usize,
     pub more: bool,
 }
 
 // Puts into out the irredundant covers below 2^n and at or above start, rising, as many as fit. The rest of out stays.
-pub fn fill(rows: &[u64], n: u64, start: u64, out: &mut [u64]) -> Filled
+pub fn fill(rows: &[u64], n: u64, start: u64, out: &mut [u64]) -> PageFill
     requires { ⌜ n ≤ 64 ⌝ }
     ensures { λ r. ⌜ Paged (rowCovers n (now (rows .entry))) start (now (out .entry)) (now (out .exit)) r ⌝ }
 {
@@ -149,7 +154,7 @@ pub fn fill(rows: &[u64], n: u64, start: u64, out: &mut [u64]) -> Filled
     let mut i = 0;
     while i < out.len() {
         if c.over {
-            return Filled {
+            return PageFill {
                 count: i,
                 more: false,
             };
@@ -158,7 +163,7 @@ pub fn fill(rows: &[u64], n: u64, start: u64, out: &mut [u64]) -> Filled
         i += 1;
         c = c.past().seek(rows, n);
     }
-    Filled {
+    PageFill {
         count: i,
         more: !c.over,
     }

@@ -1,5 +1,5 @@
 -- A member that can keep no row leaves no irredundant cover.
-use mathlib.Core.Path.{_≡_, refl, sym, ap, _∙_, subst}
+use mathlib.Core.Path.{_≡_, refl, sym, ap, _∙_}
 use mathlib.Core.Bool.{Bool, true, false, not}
 use mathlib.Core.Logic.{⊎-elim}
 use mathlib.Core.List.{List}
@@ -10,12 +10,13 @@ use lib.Bits.{bitAnd, and-le-l}
 use Rattle.lister_narrowing.specs.declared.Tight.{Tight}
 use Rattle.bits.specs.Bits.{digit, Part, Minus, Member}
 use Rattle.rows.specs.Covers.{Own, Between}
-use Rattle.lister_narrowing.specs.Pruning.{IrredundantBetween, NoneBetween, Tightened}
+use Rattle.lister_narrowing.specs.Narrowing.{IrredundantBetween, NoneBetween, Tightened}
 use Rattle.lister_extension.specs.Extension.{NoneLeft}
 use Rattle.bits.proofs.Digits.{eq?, digit-lt, digit-or}
 use Rattle.bits.proofs.Decide.{true-is-not-false}
 use Rattle.bits.proofs.Members.{and-both}
 use Rattle.bits.proofs.Parts.{part-le, members, part-trans, minus-part, the-member, member-of-more, minus-member-less, part-and-less}
+use borrow.Author.Count.{below-more}
 use Rattle.rows.proofs.Sets.{own-rows, own-row-fewer}
 
 -- ---- one row
@@ -67,9 +68,7 @@ module _ (rows : List ℕ) (s free b : ℕ) where
 
   pub barred-more : (n : ℕ) → BarredBelow rows n s free b → Barred rows s free b (getD rows n 0) → BarredBelow rows (n + 1) s free b
   unfolding BarredBelow
-  barred-more n h g k lt =
-      ⊎-elim (λ (e : k ≡ n). subst (λ (j : ℕ). Barred rows s free b (getD rows j 0)) (sym e) g)
-      (λ (e : k ≡ n → ⊥). h k (omega arith)) (eq? k n)
+  barred-more n h g = below-more (λ k. Barred rows s free b (getD rows k 0)) n h g
 
   -- each member of an irredundant cover has a row of its own
   pub barred-all : (n : ℕ) → Member s b → length rows ≤ n → BarredBelow rows n s free b → NoneBetween rows s free

@@ -1,54 +1,46 @@
 // The exact test of the lister: whether a set can still grow to an irredundant cover.
 //
-// `settle` narrows as crate `lister_narrowing` does and then tests. Each member of an irredundant cover has a row of its own, so the test gives each
-// member a private row to keep: none of that row's free candidates may then be taken. Only `false` says something, so what is asked first,
-// what is asked together and where to stop asking are free to choose.
+// `settle` narrows as crate `lister_narrowing` does and then tests. Each member of an irredundant cover has a row of its own, so the test gives
+// each member a private row to keep: none of that row's free candidates may then be taken. Only `false` says something, so what is asked first,
+// what is asked together and where to stop asking are free to choose: the functions that only choose have no contract.
 ghost use mathlib.Core.Path.{_≡_};
 ghost use mathlib.Core.Bool.{true, false};
 ghost use Prim.Native.Nat.{_<_};
 ghost use Rattle.bits.specs.Bits.{Part, Member};
-ghost use Rattle.lister_narrowing.specs.Pruning.{NoneBetween, Tightened};
+ghost use Rattle.lister_narrowing.specs.Narrowing.{NoneBetween, Tightened};
 ghost use Rattle.lister_extension.specs.Extension.{NoneLeft};
 use bits::set;
 use lister_narrowing::Tight;
 use rows::covering;
 
 // For each member of s, the free candidates of its private row with fewest of them, and how many private rows it has.
-pub struct Survey {
+struct Survey {
     pub lightest: [u64; 64],
     pub count: [u64; 64],
 }
 
 // Members without a private row that nothing free can meet, and the free candidates of the rows that they would keep.
-pub struct Claim {
+struct Claim {
     pub pending: u64,
     pub taken: u64,
 }
 
 // Members that hang together, and the free candidates of their rows.
-pub struct Group {
+struct Group {
     pub members: u64,
     pub reach: u64,
 }
 
 // One more; 65535 stands for more.
-pub fn more(n: u64) -> u64 {
+fn more(n: u64) -> u64 {
     if n < 65535 {
         return n + 1;
     }
     n
 }
 
-// The one of x and y with fewer members, x if they are equal.
-pub fn lighter(x: u64, y: u64) -> u64 {
-    if u64::count_ones(y) < u64::count_ones(x) {
-        return y;
-    }
-    x
-}
-
 // One pass over the private rows. A member without a private row keeps all ones, as if its lightest row had every candidate.
-pub fn private_rows(rows: &[u64], s: u64, free: u64) -> Survey {
+fn private_rows(rows: &[u64], s: u64, free: u64) -> Survey {
     let mut lightest = [0xffff_ffff_ffff_ffffu64; 64];
     let mut count = [0u64; 64];
     let mut i = 0;
@@ -56,8 +48,8 @@ pub fn private_rows(rows: &[u64], s: u64, free: u64) -> Survey {
         let row = rows[i];
         let own = row & s;
         if set::is_single(own) {
-            let k = lister_narrowing::place(own);
-            lightest[k] = lighter(lightest[k], row & free);
+            let k = set::index(own);
+            lightest[k] = set::fewer(lightest[k], row & free);
             count[k] = more(count[k]);
         }
         i += 1;
@@ -66,13 +58,13 @@ pub fn private_rows(rows: &[u64], s: u64, free: u64) -> Survey {
 }
 
 // What the members of q claim if each keeps its lightest row.
-pub fn claims(lightest: [u64; 64], q: u64) -> Claim {
+fn claims(lightest: [u64; 64], q: u64) -> Claim {
     let mut pending: u64 = 0;
     let mut taken: u64 = 0;
     let mut rest = q;
     while rest != 0 {
         let b = set::lowest(rest);
-        let k = lister_narrowing::place(b);
+        let k = set::index(b);
         if lightest[k] != 0 {
             pending = pending | b;
             taken = taken | lightest[k];
@@ -82,8 +74,8 @@ pub fn claims(lightest: [u64; 64], q: u64) -> Claim {
     Claim { pending, taken }
 }
 
-// The member of q with fewest private rows, the lowest among equals.
-pub fn scarcest(count: [u64; 64], q: u64) -> u64
+// The member of q with fewest private rows, the lowest among equals. The contract says only that it is one of q.
+fn scarcest(count: [u64; 64], q: u64) -> u64
     requires { ⌜ 0 < q ⌝ }
     ensures { λ r. ⌜ Member q r ⌝ }
 {
@@ -92,7 +84,7 @@ pub fn scarcest(count: [u64; 64], q: u64) -> u64
     let mut rest = q;
     while rest != 0 {
         let b = set::lowest(rest);
-        let k = lister_narrowing::place(b);
+        let k = set::index(b);
         if count[k] < fewest {
             pick = b;
             fewest = count[k];
@@ -103,7 +95,7 @@ pub fn scarcest(count: [u64; 64], q: u64) -> u64
 }
 
 // The free candidates that the private rows of the members of q have.
-pub fn claimable(rows: &[u64], s: u64, free: u64, q: u64) -> u64 {
+fn claimable(rows: &[u64], s: u64, free: u64, q: u64) -> u64 {
     let mut acc: u64 = 0;
     let mut i = 0;
     while i < rows.len() {
@@ -117,7 +109,7 @@ pub fn claimable(rows: &[u64], s: u64, free: u64, q: u64) -> u64 {
 
 // Whether a row links to the group: it is private to one of its members, or it has a candidate in reach and is private to another member
 // of q, or unmet with no free candidate outside all. (With one outside, it is met whatever the members keep.)
-pub fn links(row: u64, s: u64, free: u64, q: u64, all: u64, group: Group) -> bool {
+fn links(row: u64, s: u64, free: u64, q: u64, all: u64, group: Group) -> bool {
     let own = lister_narrowing::only(row & s) & q;
     if own & group.members != 0 {
         return true;
@@ -132,7 +124,7 @@ pub fn links(row: u64, s: u64, free: u64, q: u64, all: u64, group: Group) -> boo
 }
 
 // The group with what links to it, in one pass.
-pub fn joined(rows: &[u64], s: u64, free: u64, q: u64, all: u64, group: Group) -> Group {
+fn joined(rows: &[u64], s: u64, free: u64, q: u64, all: u64, group: Group) -> Group {
     let mut acc = group;
     let mut i = 0;
     while i < rows.len() {
@@ -148,7 +140,7 @@ pub fn joined(rows: &[u64], s: u64, free: u64, q: u64, all: u64, group: Group) -
 }
 
 // The members of q that hang together with b: what those keep and what the others keep have no bearing on each other.
-pub fn linked(rows: &[u64], s: u64, free: u64, q: u64, b: u64) -> u64 {
+fn linked(rows: &[u64], s: u64, free: u64, q: u64, b: u64) -> u64 {
     let all = claimable(rows, s, free, q);
     let mut old = Group {
         members: b,
@@ -170,7 +162,7 @@ pub fn linked(rows: &[u64], s: u64, free: u64, q: u64, b: u64) -> u64 {
 
 // False only if t is dead or no irredundant cover lies between t.s and t.s | t.free. Asks only the members q for a row to keep: not at all
 // where each can keep its lightest; else it tries the rows of the scarcest, with those that hang together with it, and then asks the others.
-pub fn extends(rows: &[u64], t: Tight, q: u64) -> bool
+fn extends(rows: &[u64], t: Tight, q: u64) -> bool
     requires { ⌜ Part q (t .s) ⌝ }
     ensures { λ r. ⌜ (r ≡ false → NoneLeft (now (rows .entry)) t) ⌝ }
 {
@@ -198,7 +190,7 @@ pub fn extends(rows: &[u64], t: Tight, q: u64) -> bool
 }
 
 // False only if no irredundant cover lies between s and s | free: b keeps one private row after the other, and the members q are asked.
-pub fn tries(rows: &[u64], s: u64, free: u64, b: u64, q: u64) -> bool
+fn tries(rows: &[u64], s: u64, free: u64, b: u64, q: u64) -> bool
     requires { ⌜ Member s b ⌝ }
     ensures { λ r. ⌜ (r ≡ false → NoneBetween (now (rows .entry)) s free) ⌝ }
 {
@@ -216,7 +208,8 @@ pub fn tries(rows: &[u64], s: u64, free: u64, b: u64, q: u64) -> bool
     false
 }
 
-// Narrows s and free as `lister_narrowing::narrow` does, and tests exactly what is left.
+// Narrows s and free as `lister_narrowing::narrow` does, and tests exactly what is left. The contract says only that no irredundant cover is
+// lost.
 pub fn settle(rows: &[u64], s: u64, free: u64) -> Tight
     ensures { λ r. ⌜ Tightened (now (rows .entry)) s free r ⌝ }
 {

@@ -3,48 +3,24 @@ use mathlib.Core.Path.{_≡_, refl, sym, ap, _∙_, subst}
 use mathlib.Core.Bool.{true, false}
 use mathlib.Core.Logic.{⊎-elim}
 use mathlib.Core.List.{List}
-use Prim.Native.Nat.{ℕ, zero, suc, _+_, _*_, _/_, _%_, _^_, _≤_, _<_}
-use native.Mathlib.Nat.{pow-suc}
-use native.Mathlib.Decide.{decLt}
+use Prim.Native.Nat.{ℕ, _+_, _^_, _≤_, _<_}
 use native.Mathlib.Omega.{arith}
 use lib.ListN.{length, getD, set, length-set}
-use lib.Pow.{pow-pos, pow-mono}
+use lib.Pow.{pow-pos}
 use lib.Seq.{getD-set-same, getD-set-other}
-use lib.Count.{trailingZeros, under}
 use lib.Bits.{bitAnd, bitOr}
 use Rattle.lister_narrowing.specs.declared.Scan.{Scan}
 use Rattle.bits.specs.Bits.{digit, Single, Part, Member}
-use Rattle.rows.specs.Covers.{PrivatesOf}
-use Rattle.lister_narrowing.specs.Pruning.{Unmet, NoneBetween, Forced, Taken, Only, United, Scanned}
+use Rattle.rows.specs.Covers.{PrivatesOf, Unmet}
+use Rattle.lister_narrowing.specs.Narrowing.{NoneBetween, Forced, Taken, Only, United, Scanned}
 use Rattle.bits.proofs.Digits.{eq?, digit-lt, digit-or, pow-here, pow-only}
 use Rattle.bits.proofs.Decide.{true-is-not-false}
 use Rattle.bits.proofs.Members.{and-left, and-right, not-zero}
-use Rattle.bits.proofs.Parts.{members, by-members}
+use Rattle.bits.proofs.Parts.{members}
+use borrow.Author.Count.{below-more}
 use Rattle.rows.proofs.Sets.{privates-none, privates-skip, privates-take, privates-done}
+use Rattle.rows.proofs.Unmet.{unmet-none, unmet-met, unmet-more, unmet-all}
 use Rattle.lister_narrowing.proofs.Tightening.{row-forces}
-
--- ---- the number of a member
-
-trailing-power : (k b : ℕ) → b < k → trailingZeros k (2 ^ b) ≡ b
-unfolding trailingZeros
-trailing-power zero b lt = absurd (omega arith)
-trailing-power (suc k) zero lt = refl
-trailing-power (suc k) (suc b) lt =
-    let e : 2 ^ suc b ≡ 2 ^ b * 2 = pow-suc 2 b in
-    let even : 2 ^ suc b % 2 ≡ 0 = omega arith in
-    let half : 2 ^ suc b / 2 ≡ 2 ^ b = omega arith in
-    ap (λ (d : ℕ). under d (trailingZeros k (2 ^ suc b / 2))) even
-    ∙ ap (λ (n : ℕ). suc (trailingZeros k n)) half
-    ∙ ap suc (trailing-power k b (omega arith))
-
-pub placed : (m : ℕ) → Single m → m < 2 ^ 64 → (trailingZeros 64 m < 64) × (m ≡ 2 ^ trailingZeros 64 m)
-unfolding Single
-placed m one fits =
-    let b : ℕ = one .0 in
-    let small : b < 64
-    = elim (decLt b 64) [ yes lt ↦ lt | no ge ↦ absurd (let le : 64 ≤ b = omega arith in let p : 2 ^ 64 ≤ 2 ^ b = pow-mono le in omega (arith, one .1)) ] in
-    let e : trailingZeros 64 m ≡ b = ap (trailingZeros 64) (one .1) ∙ trailing-power 64 b small in
-    (omega arith, one .1 ∙ ap (λ (k : ℕ). 2 ^ k) (sym e))
 
 power-not-zero : (x b : ℕ) → x ≡ 0 → x ≡ 2 ^ b → ⊥
 power-not-zero x b z e = omega (arith, pow-pos b)
@@ -66,42 +42,21 @@ united-more common s rest acc m k u p one e c q =
 
 -- ---- the rows passed
 
-part-or-left : (x a b : ℕ) → Part x a → Part x (bitOr a b)
-part-or-left x a b p =
-    by-members x (bitOr a b) (λ c m. omega (arith, members x a p c m, digit-or c a b, digit-lt c b))
-
-part-or-right : (a b : ℕ) → Part b (bitOr a b)
-part-or-right a b = by-members b (bitOr a b) (λ c m. omega (arith, digit-or c a b, digit-lt c a))
-
-unmet-skip : (rows : List ℕ) (n s u : ℕ) → Unmet rows n s u → (bitAnd (getD rows n 0) s ≡ 0 → ⊥) → Unmet rows (n + 1) s u
-unfolding Unmet
-unmet-skip rows n s u h m k lt z =
-    ⊎-elim (λ e. absurd (m (subst (λ (j : ℕ). bitAnd (getD rows j 0) s ≡ 0) e z))) (λ d. h k (omega arith) z) (eq? k n)
-
-unmet-take : (rows : List ℕ) (n s u : ℕ) → Unmet rows n s u → Unmet rows (n + 1) s (bitOr u (getD rows n 0))
-unfolding Unmet
-unmet-take rows n s u h k lt z =
-    ⊎-elim
-    (λ e. subst (λ (j : ℕ). Part (getD rows j 0) (bitOr u (getD rows n 0))) (sym e) (part-or-right u (getD rows n 0)))
-    (λ d. part-or-left (getD rows k 0) u (getD rows n 0) (h k (omega arith) z))
-    (eq? k n)
-
 -- a is in each row among the first n whose only member of s is b
 unfoldable pub Common : List ℕ → ℕ → ℕ → ℕ → ℕ → Type 0
 Common rows n s b a = (k : ℕ) → k < n → bitAnd (getD rows k 0) s ≡ 2 ^ b → (c : ℕ) → digit c a ≡ 1 → digit c (getD rows k 0) ≡ 1
 
 common-skip : (rows : List ℕ) (n s b a : ℕ) → Common rows n s b a → (bitAnd (getD rows n 0) s ≡ 2 ^ b → ⊥) → Common rows (n + 1) s b a
 unfolding Common
-common-skip rows n s b a h d k lt z =
-    ⊎-elim (λ e. absurd (d (subst (λ (j : ℕ). bitAnd (getD rows j 0) s ≡ 2 ^ b) e z))) (λ q. h k (omega arith) z) (eq? k n)
+common-skip rows n s b a h d =
+    below-more (λ k. bitAnd (getD rows k 0) s ≡ 2 ^ b → (c : ℕ) → digit c a ≡ 1 → digit c (getD rows k 0) ≡ 1) n h (λ z. absurd (d z))
 
 common-take : (rows : List ℕ) (n s b a : ℕ) → Common rows n s b a → Common rows (n + 1) s b (bitAnd a (getD rows n 0))
 unfolding Common
-common-take rows n s b a h k lt z c m =
-    ⊎-elim
-    (λ e. subst (λ (j : ℕ). digit c (getD rows j 0) ≡ 1) (sym e) (and-right c a (getD rows n 0) m))
-    (λ q. h k (omega arith) z c (and-left c a (getD rows n 0) m))
-    (eq? k n)
+common-take rows n s b a h =
+    below-more (λ k. bitAnd (getD rows k 0) s ≡ 2 ^ b → (c : ℕ) → digit c (bitAnd a (getD rows n 0)) ≡ 1 → digit c (getD rows k 0) ≡ 1) n
+    (λ k lt z c m. h k lt z c (and-left c a (getD rows n 0) m))
+    (λ z c m. and-right c a (getD rows n 0) m)
 
 forced-none : (rows : List ℕ) (s free : ℕ) → Forced rows s free 0
 unfolding Forced
@@ -123,12 +78,12 @@ pub record Passed (rows : List ℕ) (s free n : ℕ) (common : List ℕ) (owners
   pub must : Forced rows s free forced
 
 pub passed-none : (rows : List ℕ) (s free : ℕ) (common : List ℕ) → length common ≡ 64 → Passed rows s free 0 common 0 0 0
-unfolding Common Unmet
+unfolding Common
 passed-none rows s free common l = record {
   size = l;
   shared = λ b k lt. absurd (omega arith);
   private-rows = privates-none rows s;
-  unmet-rows = λ k lt. absurd (omega arith);
+  unmet-rows = unmet-none rows s;
   must = forced-none rows s free;
 }
 
@@ -141,9 +96,9 @@ module _ (rows : List ℕ) (s free n : ℕ) (common : List ℕ) (owners unmet fo
     size = h .size;
     shared = λ b. common-skip rows n s b (getD common b 0) (h .shared b) (λ e. power-not-zero (bitAnd (getD rows n 0) s) b z e);
     private-rows = privates-skip rows n s owners (h .private-rows) (λ one. power-not-zero (bitAnd (getD rows n 0) s) (one .0) z (one .1));
-    unmet-rows = unmet-take rows n s unmet (h .unmet-rows);
+    unmet-rows = unmet-more rows n s unmet (h .unmet-rows);
     must = forced-or rows s free forced r (h .must) (⊎-elim
-        (λ (e : r ≡ 0). subst (Forced rows s free) (sym e) (forced-none rows s free))
+        (λ q. subst (Forced rows s free) (sym (q .0)) (forced-none rows s free))
         (λ q. subst (Forced rows s free) (sym (q .0)) (row-forces rows s free n lt z (q .1)))
         o);
   }
@@ -161,7 +116,7 @@ module _ (rows : List ℕ) (s free n : ℕ) (common : List ℕ) (owners unmet fo
         (common-skip rows n s b (getD common b 0) (h .shared b) (λ f. q (pow-only b k (sym (ap (digit b) (sym f ∙ e)) ∙ pow-here b)))))
         (eq? b k);
     private-rows = privates-take rows n s owners (h .private-rows) (k, e);
-    unmet-rows = unmet-skip rows n s unmet (h .unmet-rows) (λ z. power-not-zero (bitAnd (getD rows n 0) s) k z e);
+    unmet-rows = unmet-met rows n s unmet (h .unmet-rows) (λ z. power-not-zero (bitAnd (getD rows n 0) s) k z e);
     must = h .must;
   }
     where
@@ -175,7 +130,7 @@ module _ (rows : List ℕ) (s free n : ℕ) (common : List ℕ) (owners unmet fo
     size = h .size;
     shared = λ b. common-skip rows n s b (getD common b 0) (h .shared b) (λ e. d (b, e));
     private-rows = privates-skip rows n s owners (h .private-rows) d;
-    unmet-rows = unmet-skip rows n s unmet (h .unmet-rows) z;
+    unmet-rows = unmet-met rows n s unmet (h .unmet-rows) z;
     must = h .must;
   }
 
@@ -188,7 +143,7 @@ module _ (rows : List ℕ) (s free n : ℕ) (common : List ℕ) (owners unmet fo
       record {
         lost = λ f. absurd (true-is-not-false (sym f));
         owners = λ f. privates-done rows n s owners e (h .private-rows);
-        unmet = λ f. subst (λ (j : ℕ). Unmet rows j s unmet) e (h .unmet-rows);
+        unmet = λ f. unmet-all rows n s unmet e (h .unmet-rows);
         forced = λ f. h .must;
         taken = λ f c m.
             let q : (b : ℕ) × (digit b s ≡ 1) × (digit c (getD common b 0) ≡ 1) = u c m in

@@ -1,6 +1,6 @@
 -- The narrowing of a set and what it can grow by: each step loses no irredundant cover.
 use mathlib.Core.Path.{_≡_, refl, sym, ap, _∙_, subst}
-use mathlib.Core.Bool.{Bool, true, false, not}
+use mathlib.Core.Bool.{Bool, true, false}
 use mathlib.Core.Logic.{inl, inr, ⊎-elim}
 use mathlib.Core.List.{List}
 use Prim.Native.Nat.{ℕ, _^_, _<_}
@@ -10,8 +10,8 @@ use lib.Bits.{bitAnd, bitOr, and-le-l}
 use Rattle.lister_narrowing.specs.declared.Tight.{Tight}
 use Rattle.lister_narrowing.specs.declared.Scan.{Scan}
 use Rattle.bits.specs.Bits.{digit, Single, Minus}
-use Rattle.rows.specs.Covers.{Irredundant, Own, Between}
-use Rattle.lister_narrowing.specs.Pruning.{Unmet, IrredundantBetween, NoneBetween, Forced, Taken, Scanned, Stuck, Tightened}
+use Rattle.rows.specs.Covers.{IrredundantCover, Own, Unmet, Between}
+use Rattle.lister_narrowing.specs.Narrowing.{IrredundantBetween, NoneBetween, Forced, Taken, Scanned, Stuck, Tightened}
 use Rattle.bits.proofs.Digits.{eq?, digit-lt, digit-or, a-member, pow-here, pow-only}
 use Rattle.bits.proofs.Decide.{true-is-not-false}
 use Rattle.bits.proofs.Members.{and-left, and-right, and-both, not-zero}
@@ -45,14 +45,14 @@ module _ (rows : List ℕ) (s free k : ℕ) (lt : k < length rows) (z : bitAnd (
   x = getD rows k 0
 
   pub row-lost : bitAnd (getD rows k 0) free ≡ 0 → NoneBetween rows s free
-  unfolding NoneBetween IrredundantBetween Irredundant
+  unfolding NoneBetween IrredundantBetween IrredundantCover
   row-lost e t w =
       let m : (b : ℕ) × (digit b (bitAnd x free) ≡ 1) × (digit b t ≡ 1) = meets rows s free k lt z t (w .0 .0) (w .1) in
       not-zero (m .0) (bitAnd x free) (m .1) e
 
   -- the only free candidate of the row is in each cover
   pub row-forces : Single (bitAnd (getD rows k 0) free) → Forced rows s free (bitAnd (getD rows k 0) free)
-  unfolding Forced Single IrredundantBetween Irredundant
+  unfolding Forced Single IrredundantBetween IrredundantCover
   row-forces one b m = (
     λ p. not-zero b (bitAnd x s) (and-both b x s (and-left b x free m) p) z,
     λ t w.
@@ -132,9 +132,9 @@ module _ (rows : List ℕ) (s free t : ℕ) (w : IrredundantBetween rows s free 
       ),
     )
 
-pub settled : (rows : List ℕ) (s free : ℕ) (g : Scan) → Scanned rows s free g → (left rest : ℕ) (d : Bool) → Minus (bitAnd free (g .unmet)) (g .taken) left
+pub tightened-once : (rows : List ℕ) (s free : ℕ) (g : Scan) → Scanned rows s free g → (left rest : ℕ) (d : Bool) → Minus (bitAnd free (g .unmet)) (g .taken) left
     → Minus left (g .forced) rest → (d ≡ true → Stuck g s) → Tightened rows s free (record { dead = d; s = bitOr s (g .forced); free = rest })
-settled rows s free g h left rest d dl dr f = record {
+tightened-once rows s free g h left rest d dl dr f = record {
   less = omega (
     arith,
     part-le rest left (minus-part left (g .forced) rest dr),
@@ -154,19 +154,14 @@ settled rows s free g h left rest d dl dr f = record {
 abbrev pub untouched : ℕ → ℕ → Tight
 untouched s free = record { dead = false; s = s; free = free }
 
-pub narrowed-self : (rows : List ℕ) (s free : ℕ) → Tightened rows s free (untouched s free)
-narrowed-self rows s free = record { less = omega arith; keeps = λ t w. (refl, w) }
+pub tightened-self : (rows : List ℕ) (s free : ℕ) → Tightened rows s free (untouched s free)
+tightened-self rows s free = record { less = omega arith; keeps = λ t w. (refl, w) }
 
-pub narrowed-more : (rows : List ℕ) (s free base rest : ℕ) (r : Tight) → Tightened rows s free (untouched base rest) → Tightened rows base rest r
+pub tightened-more : (rows : List ℕ) (s free base rest : ℕ) (r : Tight) → Tightened rows s free (untouched base rest) → Tightened rows base rest r
     → Tightened rows s free r
-narrowed-more rows s free base rest r n h = record { less = omega (arith, n .less, h .less); keeps = λ t w. h .keeps t (n .keeps t w .1) }
+tightened-more rows s free base rest r n h = record { less = omega (arith, n .less, h .less); keeps = λ t w. h .keeps t (n .keeps t w .1) }
 
-pub narrowed-on : (rows : List ℕ) (s free base rest : ℕ) (r : Tight) → Tightened rows s free (untouched base rest) → Tightened rows base rest r
+pub tightened-on : (rows : List ℕ) (s free base rest : ℕ) (r : Tight) → Tightened rows s free (untouched base rest) → Tightened rows base rest r
     → Tightened rows s free (untouched (r .s) (r .free))
-narrowed-on rows s free base rest r n h =
+tightened-on rows s free base rest r n h =
     record { less = omega (arith, n .less, h .less); keeps = λ t w. (refl, h .keeps t (n .keeps t w .1) .1) }
-
--- where it is not alive there is none
-pub narrowed-dead : (rows : List ℕ) (s free : ℕ) (r : Tight) → Tightened rows s free r → not (r .dead) ≡ false → NoneBetween rows s free
-unfolding NoneBetween
-narrowed-dead rows s free r h e t w = true-is-not-false (sym (ap not (h .keeps t w .0)) ∙ e)

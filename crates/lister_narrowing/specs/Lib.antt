@@ -1,1 +1,1 @@
-pub mod Pruning
+pub mod Narrowing

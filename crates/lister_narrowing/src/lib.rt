@@ -1,12 +1,11 @@
 // The quick test of the lister, over rows as crate `rows` has them: what a set can still grow to.
 //
 // `narrow` excludes and takes candidates, pass by pass over the rows, until a pass changes nothing or finds that no irredundant cover is
-// left. Every function here may be as clever as it likes: its contract only says that no irredundant cover is lost.
+// left. Every function here may be as clever as it likes: its contract only says that no irredundant cover is lost. How much is excluded is
+// measured by the benchmark.
 ghost use mathlib.Core.Path.{_≡_};
-ghost use mathlib.Core.Bool.{true, false};
-ghost use Prim.Native.Nat.{_^_, _<_};
-ghost use Rattle.bits.specs.Bits.{Single};
-ghost use Rattle.lister_narrowing.specs.Pruning.{Only, United, Scanned, Stuck, NoneBetween, Tightened};
+ghost use mathlib.Core.Bool.{true};
+ghost use Rattle.lister_narrowing.specs.Narrowing.{Only, United, Scanned, Stuck, Tightened};
 use bits::set;
 
 // A set, what it can grow by, and whether no irredundant cover is left there.
@@ -19,20 +18,12 @@ pub struct Tight {
 // What one pass over the rows finds. A row is private to the member of s that is its only one. Where dead, some row can't be met; else
 // owners are the members of s that have a private row, unmet has all members of the rows that s does not meet, forced the free candidates
 // that are the only ones to meet some row, and taken what stands in all private rows of some member of s.
-pub struct Scan {
+struct Scan {
     pub dead: bool,
     pub owners: u64,
     pub unmet: u64,
     pub forced: u64,
     pub taken: u64,
-}
-
-// The number of the one member of m.
-pub fn place(m: u64) -> usize
-    requires { ⌜ Single m ⌝ }
-    ensures { λ r. ⌜ (r < 64) × (m ≡ 2 ^ r) ⌝ }
-{
-    u64::trailing_zeros(m) as usize
 }
 
 // x if it has exactly one member, else 0.
@@ -45,23 +36,23 @@ pub fn only(x: u64) -> u64
     0
 }
 
-// The union of common[b] over the members b of s.
-pub fn united(common: [u64; 64], s: u64) -> u64
+// The union of common[b] over the members b of s. The contract says only that r has no more.
+fn united(common: [u64; 64], s: u64) -> u64
     ensures { λ r. ⌜ United common s r ⌝ }
 {
     let mut acc: u64 = 0;
     let mut rest = s;
     while rest != 0 {
         let m = set::lowest(rest);
-        let k = place(m);
+        let k = set::index(m);
         acc = acc | common[k];
         rest = set::minus(rest, m);
     }
     acc
 }
 
-// What a pass says that meets a row without a free member.
-pub fn lost() -> Scan
+// What a pass says that meets a row without a free member. The rest then tells nothing.
+fn lost() -> Scan
     ensures { λ r. ⌜ r .dead ≡ true ⌝ }
 {
     Scan {
@@ -74,7 +65,7 @@ pub fn lost() -> Scan
 }
 
 // One pass over the rows. common[b] is what the private rows of b have in common.
-pub fn gather(rows: &[u64], s: u64, free: u64) -> Scan
+fn gather(rows: &[u64], s: u64, free: u64) -> Scan
     ensures { λ r. ⌜ Scanned (now (rows .entry)) s free r ⌝ }
 {
     let mut common = [0xffff_ffff_ffff_ffffu64; 64];
@@ -95,7 +86,7 @@ pub fn gather(rows: &[u64], s: u64, free: u64) -> Scan
         } else {
             if set::is_single(own) {
                 owners = owners | own;
-                let k = place(own);
+                let k = set::index(own);
                 common[k] = common[k] & row;
             }
         }
@@ -111,7 +102,8 @@ pub fn gather(rows: &[u64], s: u64, free: u64) -> Scan
 }
 
 // Whether a pass shows that no irredundant cover is left: a row can't be met, a member has no private row, or a forced candidate is excluded.
-pub fn stuck(found: Scan, s: u64) -> bool
+// The contract says only what `true` means.
+fn stuck(found: Scan, s: u64) -> bool
     ensures { λ r. ⌜ (r ≡ true → Stuck found s) ⌝ }
 {
     if found.dead {
@@ -124,7 +116,8 @@ pub fn stuck(found: Scan, s: u64) -> bool
 }
 
 // One pass: excludes the free candidates that meet no unmet row or stand in all private rows of some member, and takes the forced ones.
-pub fn tighten(rows: &[u64], s: u64, free: u64) -> Tight
+// The contract says only that no irredundant cover is lost.
+fn tighten(rows: &[u64], s: u64, free: u64) -> Tight
     ensures { λ r. ⌜ Tightened (now (rows .entry)) s free r ⌝ }
 {
     let found = gather(rows, s, free);
@@ -136,7 +129,7 @@ pub fn tighten(rows: &[u64], s: u64, free: u64) -> Tight
     }
 }
 
-// Tightens s and free until nothing changes.
+// Tightens s and free until nothing changes. The contract says only that no irredundant cover is lost.
 pub fn narrow(rows: &[u64], s: u64, free: u64) -> Tight
     ensures { λ r. ⌜ Tightened (now (rows .entry)) s free r ⌝ }
 {
@@ -153,11 +146,4 @@ pub fn narrow(rows: &[u64], s: u64, free: u64) -> Tight
         base = t.s;
         rest = t.free;
     }
-}
-
-// False only if no irredundant cover lies between s and s | free.
-pub fn alive(rows: &[u64], s: u64, free: u64) -> bool
-    ensures { λ r. ⌜ (r ≡ false → NoneBetween (now (rows .entry)) s free) ⌝ }
-{
-    !narrow(rows, s, free).dead
 }

@@ -16,7 +16,7 @@ use Rattle.model.proofs.Bits.{bit-lt, within-le}
 use Rattle.model.proofs.Matrix.{from-length}
 use Rattle.bits.proofs.Digits.{eq?, digit-bit, a-member}
 use Rattle.bits.proofs.Members.{and-left, and-right, and-both, not-zero, part-of, to-part}
-use Rattle.rows.specs.Covers.{Cover, Irredundant}
+use Rattle.rows.specs.Covers.{Cover, IrredundantCover}
 
 -- ---- members by their numbers
 
@@ -87,15 +87,16 @@ module _ (costs rows : List ℕ) where
       let z : 0 + m .0 ≡ m .0 = omega arith in
       some-i (λ i. bit i r) (subst (λ (x : ℕ). List·Memᴰ x (members (below (length costs)) s)) z i) (digit-bit (m .0) r .1 (and-left (m .0) r s (m .1))))
 
-  size : length (ofRows costs rows .cands) ≡ length costs
-  size = from-length 0 (length costs)
+  -- as many candidates as costs
+  pub of-rows-size : length (ofRows costs rows .cands) ≡ length costs
+  of-rows-size = from-length 0 (length costs)
 
-  pub irredundant-to : (s : ℕ) → model.Irredundant (ofRows costs rows) s → (s < 2 ^ length costs) × Irredundant rows s
-  unfolding Irredundant
+  pub irredundant-to : (s : ℕ) → model.Irredundant (ofRows costs rows) s → (s < 2 ^ length costs) × IrredundantCover rows s
+  unfolding IrredundantCover
   irredundant-to s r = (small, (cover-to s (r .covering), λ t p c. ⊎-elim (λ (e : t ≡ s). e) (λ (d : t ≡ s → ⊥). absurd (r .tight t (inside t p) d (cover-from t (less t p) c))) (eq? t s)))
     where
       small : s < 2 ^ length costs
-      small = subst (λ (n : ℕ). s < 2 ^ n) size (r .among)
+      small = subst (λ (n : ℕ). s < 2 ^ n) of-rows-size (r .among)
 
       inside : (t : ℕ) → bitAnd t s ≡ t → model.Within t s
       inside t p i b = digit-bit i s .1 (part-of t s p i (digit-bit i t .0 b))
@@ -103,10 +104,10 @@ module _ (costs rows : List ℕ) where
       less : (t : ℕ) → bitAnd t s ≡ t → t < 2 ^ length costs
       less t p = omega (arith, within-le t s (inside t p), small)
 
-  pub irredundant-from : (s : ℕ) → s < 2 ^ length costs → Irredundant rows s → model.Irredundant (ofRows costs rows) s
-  unfolding Irredundant
+  pub irredundant-from : (s : ℕ) → s < 2 ^ length costs → IrredundantCover rows s → model.Irredundant (ofRows costs rows) s
+  unfolding IrredundantCover
   irredundant-from s l r = record {
-    among = subst⁻¹ (λ (n : ℕ). s < 2 ^ n) size l;
+    among = subst⁻¹ (λ (n : ℕ). s < 2 ^ n) of-rows-size l;
     covering = cover-from s l (r .0);
     tight = λ a w d c. d (r .1 a (to-part a s (λ b m. digit-bit b s .0 (w b (digit-bit b a .1 m)))) (cover-to a c));
   }

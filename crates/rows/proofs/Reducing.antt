@@ -10,10 +10,11 @@ use lib.ListN.{length, getD, set, take}
 use lib.Seq.{getD-set-same, getD-set-other, getD-take, length-take-le}
 use lib.Bits.{bitAnd}
 use Rattle.bits.specs.Bits.{digit, Part}
-use Rattle.rows.specs.Covers.{Cover, Irredundant}
+use Rattle.rows.specs.Covers.{Cover}
 use Rattle.rows.specs.Reduction.{Lets, Kept, Reduced}
 use Rattle.bits.proofs.Digits.{eq?, a-member}
 use Rattle.bits.proofs.Members.{and-left, and-right, and-both, not-zero}
+use borrow.Author.Count.{below-more}
 use Rattle.bits.proofs.Parts.{part-le, members, part-self, part-trans}
 
 -- ---- every row contains one that is kept
@@ -44,10 +45,7 @@ module _ (rows : List ℕ) where
   kept? i (suc n) =
       ⊎-elim
       (λ l. ⊎-elim
-      (λ f. inl (λ j lt. ⊎-elim
-      (λ e. subst (λ (k : ℕ). Lets (getD rows k 0) k (getD rows i 0) i) (sym e) l)
-      (λ d. f j (omega arith))
-      (eq? j n)))
+      (λ f. inl (λ j lt. below-more (λ k. Lets (getD rows k 0) k (getD rows i 0) i) n f l j (omega arith)))
       (λ r. inr (r .0, omega (arith, r .1), r .2, r .3))
       (kept? i n))
       (λ r. inr (n, omega arith, r .0, r .1))
@@ -90,7 +88,7 @@ module _ (rows out : List ℕ) (n i : ℕ) (g : Gathered rows out n i) where
   gathered-skip not = record {
     few = omega (arith, g .few);
     each = λ k lt. let r : (j : ℕ) × (j < i) × Kept rows j × (getD out k 0 ≡ getD rows j 0) = g .each k lt in (r .0, omega (arith, r .1), r .2, r .3);
-    all = λ j lt q. ⊎-elim (λ e. absurd (not (subst (Kept rows) e q))) (λ d. g .all j (omega arith) q) (eq? j i);
+    all = below-more (λ j. Kept rows j → (k : ℕ) × (k < n) × (getD out k 0 ≡ getD rows j 0)) i (g .all) (λ q. absurd (not q));
     apart = g .apart;
   }
 
@@ -98,18 +96,16 @@ module _ (rows out : List ℕ) (n i : ℕ) (g : Gathered rows out n i) where
   unfolding Kept Lets
   gathered-take room lt kept = record {
     few = omega (arith, g .few);
-    each = λ k l. ⊎-elim
-        (λ e. (i, omega arith, kept, at-n k e))
-        (λ d.
-        let r : (j : ℕ) × (j < i) × Kept rows j × (getD out k 0 ≡ getD rows j 0) = g .each k (omega arith) in
-        (r .0, omega (arith, r .1), r .2, other k d ∙ r .3))
-        (eq? k n);
-    all = λ j l q. ⊎-elim
-        (λ e. (n, omega arith, at-n n refl ∙ ap (λ (v : ℕ). getD rows v 0) (sym e)))
-        (λ d.
-        let r : (k : ℕ) × (k < n) × (getD out k 0 ≡ getD rows j 0) = g .all j (omega arith) q in
+    each = below-more (λ k. (j : ℕ) × (j < i + 1) × Kept rows j × (getD out' k 0 ≡ getD rows j 0)) n
+        (λ k l.
+        let r : (j : ℕ) × (j < i) × Kept rows j × (getD out k 0 ≡ getD rows j 0) = g .each k l in
+        (r .0, omega (arith, r .1), r .2, other k (λ e. omega arith) ∙ r .3))
+        (i, omega arith, kept, at-n n refl);
+    all = below-more (λ j. Kept rows j → (k : ℕ) × (k < n + 1) × (getD out' k 0 ≡ getD rows j 0)) i
+        (λ j l q.
+        let r : (k : ℕ) × (k < n) × (getD out k 0 ≡ getD rows j 0) = g .all j l q in
         (r .0, omega (arith, r .1), other (r .0) (λ e. omega (arith, r .1)) ∙ r .2))
-        (eq? j i);
+        (λ q. (n, omega arith, at-n n refl));
     apart = λ j k a b p. ⊎-elim
         (λ e. ⊎-elim (λ f. e ∙ sym f) (λ d. absurd (no-later k (omega arith) (rewrite j k p (at-n j e) (other k d)))) (eq? k n))
         (λ d. ⊎-elim
@@ -189,11 +185,3 @@ module _ (rows out : List ℕ) (r : ℕ) (d : Reduced rows out r) where
       let w : (k : ℕ) × (k < r) × Part (getD out k 0) (getD rows j 0) = d .below j lt in
       c (w .0) (omega (arith, w .1, long))
       (ap (λ (v : ℕ). bitAnd v s) (getD-take r out (w .0) 0 (w .1)) ∙ unmet-part (getD out (w .0) 0) (getD rows j 0) s (w .2) z)
-
-  pub reduced-irredundant : (s : ℕ) → Irredundant rows s → Irredundant (take r out) s
-  unfolding Irredundant
-  reduced-irredundant s h = (reduced-cover s (h .0), λ t p c. h .1 t p (cover-reduced t c))
-
-  pub irredundant-reduced : (s : ℕ) → Irredundant (take r out) s → Irredundant rows s
-  unfolding Irredundant
-  irredundant-reduced s h = (cover-reduced s (h .0), λ t p c. h .1 t p (reduced-cover t c))

@@ -2,13 +2,14 @@
 use mathlib.Core.Path.{_≡_, refl, sym, ap, _∙_, subst}
 use mathlib.Core.Logic.{_⊎_, inl, inr, ⊎-elim}
 use mathlib.Core.List.{List}
-use Prim.Native.Nat.{ℕ, zero, suc, _+_, _-_, _^_, _<_}
+use Prim.Native.Nat.{ℕ, zero, suc, _+_, _^_, _<_}
 use native.Mathlib.Omega.{arith}
 use lib.ListN.{length, getD}
 use lib.Bits.{bitAnd, bitOr, bitXor}
 use Rattle.bits.specs.Bits.{digit, Single}
-use Rattle.rows.specs.Covers.{Cover, Irredundant, Own, PrivatesOf, Privates, Between}
+use Rattle.rows.specs.Covers.{Cover, IrredundantCover, Own, PrivatesOf, Privates, Between}
 use Rattle.bits.proofs.Members.{and-left, and-right, and-both, not-zero, part-of, to-part, without-here, without-other, without-part}
+use borrow.Author.Count.{below-more}
 use Rattle.bits.proofs.Digits.{eq?, digit-lt, digit-of-zero, digit-and, digit-or, member-ext, a-member, pow-here, pow-only}
 
 -- what covers still covers with more members
@@ -29,7 +30,7 @@ missed rows t zero = inl (λ k lt. absurd (omega arith))
 missed rows t (suc n) =
     ⊎-elim (λ e. inr (n, omega arith, e))
     (λ m. ⊎-elim
-    (λ f. inl (λ k lt z. ⊎-elim (λ e. m (subst (λ (j : ℕ). bitAnd (getD rows j 0) t ≡ 0) e z)) (λ d. f k (omega arith) z) (eq? k n)))
+    (λ f. inl (λ k lt. below-more (λ j. bitAnd (getD rows j 0) t ≡ 0 → ⊥) n f m k (omega arith)))
     (λ r. inr (r .0, omega (arith, r .1), r .2))
     (missed rows t n))
     (eq? (bitAnd (getD rows n 0) t) 0)
@@ -54,8 +55,8 @@ own-of-missed h s b m c z = member-ext (bitAnd h s) (2 ^ b) into back
     back : (d : ℕ) → digit d (2 ^ b) ≡ 1 → digit d (bitAnd h s) ≡ 1
     back d p = subst (λ (j : ℕ). digit j (bitAnd h s) ≡ 1) (only (one .0) (one .1) ∙ sym (pow-only d b p)) (one .1)
 
-pub own-rows : (rows : List ℕ) (s : ℕ) → Irredundant rows s → (b : ℕ) → digit b s ≡ 1 → Own rows (length rows) s b
-unfolding Irredundant Cover Own
+pub own-rows : (rows : List ℕ) (s : ℕ) → IrredundantCover rows s → (b : ℕ) → digit b s ≡ 1 → Own rows (length rows) s b
+unfolding IrredundantCover Cover Own
 own-rows rows s irr b m =
     ⊎-elim
     (λ f. absurd (without-here s b m
@@ -65,8 +66,8 @@ own-rows rows s irr b m =
 
 -- ---- and a cover in which each has is irredundant
 
-pub own-irredundant : (rows : List ℕ) (s : ℕ) → Cover rows s → ((b : ℕ) → digit b s ≡ 1 → Own rows (length rows) s b) → Irredundant rows s
-unfolding Irredundant Cover Own
+pub own-irredundant : (rows : List ℕ) (s : ℕ) → Cover rows s → ((b : ℕ) → digit b s ≡ 1 → Own rows (length rows) s b) → IrredundantCover rows s
+unfolding IrredundantCover Cover Own
 own-irredundant rows s c own = (
   c,
   λ t p ct. member-ext t s (part-of t s p)
@@ -110,9 +111,8 @@ own-later rows n s b r = let lt : r .0 < n = r .1 in (r .0, omega arith, r .2)
 own-split : (rows : List ℕ) (n s b : ℕ) → Own rows (n + 1) s b → Own rows n s b ⊎ (bitAnd (getD rows n 0) s ≡ 2 ^ b)
 unfolding Own
 own-split rows n s b r =
-    let lt : r .0 < n + 1 = r .1 in
-    ⊎-elim (λ e. inr (subst (λ (j : ℕ). bitAnd (getD rows j 0) s ≡ 2 ^ b) e (r .2)))
-    (λ d. inl (r .0, omega arith, r .2)) (eq? (r .0) n)
+    below-more (λ k. bitAnd (getD rows k 0) s ≡ 2 ^ b → Own rows n s b ⊎ (bitAnd (getD rows n 0) s ≡ 2 ^ b)) n
+    (λ k lt e. inl (k, lt, e)) (λ e. inr e) (r .0) (r .1) (r .2)
 
 pub privates-skip : (rows : List ℕ) (n s a : ℕ) → PrivatesOf rows n s a → (Single (bitAnd (getD rows n 0) s) → ⊥) → PrivatesOf rows (n + 1) s a
 unfolding PrivatesOf Single

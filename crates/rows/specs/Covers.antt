@@ -16,8 +16,8 @@ unfoldable pub Unmet : List ℕ → ℕ → ℕ → ℕ → Type 0
 Unmet rows n s u = (k : ℕ) → k < n → bitAnd (getD rows k 0) s ≡ 0 → Part (getD rows k 0) u
 
 -- a cover of which no other part is one
-unfoldable pub Irredundant : List ℕ → ℕ → Type 0
-Irredundant rows s = Cover rows s × ((t : ℕ) → bitAnd t s ≡ t → Cover rows t → t ≡ s)
+unfoldable pub IrredundantCover : List ℕ → ℕ → Type 0
+IrredundantCover rows s = Cover rows s × ((t : ℕ) → bitAnd t s ≡ t → Cover rows t → t ≡ s)
 
 -- a row among the first n whose only member of s is b
 unfoldable pub Own : List ℕ → ℕ → ℕ → ℕ → Type 0

@@ -1,6 +1,6 @@
 // The cover test, and the test of an irredundant cover: every row is met, and every member has a row that it alone meets.
 ghost use Rattle.bits.specs.Bits.{Decides};
-ghost use Rattle.rows.specs.Covers.{Cover, Irredundant, Privates};
+ghost use Rattle.rows.specs.Covers.{Cover, IrredundantCover, Privates};
 use bits::set;
 
 // Whether every row has a bit of m.
@@ -18,7 +18,7 @@ pub fn covers(rows: &[u64], m: u64) -> bool
 }
 
 // The members of s that are the only member of s in some row.
-pub fn privates(rows: &[u64], s: u64) -> u64
+fn privates(rows: &[u64], s: u64) -> u64
     ensures { λ r. ⌜ Privates (now (rows .entry)) s r ⌝ }
 {
     let mut acc: u64 = 0;
@@ -35,7 +35,7 @@ pub fn privates(rows: &[u64], s: u64) -> u64
 
 // Whether s is an irredundant cover: every row is met, and every member of s has a row of its own.
 pub fn irredundant(rows: &[u64], s: u64) -> bool
-    ensures { λ r. ⌜ Decides (Irredundant (now (rows .entry)) s) r ⌝ }
+    ensures { λ r. ⌜ Decides (IrredundantCover (now (rows .entry)) s) r ⌝ }
 {
     if covers(rows, s) {
         privates(rows, s) == s

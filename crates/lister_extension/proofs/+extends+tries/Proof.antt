@@ -6,7 +6,8 @@ use native.Mathlib.Omega.{arith}
 use lib.ListN.{length}
 use Rattle.bits.proofs.Decide.{true-is-not-false}
 use Rattle.bits.proofs.Parts.{part-and-left}
-use Rattle.lister_extension.proofs.Extending.{BarredBelow, barred-shared, barred-kept, barred-start, barred-more, barred-all, dead-left, none-left, asked-member, group-less, rest-part, rest-less, fewer-less}
+use Rattle.lister_extension.proofs.Extending.{BarredBelow, barred-shared, barred-kept, barred-start, barred-more, barred-all}
+use Rattle.lister_extension.proofs.Extending.{dead-left, none-left, asked-member, group-less, rest-part, rest-less, fewer-less}
 use Prim.Native.Nat.{ℕ, _+_, _-_, _≤_, _<_}
 use borrow.Fn.Kinds.{In}
 use borrow.Fn.PlainCycle.{Measures, is, falls, and}
@@ -46,7 +47,24 @@ tries-below t = and 1 tries-kinds.ps (falls 1 tries-kinds.ps _<_ μ-tries t) tri
 
 -- what is asked and learnt at each call
 abbrev E : ℕ → extends-lts.Claims
-E t = (private-rows-reads.Asked, private-rows-reads.Learnt, claims-reads.Asked, claims-reads.Learnt, minus-reads.Asked, minus-reads.Learnt, covers-reads.Asked, covers-reads.Learnt, scarcest-reads.Asked, scarcest-reads.Learnt, linked-reads.Asked, linked-reads.Learnt, tries-below t, tries.Post, extends-below t, extends.Post)
+E t = (
+  private-rows-reads.Asked,
+  private-rows-reads.Learnt,
+  claims-reads.Asked,
+  claims-reads.Learnt,
+  minus-reads.Asked,
+  minus-reads.Learnt,
+  covers-reads.Asked,
+  covers-reads.Learnt,
+  scarcest-reads.Asked,
+  scarcest-reads.Learnt,
+  linked-reads.Asked,
+  linked-reads.Learnt,
+  tries-below t,
+  tries.Post,
+  extends-below t,
+  extends.Post,
+)
 
 abbrev T : ℕ → tries-lts.Claims
 T t = (minus-reads.Asked, minus-reads.Learnt, narrow-reads.Asked, narrow-reads.Learnt, extends-below t, extends.Post)
@@ -82,13 +100,22 @@ extends-minus-requires-2 : (t : ℕ) → extends-lts.Need-minus-requires-2 (E t)
 extends-minus-requires-2 t c κs = search needs
 
 extends-tries-requires : (t : ℕ) → extends-lts.Need-tries-requires (E t) (extends-at t) extends.Post
-extends-tries-requires t c κs = (group-less _ _ _ _ _ (c .before .before .before .before .before .before .before .before .before .before .before .before .before .before .before .pre .1) (c .before .before .scarcest .ensures) (c .minus2 .ensures) _ _ (c .before .before .before .before .before .before .before .before .before .before .before .before .before .before .before .pre .0), asked-member _ _ _ _ _ (c .before .before .before .before .before .before .before .before .before .before .before .before .before .before .before .pre .1) (c .before .before .scarcest .ensures) (c .minus2 .ensures))
+extends-tries-requires t c κs =
+    let pre = c .before .before .before .before .before .before .before .before .before .before .before .before .before .before .before .pre in
+    let scarcest = c .before .before .scarcest .ensures in
+    let others = c .minus2 .ensures in
+    (group-less _ _ _ _ _ (pre .1) scarcest others _ _ (pre .0), asked-member _ _ _ _ _ (pre .1) scarcest others)
 
 extends-minus-requires-3 : (t : ℕ) → extends-lts.Need-minus-requires-3 (E t) (extends-at t) extends.Post
 extends-minus-requires-3 t c κs = search needs
 
 extends-extends-requires : (t : ℕ) → extends-lts.Need-extends-requires (E t) (extends-at t) extends.Post
-extends-extends-requires t c κs = (rest-less _ _ _ _ _ (c .before .before .before .before .before .before .before .before .before .before .before .before .before .before .before .before .before .before .pre .1) (c .before .before .before .before .before .scarcest .ensures) (c .before .before .before .minus2 .ensures) _ _ (c .minus3 .ensures) _ (c .before .before .before .before .before .before .before .before .before .before .before .before .before .before .before .before .before .before .pre .0), rest-part _ _ _ _ _ (c .before .before .before .before .before .before .before .before .before .before .before .before .before .before .before .before .before .before .pre .1) (c .before .before .before .before .before .scarcest .ensures) (c .before .before .before .minus2 .ensures) _ _ (c .minus3 .ensures))
+extends-extends-requires t c κs =
+    let pre = c .before .before .before .before .before .before .before .before .before .before .before .before .before .before .before .before .before .before .pre in
+    let scarcest = c .before .before .before .before .before .scarcest .ensures in
+    let others = c .before .before .before .minus2 .ensures in
+    let rest = c .minus3 .ensures in
+    (rest-less _ _ _ _ _ (pre .1) scarcest others _ _ rest _ (pre .0), rest-part _ _ _ _ _ (pre .1) scarcest others _ _ rest)
 
 extends-returns-4 : (t : ℕ) → extends-lts.Need-returns-4 (E t) (extends-at t) extends.Post
 extends-returns-4 t c = c .extends .ensures
@@ -118,7 +145,10 @@ tries-narrow-requires : (t : ℕ) → tries-lts.Need-narrow-requires (T t) (trie
 tries-narrow-requires t c κs = search needs
 
 tries-extends-requires : (t : ℕ) → tries-lts.Need-extends-requires (T t) (tries-at t) tries.Post tries-Inv-loop tries-μ-loop
-tries-extends-requires t c κs = (fewer-less (c .before .before .before .before .before .before .before .before .args .q) (c .before .narrow .result .s) _ (c .before .before .before .before .before .before .before .before .pre .0), part-and-left (c .before .before .before .before .before .before .before .before .args .q) (c .before .narrow .result .s))
+tries-extends-requires t c κs =
+    let start = c .before .before .before .before .before .before .before .before in
+    let grown = c .before .narrow .result .s in
+    (fewer-less (start .args .q) grown _ (start .pre .0), part-and-left (start .args .q) grown)
 
 tries-returns : (t : ℕ) → tries-lts.Need-returns (T t) (tries-at t) tries.Post tries-Inv-loop tries-μ-loop
 tries-returns t c = λ e. absurd (true-is-not-false e)
@@ -130,7 +160,13 @@ tries-loop-less : (t : ℕ) → tries-lts.Need-loop-less (T t) (tries-at t) trie
 tries-loop-less t c = search needs
 
 tries-loop-again : (t : ℕ) → tries-lts.Need-loop-again (T t) (tries-at t) tries.Post tries-Inv-loop tries-μ-loop
-tries-loop-again t c = (search needs, barred-more _ _ _ _ _ (c .before .before .before .loop .inv .1) (⊎-elim (λ w. barred-kept _ _ _ _ _ (c .before .before .before .before .before .pre .1) _ _ (w .1 .ensures) (w .2 .ensures) (w .4 .ensures (w .5 .left))) (λ w. barred-shared _ _ _ _ _ (c .before .before .before .before .before .pre .1) (w .left)) (c .if1 .came)))
+tries-loop-again t c =
+    let member = c .before .before .before .before .before .pre .1 in
+    let row = ⊎-elim
+    (λ w. barred-kept _ _ _ _ _ member _ _ (w .1 .ensures) (w .2 .ensures) (w .4 .ensures (w .5 .left)))
+    (λ w. barred-shared _ _ _ _ _ member (w .left))
+    (c .if1 .came) in
+    (search needs, barred-more _ _ _ _ _ (c .before .before .before .loop .inv .1) row)
 
 tries-returns-2 : (t : ℕ) → tries-lts.Need-returns-2 (T t) (tries-at t) tries.Post tries-Inv-loop tries-μ-loop
 tries-returns-2 t c = λ e. barred-all _ _ _ _ _ (c .before .before .before .pre .1) (c .loop-test .left) (c .before .loop .inv .1)

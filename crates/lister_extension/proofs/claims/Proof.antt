@@ -17,26 +17,26 @@ loop-holds c = tt
 lowest-requires : tie.Need-lowest-requires Inv-loop μ-loop
 lowest-requires c κs = omega (arith, c .loop-test .taken)
 
-place-requires : tie.Need-place-requires Inv-loop μ-loop
-place-requires c κs = c .lowest .ensures .single
+index-requires : tie.Need-index-requires Inv-loop μ-loop
+index-requires c κs = c .lowest .ensures .member .single
 
 mul-if1 : tie.Need-mul-if1 Inv-loop μ-loop
 mul-if1 c = search needs
 
 array-read-if1 : tie.Need-array-read-if1 Inv-loop μ-loop
-array-read-if1 c = c .place .ensures .0
+array-read-if1 c = c .index .ensures .small
 
 mul-taken : tie.Need-mul-taken Inv-loop μ-loop
 mul-taken c = search needs
 
 array-read-taken : tie.Need-array-read-taken Inv-loop μ-loop
-array-read-taken c = c .before .place .ensures .0
+array-read-taken c = c .before .index .ensures .small
 
 minus-requires : tie.Need-minus-requires Inv-loop μ-loop
 minus-requires c κs = search needs
 
 loop-less : tie.Need-loop-less Inv-loop μ-loop
-loop-less c = minus-member-less _ _ _ (c .before .before .before .lowest .ensures) (c .minus .ensures)
+loop-less c = minus-member-less _ _ _ (c .before .before .before .lowest .ensures .member) (c .minus .ensures)
 
 loop-again : tie.Need-loop-again Inv-loop μ-loop
 loop-again c = tt
@@ -52,7 +52,7 @@ claims-spec =
     μ-loop
     loop-holds
     lowest-requires
-    place-requires
+    index-requires
     mul-if1
     array-read-if1
     mul-taken

@@ -26,29 +26,29 @@ shared-slice-read-row c = search needs
 is-single-requires : tie.Need-is-single-requires Inv-loop μ-loop
 is-single-requires c κs = search needs
 
-place-requires : tie.Need-place-requires Inv-loop μ-loop
-place-requires c κs = decides-true _ _ (c .before .is-single .ensures) (c .if1 .taken)
+index-requires : tie.Need-index-requires Inv-loop μ-loop
+index-requires c κs = decides-true _ _ (c .before .is-single .ensures) (c .if1 .taken)
 
-mul-lighter : tie.Need-mul-lighter Inv-loop μ-loop
-mul-lighter c = search needs
+mul-fewer : tie.Need-mul-fewer Inv-loop μ-loop
+mul-fewer c = search needs
 
-array-read-lighter : tie.Need-array-read-lighter Inv-loop μ-loop
-array-read-lighter c = c .place .ensures .0
+array-read-fewer : tie.Need-array-read-fewer Inv-loop μ-loop
+array-read-fewer c = c .index .ensures .small
 
-lighter-requires : tie.Need-lighter-requires Inv-loop μ-loop
-lighter-requires c κs = search needs
+fewer-requires : tie.Need-fewer-requires Inv-loop μ-loop
+fewer-requires c κs = search needs
 
 mul-lightest : tie.Need-mul-lightest Inv-loop μ-loop
 mul-lightest c = search needs
 
 array-write-lightest : tie.Need-array-write-lightest Inv-loop μ-loop
-array-write-lightest c = c .before .place .ensures .0
+array-write-lightest c = c .before .index .ensures .small
 
 mul-more : tie.Need-mul-more Inv-loop μ-loop
 mul-more c = search needs
 
 array-read-more : tie.Need-array-read-more Inv-loop μ-loop
-array-read-more c = c .before .place .ensures .0
+array-read-more c = c .before .index .ensures .small
 
 more-requires : tie.Need-more-requires Inv-loop μ-loop
 more-requires c κs = search needs
@@ -57,7 +57,7 @@ mul-count : tie.Need-mul-count Inv-loop μ-loop
 mul-count c = search needs
 
 array-write-count : tie.Need-array-write-count Inv-loop μ-loop
-array-write-count c = c .before .before .place .ensures .0
+array-write-count c = c .before .before .index .ensures .small
 
 add-i : tie.Need-add-i Inv-loop μ-loop
 add-i c = search needs
@@ -66,7 +66,12 @@ loop-less : tie.Need-loop-less Inv-loop μ-loop
 loop-less c = search needs
 
 loop-again : tie.Need-loop-again Inv-loop μ-loop
-loop-again c = (search needs, ⊎-elim (λ w. ap length (w .4) ∙ simp length-set (c .before .before .before .before .loop .inv .1)) (λ w. ap length (w .1) ∙ c .before .before .before .before .loop .inv .1) (c .if1 .came), ⊎-elim (λ w. ap length (w .5) ∙ simp length-set (c .before .before .before .before .loop .inv .2)) (λ w. ap length (w .2) ∙ c .before .before .before .before .loop .inv .2) (c .if1 .came))
+loop-again c =
+    let inv = c .before .before .before .before .loop .inv in (
+      search needs,
+      ⊎-elim (λ w. ap length (w .4) ∙ simp length-set (inv .1)) (λ w. ap length (w .1) ∙ inv .1) (c .if1 .came),
+      ⊎-elim (λ w. ap length (w .5) ∙ simp length-set (inv .2)) (λ w. ap length (w .2) ∙ inv .2) (c .if1 .came),
+    )
 
 returns : tie.Need-returns Inv-loop μ-loop
 returns c = search needs
@@ -81,10 +86,10 @@ private-rows-spec =
     mul-row
     shared-slice-read-row
     is-single-requires
-    place-requires
-    mul-lighter
-    array-read-lighter
-    lighter-requires
+    index-requires
+    mul-fewer
+    array-read-fewer
+    fewer-requires
     mul-lightest
     array-write-lightest
     mul-more

@@ -18,34 +18,42 @@ lowest-requires : tie.Need-lowest-requires Inv-loop μ-loop
 lowest-requires c κs = c .pre
 
 loop-holds : tie.Need-loop-holds Inv-loop μ-loop
-loop-holds c = (c .lowest .ensures, part-self _)
+loop-holds c = (c .lowest .ensures .member, part-self _)
 
 lowest-requires-2 : tie.Need-lowest-requires-2 Inv-loop μ-loop
 lowest-requires-2 c κs = omega (arith, c .loop-test .taken)
 
-place-requires : tie.Need-place-requires Inv-loop μ-loop
-place-requires c κs = c .lowest2 .ensures .single
+index-requires : tie.Need-index-requires Inv-loop μ-loop
+index-requires c κs = c .lowest2 .ensures .member .single
 
 mul-if1 : tie.Need-mul-if1 Inv-loop μ-loop
 mul-if1 c = search needs
 
 array-read-if1 : tie.Need-array-read-if1 Inv-loop μ-loop
-array-read-if1 c = c .place .ensures .0
+array-read-if1 c = c .index .ensures .small
 
 mul-fewest : tie.Need-mul-fewest Inv-loop μ-loop
 mul-fewest c = search needs
 
 array-read-fewest : tie.Need-array-read-fewest Inv-loop μ-loop
-array-read-fewest c = c .before .place .ensures .0
+array-read-fewest c = c .before .index .ensures .small
 
 minus-requires : tie.Need-minus-requires Inv-loop μ-loop
 minus-requires c κs = search needs
 
 loop-less : tie.Need-loop-less Inv-loop μ-loop
-loop-less c = minus-member-less _ _ _ (c .before .before .before .lowest2 .ensures) (c .minus .ensures)
+loop-less c = minus-member-less _ _ _ (c .before .before .before .lowest2 .ensures .member) (c .minus .ensures)
 
 loop-again : tie.Need-loop-again Inv-loop μ-loop
-loop-again c = (⊎-elim (λ w. subst (Member _) (sym (w .1)) (member-of-more _ _ _ (c .before .before .before .before .before .loop .inv .1) (c .before .before .before .lowest2 .ensures))) (λ w. subst (Member _) (sym (w .1)) (c .before .before .before .before .before .loop .inv .0)) (c .before .if1 .came), part-trans _ _ _ (minus-part _ _ _ (c .minus .ensures)) (c .before .before .before .before .before .loop .inv .1))
+loop-again c =
+    let inv = c .before .before .before .before .before .loop .inv in
+    let lowest = c .before .before .before .lowest2 .ensures .member in (
+      ⊎-elim
+          (λ w. subst (Member _) (sym (w .1)) (member-of-more _ _ _ (inv .1) lowest))
+          (λ w. subst (Member _) (sym (w .1)) (inv .0))
+          (c .before .if1 .came),
+      part-trans _ _ _ (minus-part _ _ _ (c .minus .ensures)) (inv .1),
+    )
 
 returns : tie.Need-returns Inv-loop μ-loop
 returns c = c .before .loop .inv .0
@@ -59,7 +67,7 @@ scarcest-spec =
     lowest-requires
     loop-holds
     lowest-requires-2
-    place-requires
+    index-requires
     mul-if1
     array-read-if1
     mul-fewest

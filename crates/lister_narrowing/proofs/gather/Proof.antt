@@ -38,20 +38,20 @@ only-requires c κs = search needs
 is-single-requires : tie.Need-is-single-requires Inv-loop μ-loop
 is-single-requires c κs = search needs
 
-place-requires : tie.Need-place-requires Inv-loop μ-loop
-place-requires c κs = decides-true _ _ (c .before .is-single .ensures) (c .if3 .taken)
+index-requires : tie.Need-index-requires Inv-loop μ-loop
+index-requires c κs = decides-true _ _ (c .before .is-single .ensures) (c .if3 .taken)
 
 mul-common : tie.Need-mul-common Inv-loop μ-loop
 mul-common c = search needs
 
 array-read-common : tie.Need-array-read-common Inv-loop μ-loop
-array-read-common c = c .place .ensures .0
+array-read-common c = c .index .ensures .small
 
 mul-common-2 : tie.Need-mul-common-2 Inv-loop μ-loop
 mul-common-2 c = search needs
 
 array-write-common : tie.Need-array-write-common Inv-loop μ-loop
-array-write-common c = c .place .ensures .0
+array-write-common c = c .index .ensures .small
 
 add-i : tie.Need-add-i Inv-loop μ-loop
 add-i c = search needs
@@ -60,7 +60,16 @@ loop-less : tie.Need-loop-less Inv-loop μ-loop
 loop-less c = search needs
 
 loop-again : tie.Need-loop-again Inv-loop μ-loop
-loop-again c = (search needs, ⊎-elim (λ w. passed-as (w .3) (w .4) (w .5) (w .6) (passed-open _ _ _ _ _ _ _ _ (c .before .before .before .loop .inv .1) (omega arith) (w .0 .taken) _ (w .2 .ensures))) (⊎-elim (λ w. passed-as (w .4) (w .5) (w .6) (w .7) (passed-own _ _ _ _ _ _ _ _ (c .before .before .before .loop .inv .1) _ (w .3 .ensures .0) (w .3 .ensures .1))) (λ w. passed-as (w .3) (w .4) (w .5) (w .6) (passed-shared _ _ _ _ _ _ _ _ (c .before .before .before .loop .inv .1) (w .0 .left) (decides-false _ _ (w .1 .ensures) (w .2 .left))))) (c .if1 .came))
+loop-again c =
+    let inv = c .before .before .before .loop .inv .1 in (
+      search needs,
+      ⊎-elim
+          (λ w. passed-as (w .3) (w .4) (w .5) (w .6) (passed-open _ _ _ _ _ _ _ _ inv (omega arith) (w .0 .taken) _ (w .2 .ensures)))
+          (⊎-elim
+          (λ w. passed-as (w .4) (w .5) (w .6) (w .7) (passed-own _ _ _ _ _ _ _ _ inv _ (w .3 .ensures .small) (w .3 .ensures .is)))
+          (λ w. passed-as (w .3) (w .4) (w .5) (w .6) (passed-shared _ _ _ _ _ _ _ _ inv (w .0 .left) (decides-false _ _ (w .1 .ensures) (w .2 .left)))))
+          (c .if1 .came),
+    )
 
 united-requires : tie.Need-united-requires Inv-loop μ-loop
 united-requires c κs = search needs
@@ -81,7 +90,7 @@ gather-spec =
     returns
     only-requires
     is-single-requires
-    place-requires
+    index-requires
     mul-common
     array-read-common
     mul-common-2

@@ -1,8 +1,8 @@
 -- `lister_narrowing::only` meets its contract.
 use mathlib.Core.Path.{refl}
 use mathlib.Core.Logic.{inl, inr}
-use Rattle.lister_narrowing.specs.Pruning.{Only}
-use Rattle.bits.proofs.Decide.{decides-true}
+use Rattle.lister_narrowing.specs.Narrowing.{Only}
+use Rattle.bits.proofs.Decide.{decides-true, decides-false}
 use borrow.Author.Needs.{needs}
 use Rattle.lister_narrowing.proofs.only.Statement.{statement}
 use Rattle.lister_narrowing.proofs.only.Tie as tie
@@ -16,7 +16,7 @@ returns c = inr (refl, decides-true _ _ (c .before .is-single .ensures) (c .if1 
 
 returns-2 : tie.Need-returns-2
 unfolding Only
-returns-2 c = inl refl
+returns-2 c = inl (refl, decides-false _ _ (c .before .is-single .ensures) (c .if1 .left))
 
 pub only-spec : {M : Type 1} → statement M
 only-spec = tie.close (tie.spec is-single-requires returns returns-2)

@@ -4,7 +4,7 @@ use borrow.Author.Tests.{eq-eqb}
 use Rattle.bits.proofs.Decide.{true-is-not-false}
 use mathlib.Core.Logic.{inl, inr}
 use mathlib.Core.Path.{sym, ap, _∙_}
-use Rattle.lister_narrowing.specs.Pruning.{Stuck}
+use Rattle.lister_narrowing.specs.Narrowing.{Stuck}
 use Rattle.lister_narrowing.proofs.stuck.Statement.{statement}
 use Rattle.lister_narrowing.proofs.stuck.Tie as tie
 

@@ -1,5 +1,5 @@
 -- `lister_narrowing::tighten` meets its contract.
-use Rattle.lister_narrowing.proofs.Tightening.{settled}
+use Rattle.lister_narrowing.proofs.Tightening.{tightened-once}
 use borrow.Author.Needs.{needs}
 use Rattle.lister_narrowing.proofs.tighten.Statement.{statement}
 use Rattle.lister_narrowing.proofs.tighten.Tie as tie
@@ -17,7 +17,10 @@ minus-requires-2 : tie.Need-minus-requires-2
 minus-requires-2 c κs = search needs
 
 returns : tie.Need-returns
-returns c = settled _ _ _ _ (c .before .before .before .before .before .gather .ensures) _ _ _ (c .before .before .before .minus .ensures) (c .minus2 .ensures) (c .before .before .stuck .ensures)
+returns c =
+    let pass = c .before .before .before .before .before .gather .ensures in
+    let left = c .before .before .before .minus .ensures in
+    tightened-once _ _ _ _ pass _ _ _ left (c .minus2 .ensures) (c .before .before .stuck .ensures)
 
 pub tighten-spec : {M : Type 1} → statement M
 tighten-spec =

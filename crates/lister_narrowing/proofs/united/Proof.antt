@@ -2,7 +2,7 @@
 use borrow.Author.Needs.{needs}
 use native.Mathlib.Omega.{arith}
 use Rattle.bits.specs.Bits.{Part}
-use Rattle.lister_narrowing.specs.Pruning.{United}
+use Rattle.lister_narrowing.specs.Narrowing.{United}
 use Rattle.bits.proofs.Parts.{part-self, part-trans, minus-part, minus-member-less}
 use Rattle.lister_narrowing.proofs.Scanning.{united-none, united-more}
 use Rattle.lister_narrowing.proofs.united.Statement.{statement}
@@ -20,23 +20,26 @@ loop-holds c = (part-self _, united-none _ _)
 lowest-requires : tie.Need-lowest-requires Inv-loop μ-loop
 lowest-requires c κs = omega (arith, c .loop-test .taken)
 
-place-requires : tie.Need-place-requires Inv-loop μ-loop
-place-requires c κs = c .lowest .ensures .single
+index-requires : tie.Need-index-requires Inv-loop μ-loop
+index-requires c κs = c .lowest .ensures .member .single
 
 mul-acc : tie.Need-mul-acc Inv-loop μ-loop
 mul-acc c = search needs
 
 array-read-acc : tie.Need-array-read-acc Inv-loop μ-loop
-array-read-acc c = c .place .ensures .0
+array-read-acc c = c .index .ensures .small
 
 minus-requires : tie.Need-minus-requires Inv-loop μ-loop
 minus-requires c κs = search needs
 
 loop-less : tie.Need-loop-less Inv-loop μ-loop
-loop-less c = minus-member-less _ _ _ (c .before .before .lowest .ensures) (c .minus .ensures)
+loop-less c = minus-member-less _ _ _ (c .before .before .lowest .ensures .member) (c .minus .ensures)
 
 loop-again : tie.Need-loop-again Inv-loop μ-loop
-loop-again c = (part-trans _ _ _ (minus-part _ _ _ (c .minus .ensures)) (c .before .before .before .before .loop .inv .0), united-more _ _ _ _ _ _ (c .before .before .before .before .loop .inv .1) (c .before .before .before .before .loop .inv .0) (c .before .before .lowest .ensures) (c .before .place .ensures .1))
+loop-again c =
+    let inv = c .before .before .before .before .loop .inv in
+    let lowest = c .before .before .lowest .ensures in
+    (part-trans _ _ _ (minus-part _ _ _ (c .minus .ensures)) (inv .0), united-more _ _ _ _ _ _ (inv .1) (inv .0) (lowest .member) (c .before .index .ensures .is))
 
 returns : tie.Need-returns Inv-loop μ-loop
 returns c = c .before .loop .inv .1
@@ -49,7 +52,7 @@ united-spec =
     μ-loop
     loop-holds
     lowest-requires
-    place-requires
+    index-requires
     mul-acc
     array-read-acc
     minus-requires

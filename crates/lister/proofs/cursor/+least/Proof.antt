@@ -5,7 +5,7 @@ use Prim.Native.Nat.{ℕ, _<_, _-_}
 use lib.Pow.{pow-pos}
 use Rattle.bits.proofs.Decide.{decides-true, decides-false}
 use Rattle.rows.proofs.Nodes.{halves, low-node, high-node}
-use Rattle.lister.proofs.Tree.{not-zero-pos, gone, leaf, no-leaf, low-narrowed, high-narrowed, with-bit, without-bit, low-open, high-open, from-low, from-both}
+use Rattle.lister.proofs.Tree.{not-zero-pos, gone, leaf, no-leaf, low-range, high-range, with-bit, without-bit, low-open, high-open, from-low, from-both}
 use borrow.Fn.Kinds.{In}
 use borrow.Fn.PlainCycle.{Measures, is, falls, and}
 use Rattle.lister.proofs.cursor.least.Reads as least
@@ -30,7 +30,20 @@ least-below t = and 1 least-kinds.ps (falls 1 least-kinds.ps _<_ μ-least t) lea
 
 -- what is asked and learnt at each call
 abbrev G : ℕ → least-lts.Claims
-G t = (irredundant-reads.Asked, irredundant-reads.Learnt, power-reads.Asked, power-reads.Learnt, least-below t, least.Post, minus-reads.Asked, minus-reads.Learnt, narrow-reads.Asked, narrow-reads.Learnt, settle-reads.Asked, settle-reads.Learnt)
+G t = (
+  irredundant-reads.Asked,
+  irredundant-reads.Learnt,
+  power-reads.Asked,
+  power-reads.Learnt,
+  least-below t,
+  least.Post,
+  minus-reads.Asked,
+  minus-reads.Learnt,
+  narrow-reads.Asked,
+  narrow-reads.Learnt,
+  settle-reads.Asked,
+  settle-reads.Learnt,
+)
 
 least-returns : (t : ℕ) → least-lts.Need-returns (G t) (least-at t) least.Post
 least-returns t c = gone _ _ _ _ (c .before .before .pre .1 .1) (c .if1 .taken)
@@ -51,19 +64,41 @@ least-power-requires : (t : ℕ) → least-lts.Need-power-requires (G t) (least-
 least-power-requires t c κs = omega (arith, c .before .before .before .pre .1 .0 .small, not-zero-pos (c .if2 .left))
 
 least-add-least : (t : ℕ) → least-lts.Need-add-least (G t) (least-at t) least.Post
-least-add-least t c = omega (arith, c .before .before .power .ensures, halves (c .before .before .before .before .before .before .args .i) (not-zero-pos (c .before .before .before .if2 .left)), c .before .before .before .before .before .before .pre .1 .0 .room, pow-pos (c .before .before .before .before .before .before .args .i - 1))
+least-add-least t c =
+    let start = c .before .before .before .before .before .before in
+    let power = c .before .before .power .ensures in
+    let pos = not-zero-pos (c .before .before .before .if2 .left) in
+    omega (arith, power, halves (start .args .i) pos, start .pre .1 .0 .room, pow-pos (start .args .i - 1))
 
 least-least-requires : (t : ℕ) → least-lts.Need-least-requires (G t) (least-at t) least.Post
-least-least-requires t c κs = (omega (arith, c .before .before .before .before .before .before .pre .0, not-zero-pos (c .before .before .before .if2 .left)), (high-node _ _ _ (c .before .before .power .ensures) (c .before .before .before .before .before .before .pre .1 .0) (not-zero-pos (c .before .before .before .if2 .left)), high-narrowed _ _ _ _ (c .before .before .before .before .before .before .pre .1 .1) _ (c .before .before .power .ensures) (c .before .before .before .before .before .before .pre .1 .0) (not-zero-pos (c .before .before .before .if2 .left))))
+least-least-requires t c κs =
+    let start = c .before .before .before .before .before .before in
+    let power = c .before .before .power .ensures in
+    let pos = not-zero-pos (c .before .before .before .if2 .left) in
+    let node = start .pre .1 .0 in
+    (omega (arith, start .pre .0, pos), (high-node _ _ _ power node pos, high-range _ _ _ _ (start .pre .1 .1) _ power node pos))
 
 least-returns-4 : (t : ℕ) → least-lts.Need-returns-4 (G t) (least-at t) least.Post
-least-returns-4 t c = with-bit _ _ _ _ (c .before .before .before .before .before .before .before .pre .1 .1) _ (c .before .before .before .power .ensures) (c .before .before .before .before .before .before .before .pre .1 .0) (not-zero-pos (c .before .before .before .before .if2 .left)) _ (c .before .if4 .taken) (c .least .ensures)
+least-returns-4 t c =
+    let start = c .before .before .before .before .before .before .before in
+    let power = c .before .before .before .power .ensures in
+    let pos = not-zero-pos (c .before .before .before .before .if2 .left) in
+    with-bit _ _ _ _ (start .pre .1 .1) _ power (start .pre .1 .0) pos _ (c .before .if4 .taken) (c .least .ensures)
 
 least-least-requires-2 : (t : ℕ) → least-lts.Need-least-requires-2 (G t) (least-at t) least.Post
-least-least-requires-2 t c κs = (omega (arith, c .before .before .before .before .before .before .before .before .pre .0, not-zero-pos (c .before .before .before .before .before .if2 .left)), (low-node _ _ (c .before .before .before .before .before .before .before .before .pre .1 .0) (not-zero-pos (c .before .before .before .before .before .if2 .left)), low-narrowed _ _ _ _ (c .before .before .before .before .before .before .before .before .pre .1 .1) _ (c .before .before .before .before .power .ensures) (c .before .before .before .before .before .before .before .before .pre .1 .0) (not-zero-pos (c .before .before .before .before .before .if2 .left))))
+least-least-requires-2 t c κs =
+    let start = c .before .before .before .before .before .before .before .before in
+    let power = c .before .before .before .before .power .ensures in
+    let pos = not-zero-pos (c .before .before .before .before .before .if2 .left) in
+    let node = start .pre .1 .0 in
+    (omega (arith, start .pre .0, pos), (low-node _ _ node pos, low-range _ _ _ _ (start .pre .1 .1) _ power node pos))
 
 least-returns-5 : (t : ℕ) → least-lts.Need-returns-5 (G t) (least-at t) least.Post
-least-returns-5 t c = without-bit _ _ _ _ (c .before .before .before .before .before .before .before .before .before .pre .1 .1) _ (c .before .before .before .before .before .power .ensures) (c .before .before .before .before .before .before .before .before .before .pre .1 .0) (not-zero-pos (c .before .before .before .before .before .before .if2 .left)) _ (c .before .before .before .if4 .left) (c .before .if5 .taken) (c .least2 .ensures)
+least-returns-5 t c =
+    let start = c .before .before .before .before .before .before .before .before .before in
+    let power = c .before .before .before .before .before .power .ensures in
+    let pos = not-zero-pos (c .before .before .before .before .before .before .if2 .left) in
+    without-bit _ _ _ _ (start .pre .1 .1) _ power (start .pre .1 .0) pos _ (c .before .before .before .if4 .left) (c .before .if5 .taken) (c .least2 .ensures)
 
 least-minus-requires : (t : ℕ) → least-lts.Need-minus-requires (G t) (least-at t) least.Post
 least-minus-requires t c κs = search needs
@@ -72,7 +107,13 @@ least-narrow-requires : (t : ℕ) → least-lts.Need-narrow-requires (G t) (leas
 least-narrow-requires t c κs = search needs
 
 least-least-requires-3 : (t : ℕ) → least-lts.Need-least-requires-3 (G t) (least-at t) least.Post
-least-least-requires-3 t c κs = (omega (arith, c .before .before .before .before .before .before .before .before .before .before .pre .0, not-zero-pos (c .before .before .before .before .before .before .before .if2 .left)), (low-node _ _ (c .before .before .before .before .before .before .before .before .before .before .pre .1 .0) (not-zero-pos (c .before .before .before .before .before .before .before .if2 .left)), low-open _ _ _ _ (c .before .before .before .before .before .before .before .before .before .before .pre .1 .1) _ (c .before .before .before .before .before .before .power .ensures) (c .before .before .before .before .before .before .before .before .before .before .pre .1 .0) (not-zero-pos (c .before .before .before .before .before .before .before .if2 .left)) _ (c .before .minus .ensures) _ (c .narrow .ensures)))
+least-least-requires-3 t c κs =
+    let start = c .before .before .before .before .before .before .before .before .before .before in
+    let power = c .before .before .before .before .before .before .power .ensures in
+    let pos = not-zero-pos (c .before .before .before .before .before .before .before .if2 .left) in
+    let node = start .pre .1 .0 in
+    let range = low-open _ _ _ _ (start .pre .1 .1) _ power node pos _ (c .before .minus .ensures) _ (c .narrow .ensures) in
+    (omega (arith, start .pre .0, pos), (low-node _ _ node pos, range))
 
 least-enum-known-low : (t : ℕ) → least-lts.Need-enum-known-low (G t) (least-at t) least.Post
 least-enum-known-low t c = search needs
@@ -81,19 +122,39 @@ least-enum-told : (t : ℕ) → least-lts.Need-enum-told (G t) (least-at t) leas
 least-enum-told t c = search needs
 
 least-add-least-2 : (t : ℕ) → least-lts.Need-add-least-2 (G t) (least-at t) least.Post
-least-add-least-2 t c = omega (arith, c .before .before .before .before .before .before .before .before .before .power .ensures, halves (c .before .before .before .before .before .before .before .before .before .before .before .before .before .args .i) (not-zero-pos (c .before .before .before .before .before .before .before .before .before .before .if2 .left)), c .before .before .before .before .before .before .before .before .before .before .before .before .before .pre .1 .0 .room, pow-pos (c .before .before .before .before .before .before .before .before .before .before .before .before .before .args .i - 1))
+least-add-least-2 t c =
+    let start = c .before .before .before .before .before .before .before .before .before .before .before .before .before in
+    let power = c .before .before .before .before .before .before .before .before .before .power .ensures in
+    let pos = not-zero-pos (c .before .before .before .before .before .before .before .before .before .before .if2 .left) in
+    omega (arith, power, halves (start .args .i) pos, start .pre .1 .0 .room, pow-pos (start .args .i - 1))
 
 least-settle-requires : (t : ℕ) → least-lts.Need-settle-requires (G t) (least-at t) least.Post
 least-settle-requires t c κs = search needs
 
 least-least-requires-4 : (t : ℕ) → least-lts.Need-least-requires-4 (G t) (least-at t) least.Post
-least-least-requires-4 t c κs = (omega (arith, c .before .before .before .before .before .before .before .before .before .before .before .before .before .before .before .pre .0, not-zero-pos (c .before .before .before .before .before .before .before .before .before .before .before .before .if2 .left)), (high-node _ _ _ (c .before .before .before .before .before .before .before .before .before .before .before .power .ensures) (c .before .before .before .before .before .before .before .before .before .before .before .before .before .before .before .pre .1 .0) (not-zero-pos (c .before .before .before .before .before .before .before .before .before .before .before .before .if2 .left)), high-open _ _ _ _ (c .before .before .before .before .before .before .before .before .before .before .before .before .before .before .before .pre .1 .1) _ (c .before .before .before .before .before .before .before .before .before .before .before .power .ensures) (c .before .before .before .before .before .before .before .before .before .before .before .before .before .before .before .pre .1 .0) (not-zero-pos (c .before .before .before .before .before .before .before .before .before .before .before .before .if2 .left)) _ (c .before .before .before .before .before .before .minus .ensures) _ (c .settle .ensures)))
+least-least-requires-4 t c κs =
+    let start = c .before .before .before .before .before .before .before .before .before .before .before .before .before .before .before in
+    let power = c .before .before .before .before .before .before .before .before .before .before .before .power .ensures in
+    let pos = not-zero-pos (c .before .before .before .before .before .before .before .before .before .before .before .before .if2 .left) in
+    let node = start .pre .1 .0 in
+    let rest = c .before .before .before .before .before .before .minus .ensures in
+    let range = high-open _ _ _ _ (start .pre .1 .1) _ power node pos _ rest _ (c .settle .ensures) in
+    (omega (arith, start .pre .0, pos), (high-node _ _ _ power node pos, range))
 
 least-returns-6 : (t : ℕ) → least-lts.Need-returns-6 (G t) (least-at t) least.Post
-least-returns-6 t c = from-low _ _ _ _ (c .before .before .before .before .before .before .before .before .before .before .before .before .before .before .pre .1 .1) _ (c .before .before .before .before .before .before .before .before .before .before .power .ensures) (c .before .before .before .before .before .before .before .before .before .before .before .before .before .before .pre .1 .0) (not-zero-pos (c .before .before .before .before .before .before .before .before .before .before .before .if2 .left)) _ _ (c .before .low .given .1) (c .before .before .before .least3 .ensures)
+least-returns-6 t c =
+    let start = c .before .before .before .before .before .before .before .before .before .before .before .before .before .before in
+    let power = c .before .before .before .before .before .before .before .before .before .before .power .ensures in
+    let pos = not-zero-pos (c .before .before .before .before .before .before .before .before .before .before .before .if2 .left) in
+    from-low _ _ _ _ (start .pre .1 .1) _ power (start .pre .1 .0) pos _ _ (c .before .low .given .1) (c .before .before .before .least3 .ensures)
 
 least-returns-7 : (t : ℕ) → least-lts.Need-returns-7 (G t) (least-at t) least.Post
-least-returns-7 t c = from-both _ _ _ _ (c .before .before .before .before .before .before .before .before .before .before .before .before .before .before .before .before .pre .1 .1) _ (c .before .before .before .before .before .before .before .before .before .before .before .before .power .ensures) (c .before .before .before .before .before .before .before .before .before .before .before .before .before .before .before .before .pre .1 .0) (not-zero-pos (c .before .before .before .before .before .before .before .before .before .before .before .before .before .if2 .left)) _ _ (c .before .before .before .enum-told .given .1) (c .before .before .before .before .before .least3 .ensures) (c .least4 .ensures)
+least-returns-7 t c =
+    let start = c .before .before .before .before .before .before .before .before .before .before .before .before .before .before .before .before in
+    let power = c .before .before .before .before .before .before .before .before .before .before .before .before .power .ensures in
+    let pos = not-zero-pos (c .before .before .before .before .before .before .before .before .before .before .before .before .before .if2 .left) in
+    let low = c .before .before .before .before .before .least3 .ensures in
+    from-both _ _ _ _ (start .pre .1 .1) _ power (start .pre .1 .0) pos _ _ (c .before .before .before .enum-told .given .1) low (c .least4 .ensures)
 
 pub +least-spec : {M : Type 1} → statement M
 +least-spec = close μ-least λ t. least-lts.spec (G t)

@@ -1,4 +1,4 @@
--- `lister::lister::climb` meets its contract. The invariant: nothing is found from at up to the first multiple of 2^i above it.
+-- `lister::cursor::climb` meets its contract. The invariant: nothing is found from at up to the first multiple of 2^i above it.
 use borrow.Author.Needs.{needs}
 use mathlib.Core.Path.{refl, ap}
 use mathlib.Core.Logic.{⊎-elim}
@@ -7,16 +7,16 @@ use native.Mathlib.Omega.{arith}
 use lib.Bits.{and-le-l}
 use lib.Pow.{pow-pos}
 use Rattle.bits.proofs.Decide.{decides-true, decides-false}
-use Rattle.lister.proofs.Tree.{narrowed-node}
-use Rattle.lister.proofs.Climbing.{Climbed, starts, out-of-range, at-once, climbed-none, climbed-one, climbed-zero, climbed-found, climbed-all, climb-node, no-hope}
+use Rattle.lister.proofs.Tree.{range-node}
+use Rattle.lister.proofs.Climbing.{Climbed, starts, out-of-range, at-once, climbed-none, climbed-one, climbed-zero, climbed-found, climbed-all, climb-node, impossible-level}
 use Rattle.lister.proofs.cursor.climb.Statement.{statement}
 use Rattle.lister.proofs.cursor.climb.Tie as tie
 
 abbrev Inv-loop : tie.InvT-loop
-Inv-loop rows n at hope i₀ i = Climbed rows n at i
+Inv-loop rows n at possible i₀ i = Climbed rows n at i
 
 abbrev μ-loop : tie.MeasureT-loop
-μ-loop rows n at hope i₀ i = n - i
+μ-loop rows n at possible i₀ i = n - i
 
 low-mask-requires : tie.Need-low-mask-requires Inv-loop μ-loop
 low-mask-requires c κs = search needs
@@ -30,11 +30,13 @@ irredundant-requires c κs = search needs
 returns-2 : tie.Need-returns-2 Inv-loop μ-loop
 returns-2 c = at-once _ _ _ _ (c .before .before .before .low-mask .ensures) (c .before .before .if1 .left) (decides-true _ _ (c .before .irredundant .ensures) (c .if2 .taken))
 
-hopeful-requires : tie.Need-hopeful-requires Inv-loop μ-loop
-hopeful-requires c κs = search needs
+possible-levels-requires : tie.Need-possible-levels-requires Inv-loop μ-loop
+possible-levels-requires c κs = search needs
 
 loop-holds : tie.Need-loop-holds Inv-loop μ-loop
-loop-holds c = climbed-none _ _ _ _ (c .before .before .before .before .low-mask .ensures) (c .before .before .before .if1 .left) (decides-false _ _ (c .before .before .irredundant .ensures) (c .before .if2 .left))
+loop-holds c =
+    let not-here = decides-false _ _ (c .before .before .irredundant .ensures) (c .before .if2 .left) in
+    climbed-none _ _ _ _ (c .before .before .before .before .low-mask .ensures) (c .before .before .before .if1 .left) not-here
 
 power-requires : tie.Need-power-requires Inv-loop μ-loop
 power-requires c κs = search needs
@@ -46,22 +48,44 @@ sub-s-2 : tie.Need-sub-s-2 Inv-loop μ-loop
 sub-s-2 c = omega (arith, and-le-l (c .before .before .before .before .before .before .before .before .before .before .args .at) (c .before .power .result - 1))
 
 add-s : tie.Need-add-s Inv-loop μ-loop
-add-s c = omega (arith, climb-node _ _ _ _ (c .before .before .before .loop .inv) (c .before .before .loop-test .taken) _ (c .before .power .ensures) (c .if3 .taken) _ (c .before .before .before .before .before .before .before .before .before .before .pre) (starts _ _ _ _ (c .before .before .before .loop .inv) (c .before .before .loop-test .taken) _ (c .before .power .ensures) _ refl) .room)
+add-s c =
+    let inv = c .before .before .before .loop .inv in
+    let below = c .before .before .loop-test .taken in
+    let power = c .before .power .ensures in
+    let begins = starts _ _ _ _ inv below _ power _ refl in
+    omega (arith, climb-node _ _ _ _ inv below _ power (c .if3 .taken) _ (c .before .before .before .before .before .before .before .before .before .before .pre) begins .room)
 
-sub-glance : tie.Need-sub-glance Inv-loop μ-loop
-sub-glance c = omega (arith, c .before .power .ensures, pow-pos (c .before .before .before .loop .i))
+sub-narrow-level : tie.Need-sub-narrow-level Inv-loop μ-loop
+sub-narrow-level c = omega (arith, c .before .power .ensures, pow-pos (c .before .before .before .loop .i))
 
-glance-requires : tie.Need-glance-requires Inv-loop μ-loop
-glance-requires c κs = no-hope _ _ _ _ (c .before .before .before .loop .inv) (c .before .before .loop-test .taken) _ (c .before .power .ensures) (c .if3 .taken) _ _ (c .before .before .before .before .hopeful .ensures) (starts _ _ _ _ (c .before .before .before .loop .inv) (c .before .before .loop-test .taken) _ (c .before .power .ensures) _ refl)
+narrow-level-requires : tie.Need-narrow-level-requires Inv-loop μ-loop
+narrow-level-requires c κs =
+    let inv = c .before .before .before .loop .inv in
+    let below = c .before .before .loop-test .taken in
+    let power = c .before .power .ensures in
+    let begins = starts _ _ _ _ inv below _ power _ refl in
+    impossible-level _ _ _ _ inv below _ power (c .if3 .taken) _ _ (c .before .before .before .before .possible-levels .ensures) begins
 
 least-requires : tie.Need-least-requires Inv-loop μ-loop
-least-requires c κs = (climb-node _ _ _ _ (c .before .before .before .before .loop .inv) (c .before .before .before .loop-test .taken) _ (c .before .before .power .ensures) (c .before .if3 .taken) _ (c .before .before .before .before .before .before .before .before .before .before .before .pre) (starts _ _ _ _ (c .before .before .before .before .loop .inv) (c .before .before .before .loop-test .taken) _ (c .before .before .power .ensures) _ refl), narrowed-node _ _ _ _ _ (ap (λ (k : ℕ). k - 1) (c .before .before .power .ensures)) (climb-node _ _ _ _ (c .before .before .before .before .loop .inv) (c .before .before .before .loop-test .taken) _ (c .before .before .power .ensures) (c .before .if3 .taken) _ (c .before .before .before .before .before .before .before .before .before .before .before .pre) (starts _ _ _ _ (c .before .before .before .before .loop .inv) (c .before .before .before .loop-test .taken) _ (c .before .before .power .ensures) _ refl)) (c .glance .ensures))
+least-requires c κs =
+    let inv = c .before .before .before .before .loop .inv in
+    let below = c .before .before .before .loop-test .taken in
+    let power = c .before .before .power .ensures in
+    let begins = starts _ _ _ _ inv below _ power _ refl in
+    let node = climb-node _ _ _ _ inv below _ power (c .before .if3 .taken) _ (c .before .before .before .before .before .before .before .before .before .before .before .pre) begins in
+    (node, range-node _ _ _ _ _ (ap (λ (k : ℕ). k - 1) power) node (c .narrow-level .ensures))
 
 enum-known-found : tie.Need-enum-known-found Inv-loop μ-loop
 enum-known-found c = search needs
 
 returns-3 : tie.Need-returns-3 Inv-loop μ-loop
-returns-3 c = climbed-found _ _ _ _ (c .before .before .before .before .before .before .before .before .loop .inv) (c .before .before .before .before .before .before .before .loop-test .taken) _ (c .before .before .before .before .before .before .power .ensures) (c .before .before .before .before .before .if3 .taken) _ (starts _ _ _ _ (c .before .before .before .before .before .before .before .before .loop .inv) (c .before .before .before .before .before .before .before .loop-test .taken) _ (c .before .before .before .before .before .before .power .ensures) _ refl) _ (c .before .before .before .least .ensures) _ (c .before .found .given .1)
+returns-3 c =
+    let inv = c .before .before .before .before .before .before .before .before .loop .inv in
+    let below = c .before .before .before .before .before .before .before .loop-test .taken in
+    let power = c .before .before .before .before .before .before .power .ensures in
+    let begins = starts _ _ _ _ inv below _ power _ refl in
+    let zero = c .before .before .before .before .before .if3 .taken in
+    climbed-found _ _ _ _ inv below _ power zero _ begins _ (c .before .before .before .least .ensures) _ (c .before .found .given .1)
 
 enum-told : tie.Need-enum-told Inv-loop μ-loop
 enum-told c = search needs
@@ -73,7 +97,13 @@ loop-less : tie.Need-loop-less Inv-loop μ-loop
 loop-less c = search needs
 
 loop-again : tie.Need-loop-again Inv-loop μ-loop
-loop-again c = ⊎-elim (λ w. climbed-zero _ _ _ _ (c .before .before .before .loop .inv) (c .before .before .loop-test .taken) _ (c .before .power .ensures) (w .0 .taken) _ (starts _ _ _ _ (c .before .before .before .loop .inv) (c .before .before .loop-test .taken) _ (c .before .power .ensures) _ refl) _ (w .2 .ensures) (w .4 .given .1)) (λ w. climbed-one _ _ _ _ (c .before .before .before .loop .inv) (c .before .before .loop-test .taken) _ (c .before .power .ensures) (w .left)) (c .if3 .came)
+loop-again c =
+    let inv = c .before .before .before .loop .inv in
+    let below = c .before .before .loop-test .taken in
+    let power = c .before .power .ensures in
+    let begins = starts _ _ _ _ inv below _ power _ refl in
+    ⊎-elim (λ w. climbed-zero _ _ _ _ inv below _ power (w .0 .taken) _ begins _ (w .2 .ensures) (w .4 .given .1))
+    (λ w. climbed-one _ _ _ _ inv below _ power (w .left)) (c .if3 .came)
 
 returns-4 : tie.Need-returns-4 Inv-loop μ-loop
 returns-4 c = climbed-all _ _ _ _ (c .before .loop .inv) (c .loop-test .left)
@@ -88,14 +118,14 @@ climb-spec =
     returns
     irredundant-requires
     returns-2
-    hopeful-requires
+    possible-levels-requires
     loop-holds
     power-requires
     sub-s
     sub-s-2
     add-s
-    sub-glance
-    glance-requires
+    sub-narrow-level
+    narrow-level-requires
     least-requires
     enum-known-found
     returns-3

@@ -1,4 +1,4 @@
--- `lister::lister::fill` meets its contract. The invariant: the first i of out are the covers that the cursor is past, the rest is as it was.
+-- `lister::cursor::fill` meets its contract. The invariant: the first i of out are the covers that the cursor is past, the rest is as it was.
 use borrow.Author.Needs.{needs}
 use Prim.Native.Nat.{_-_}
 use native.Mathlib.Omega.{arith}
@@ -27,7 +27,9 @@ same-length : tie.Need-same-length Inv-loop μ-loop
 same-length c = omega (arith, c .before .before .loop .inv .same)
 
 returns : tie.Need-returns Inv-loop μ-loop
-returns c = filled-over _ (row-covers-rising _ _) (row-covers-small _ _ (c .before .before .before .before .before .before .before .pre)) _ _ _ _ _ (c .before .before .loop .inv) (c .if1 .taken)
+returns c =
+    let small = row-covers-small _ _ (c .before .before .before .before .before .before .before .pre) in
+    filled-over _ (row-covers-rising _ _) small _ _ _ _ _ (c .before .before .loop .inv) (c .if1 .taken)
 
 mul-out : tie.Need-mul-out Inv-loop μ-loop
 mul-out c = search needs
@@ -48,13 +50,19 @@ loop-less : tie.Need-loop-less Inv-loop μ-loop
 loop-less c = omega (arith, c .before .before .before .before .loop .inv .same)
 
 loop-again : tie.Need-loop-again Inv-loop μ-loop
-loop-again c = filling-more _ (row-covers-rising _ _) (row-covers-small _ _ (c .before .before .before .before .before .before .before .before .before .pre)) _ _ _ _ _ (c .before .before .before .before .loop .inv) _ _ (c .before .before .before .loop-test .taken) (c .before .before .if1 .left) (c .before .past .ensures) (c .seek2 .ensures)
+loop-again c =
+    let small = row-covers-small _ _ (c .before .before .before .before .before .before .before .before .before .pre) in
+    let inv = c .before .before .before .before .loop .inv in
+    let room = c .before .before .before .loop-test .taken in
+    filling-more _ (row-covers-rising _ _) small _ _ _ _ _ inv _ _ room (c .before .before .if1 .left) (c .before .past .ensures) (c .seek2 .ensures)
 
 same-length-2 : tie.Need-same-length-2 Inv-loop μ-loop
 same-length-2 c = omega (arith, c .before .before .loop .inv .same)
 
 returns-2 : tie.Need-returns-2 Inv-loop μ-loop
-returns-2 c = filled-full _ (row-covers-rising _ _) (row-covers-small _ _ (c .before .before .before .before .before .before .before .pre)) _ _ _ _ _ (c .before .before .loop .inv) (c .before .loop-test .left)
+returns-2 c =
+    let small = row-covers-small _ _ (c .before .before .before .before .before .before .before .pre) in
+    filled-full _ (row-covers-rising _ _) small _ _ _ _ _ (c .before .before .loop .inv) (c .before .loop-test .left)
 
 pub fill-spec : {M : Type 1} → statement M
 fill-spec =

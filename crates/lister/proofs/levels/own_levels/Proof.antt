@@ -27,7 +27,10 @@ minus-requires-3 : tie.Need-minus-requires-3
 minus-requires-3 c κs = search needs
 
 returns-2 : tie.Need-returns-2
-returns-2 c = own-second _ _ _ (c .before .before .before .before .before .pre) _ (c .before .before .before .before .minus .ensures) _ _ _ (c .before .before .before .minus2 .ensures) (c .before .highest .ensures) (c .minus3 .ensures)
+returns-2 c =
+    let first = c .before .before .before .before .minus .ensures in
+    let rest = c .before .before .before .minus2 .ensures in
+    own-second _ _ _ (c .before .before .before .before .before .pre) _ first _ _ _ rest (c .before .highest .ensures) (c .minus3 .ensures)
 
 pub own-levels-spec : {M : Type 1} → statement M
 own-levels-spec =

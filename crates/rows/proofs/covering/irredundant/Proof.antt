@@ -1,6 +1,6 @@
 -- `rows::covering::irredundant` meets its contract.
 use borrow.Author.Needs.{needs}
-use Rattle.rows.specs.Covers.{Irredundant}
+use Rattle.rows.specs.Covers.{IrredundantCover}
 use Rattle.bits.proofs.Decide.{decides-true, decides-false, says-false, says-eqb}
 use Rattle.rows.proofs.Sets.{privates-all, all-privates, own-rows, own-irredundant}
 use Rattle.rows.proofs.covering.irredundant.Statement.{statement}
@@ -19,7 +19,7 @@ returns c =
     (λ h. all-privates _ _ _ (c .privates .ensures) (own-rows _ _ h))
 
 returns-2 : tie.Need-returns-2
-unfolding Irredundant
+unfolding IrredundantCover
 returns-2 c = says-false _ (λ h. decides-false _ _ (c .before .covers .ensures) (c .if1 .left) (h .0))
 
 pub irredundant-spec : {M : Type 1} → statement M

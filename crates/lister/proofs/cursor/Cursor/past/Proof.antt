@@ -1,4 +1,4 @@
--- `lister::lister::Cursor::past` meets its contract.
+-- `lister::cursor::Cursor::past` meets its contract.
 use borrow.Author.Tests.{lt-ltb, le-ltb}
 use Rattle.lister.specs.Lister.{advanced}
 use borrow.Author.Needs.{needs}

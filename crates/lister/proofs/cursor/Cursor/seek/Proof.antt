@@ -1,4 +1,4 @@
--- `lister::lister::Cursor::seek` meets its contract.
+-- `lister::cursor::Cursor::seek` meets its contract.
 use Rattle.lister.proofs.Listing.{sought-over, sought-found, sought-none}
 use borrow.Author.Needs.{needs}
 use Rattle.lister.proofs.cursor.Cursor.seek.Statement.{statement}

@@ -8,16 +8,12 @@ use lib.ListN.{length, getD}
 use lib.Bits.{bitAnd}
 use Rattle.lister_narrowing.specs.declared.Tight.{Tight}
 use Rattle.lister_narrowing.specs.declared.Scan.{Scan}
-use Rattle.bits.specs.Bits.{digit, Single, Part}
-use Rattle.rows.specs.Covers.{Irredundant, Privates, Between}
-
--- u has all of each row among the first n that s does not meet
-unfoldable pub Unmet : List ℕ → ℕ → ℕ → ℕ → Type 0
-Unmet rows n s u = (k : ℕ) → k < n → bitAnd (getD rows k 0) s ≡ 0 → Part (getD rows k 0) u
+use Rattle.bits.specs.Bits.{digit, Single}
+use Rattle.rows.specs.Covers.{IrredundantCover, Privates, Unmet, Between}
 
 -- t is an irredundant cover between s and s | free
 unfoldable pub IrredundantBetween : List ℕ → ℕ → ℕ → ℕ → Type 0
-IrredundantBetween rows s free t = Irredundant rows t × Between s free t
+IrredundantBetween rows s free t = IrredundantCover rows t × Between s free t
 
 -- no irredundant cover lies there
 unfoldable pub NoneBetween : List ℕ → ℕ → ℕ → Type 0
@@ -31,9 +27,9 @@ Forced rows s free a = (b : ℕ) → digit b a ≡ 1 → (digit b s ≡ 1 → �
 unfoldable pub Taken : List ℕ → ℕ → ℕ → Type 0
 Taken rows s x = (c : ℕ) → digit c x ≡ 1 → (b : ℕ) × (digit b s ≡ 1) × ((k : ℕ) → k < length rows → bitAnd (getD rows k 0) s ≡ 2 ^ b → digit c (getD rows k 0) ≡ 1)
 
--- where r is not 0, it is x, and x has exactly one member
+-- r is x where x has exactly one member, else 0
 unfoldable pub Only : ℕ → ℕ → Type 0
-Only x r = (r ≡ 0) ⊎ ((r ≡ x) × Single x)
+Only x r = ((r ≡ 0) × (Single x → ⊥)) ⊎ ((r ≡ x) × Single x)
 
 -- each member of r is in the entry of some member of s
 unfoldable pub United : List ℕ → ℕ → ℕ → Type 0
