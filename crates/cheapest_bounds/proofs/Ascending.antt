@@ -6,7 +6,8 @@ use Prim.Native.Nat.{ℕ, zero, suc, _+_, _-_, _*_, _/_, _%_, _^_, _≤_, _<_}
 use native.Mathlib.Nat.{one-mul, zero-mul, mod-eq-of-lt}
 use native.Mathlib.Decide.{decLt}
 use native.Mathlib.Omega.{arith}
-use lib.ListN.{length, getD, List·getD-eq-default, set, replicate, length-set, length-replicate}
+use borrow.Author.Count.{below-more}
+use lib.ListN.{length, getD, List·getD-eq-default, set, replicate, length-set, length-replicate, getD-replicate}
 use lib.Seq.{getD-set-same, getD-set-other}
 use lib.Bits.{bitAnd, and-mask}
 use Rattle.cheapest_bounds.specs.declared.ascent.Duals.{Duals}
@@ -16,7 +17,7 @@ use Rattle.cheapest_bounds.specs.Ascent.{Charged, Paid, Meets, Raised, S
 use Rattle.bits.proofs.Digits.{eq?, digit-first, digit-next, digit-lt, a-member, pow-here, pow-only}
 use Rattle.bits.proofs.Members.{and-left, and-right, not-zero}
 use Rattle.bits.proofs.Parts.{members, by-members, part-self, part-trans, minus-part}
-use Rattle.bits.proofs.Steps.{all-next, taken-gone, others-stay, Visited, visited-none, visited-more, visited-all}
+use Rattle.bits.proofs.Steps.{taken-gone, others-stay, Visited, visited-none, visited-more, visited-all}
 use Rattle.cheapest_bounds.proofs.Costing.{cost-part, cost-one, cost-small}
 
 -- ---- one entry
@@ -189,18 +190,20 @@ pub record Padding (costs left : List ℕ) (i : ℕ) : Type 0 where
   pub same : (k : ℕ) → k < i → getD left k 0 ≡ getD costs k 0
   pub rest : (k : ℕ) → i ≤ k → getD left k 0 ≡ 0
 
-zeros : (n k : ℕ) → _≡_ {A = ℕ} (getD (replicate n 0) k 0) 0
-zeros zero k = refl
-zeros (suc n) zero = refl
-zeros (suc n) (suc k) = zeros n k
-
 pub padding-none : (costs : List ℕ) → Padding costs (replicate 64 0) 0
-padding-none costs = record { size = length-replicate {A = ℕ} 64 0; same = λ k lt. absurd (omega arith); rest = λ k le. zeros 64 k }
+padding-none costs = record {
+  size = length-replicate {A = ℕ} 64 0;
+  same = λ k lt. absurd (omega arith);
+  rest = λ k le. elim (decLt k 64) [
+    | yes lt ↦ getD-replicate 64 k 0 0 lt
+    | no ge ↦ List·getD-eq-default (replicate 64 0) 0 {n = k} (omega (arith, length-replicate {A = ℕ} 64 0))
+  ];
+}
 
 pub padding-more : (costs left : List ℕ) (i : ℕ) → i < 64 → Padding costs left i → Padding costs (set left i (getD costs i 0)) (i + 1)
 padding-more costs left i lt h = record {
   size = length-set left i (getD costs i 0) ∙ h .size;
-  same = all-next (λ k. getD (set left i (getD costs i 0)) k 0 ≡ getD costs k 0) i
+  same = below-more (λ k. getD (set left i (getD costs i 0)) k 0 ≡ getD costs k 0) i
       (λ k l. getD-set-other left i k (getD costs i 0) 0 (λ e. omega arith) ∙ h .same k l)
       (getD-set-same left i (getD costs i 0) 0 (omega (arith, h .size)));
   rest = λ k l. getD-set-other left i k (getD costs i 0) 0 (λ e. omega arith) ∙ h .rest k (omega arith);

@@ -1,6 +1,6 @@
 -- `cheapest::search::cheapest` meets its contract.
 use Rattle.cheapest_bounds.proofs.Costing.{small-entries}
-use Rattle.cheapest.proofs.Pinning.{priced-start, none-below, least-cost}
+use Rattle.cheapest.proofs.FirstCover.{priced-start, none-below, least-cost}
 use Rattle.cheapest.proofs.Optimality.{optimal-none, optimal-cover}
 use borrow.Author.Needs.{needs}
 use Rattle.cheapest.proofs.search.cheapest.Statement.{statement}

@@ -5,18 +5,18 @@ use Prim.Native.Nat.{_-_}
 use lib.Pow.{pow-pos}
 use Rattle.rows.proofs.Nodes.{halves}
 use Rattle.cheapest_bounds.proofs.Costing.{cost-fits, small-entries}
-use Rattle.cheapest.proofs.Pinning.{left-over, Pinned, pinned-none, pinned-lacks, pinned-with, pinned-without, pinned-all, power-single, best-fits, priced-without}
+use Rattle.cheapest.proofs.FirstCover.{left-over, Witnessed, witnessed-none, witnessed-lacks, witnessed-with, witnessed-without, witnessed-all, power-single, best-fits, priced-without}
 use Rattle.cheapest.proofs.search.first.Statement.{statement}
 use Rattle.cheapest.proofs.search.first.Tie as tie
 
 abbrev Inv-loop : tie.InvT-loop
-Inv-loop rows costs unit n best s₀ cost₀ witness₀ i₀ s cost witness i = Pinned rows costs n (best .cost) i s cost witness
+Inv-loop rows costs unit n best s₀ cost₀ witness₀ i₀ s cost witness i = Witnessed rows costs n (best .cost) i s cost witness
 
 abbrev μ-loop : tie.MeasureT-loop
 μ-loop rows costs unit n best s₀ cost₀ witness₀ i₀ s cost witness i = i
 
 loop-holds : tie.Need-loop-holds Inv-loop μ-loop
-loop-holds c = pinned-none _ _ _ _ (c .before .before .pre .1 .1 .0) (c .before .before .pre .1 .1 .1 .1)
+loop-holds c = witnessed-none _ _ _ _ (c .before .before .pre .1 .1 .0) (c .before .before .pre .1 .1 .1 .1)
 
 sub-i : tie.Need-sub-i Inv-loop μ-loop
 sub-i c = search needs
@@ -57,7 +57,7 @@ loop-again c =
     let c8 = c7 .before in
     let c9 = c8 .before in
     let start = c9 .before .before .before in
-    pinned-without _ _ _ _ _ _ _ _ _ (start .pre .1 .1 .1 .1) (c9 .loop .inv) (left-over (c8 .loop-test .taken)) (c7 .power .ensures) _ _ (c4 .low-mask .ensures)
+    witnessed-without _ _ _ _ _ _ _ _ _ (start .pre .1 .1 .1 .1) (c9 .loop .inv) (left-over (c8 .loop-test .taken)) (c7 .power .ensures) _ _ (c4 .low-mask .ensures)
     (c3 .value .ensures) (c .if2 .taken)
 
 price-requires : tie.Need-price-requires Inv-loop μ-loop
@@ -88,7 +88,7 @@ loop-again-2 c =
     let c9 = c8 .before in
     let c10 = c9 .before in
     let start = c10 .before .before .before in
-    pinned-with _ _ _ _ _ _ _ _ _ (start .pre .1 .1 .1 .1) (c10 .loop .inv) (left-over (c9 .loop-test .taken)) (c8 .power .ensures) _ _ (c5 .low-mask .ensures)
+    witnessed-with _ _ _ _ _ _ _ _ _ (start .pre .1 .1 .1 .1) (c10 .loop .inv) (left-over (c9 .loop-test .taken)) (c8 .power .ensures) _ _ (c5 .low-mask .ensures)
     (c4 .value .ensures) _ (c .before .if2 .left) (c .price .ensures)
 
 loop-less-3 : tie.Need-loop-less-3 Inv-loop μ-loop
@@ -98,10 +98,10 @@ loop-again-3 : tie.Need-loop-again-3 Inv-loop μ-loop
 loop-again-3 c =
     let c3 = c .before .before .before in
     let start = c3 .before .before .before in
-    pinned-lacks _ _ _ _ _ _ _ _ _ (start .pre .1 .1 .1 .1) (c3 .loop .inv) (left-over (c .before .before .loop-test .taken)) (c .before .power .ensures) (c .if1 .left)
+    witnessed-lacks _ _ _ _ _ _ _ _ _ (start .pre .1 .1 .1 .1) (c3 .loop .inv) (left-over (c .before .before .loop-test .taken)) (c .before .power .ensures) (c .if1 .left)
 
 returns : tie.Need-returns Inv-loop μ-loop
-returns c = pinned-all _ _ _ _ _ _ _ _ (c .loop-test .left) (c .before .before .before .before .pre .1 .1 .1 .1) (c .before .loop .inv)
+returns c = witnessed-all _ _ _ _ _ _ _ _ (c .loop-test .left) (c .before .before .before .before .pre .1 .1 .1 .1) (c .before .loop .inv)
 
 pub first-spec : {M : Type 1} → statement M
 first-spec =
