@@ -1,10 +1,10 @@
 -- Sets of candidates, each as a number; the laws behind `cubes_at`, `driving` and `driving_all`.
 use Prim.Native.Nat.{ℕ, zero, suc, _+_, _-_, _*_, _/_, _%_, _^_, _≤_, _<_, min}
 use native.Mathlib.Omega.{arith}
-use native.Mathlib.Decide.{ℕ-discrete}
 use mathlib.Core.Path.{_≡_, refl, sym, ap, ap₂, _∙_, subst}
 use mathlib.Core.Bool.{Bool, true, false, cond, _&&_, _||_}
 use mathlib.Core.List.{List, [], _∷_}
+use borrow.Author.Count.{below-more}
 use borrow.Author.Tests.{lt-ltb}
 use lib.Bits.{bitAnd, and-step}
 use lib.Dec.{ltb}
@@ -18,11 +18,11 @@ use Rattle.model.specs.Sets.{rowOf}
 use Rattle.model.proofs.Matrix.{rowOf-lt}
 use Rattle.incidence.specs.Rows.{hasVertex, drivesOutput, Driving}
 
--- ---- one digit for each candidate, from the last one down
+-- ---- one bit for each candidate, from the last one down
 
-pub digit-le : (b : Bool) (x : ℕ) → x ≡ cond b 1 0 → x ≤ 1
-digit-le true x e = omega arith
-digit-le false x e = omega arith
+pub flag-le : (b : Bool) (x : ℕ) → x ≡ cond b 1 0 → x ≤ 1
+flag-le true x e = omega arith
+flag-le false x e = omega arith
 
 module _ {X : Type 0} (f : Term → X → Bool) (terms : List Term) (count : ℕ) (y : X) (long : length terms ≡ 64) (most : count ≤ 64) where
   whole : length (take count terms) ≡ count
@@ -64,11 +64,12 @@ module _ (ts : List Term) (sets : List ℕ) where
   driving-none s = record { size = s; sets = λ j l. absurd (omega arith) }
 
   pub driving-next : (k x y : ℕ) → k < 8 → x ≡ k → y ≡ rowOf drivesOutput ts k → Driving ts k sets → Driving ts (k + 1) (set sets x y)
-  driving-next k x y l e g h = rw e (record { size = length-set sets k y ∙ h .size; sets = λ j b. go j b (ℕ-discrete j k) })
-    where
-      go : (j : ℕ) → j < k + 1 → Dec (j ≡ k) → getD (set sets k y) j 0 ≡ rowOf drivesOutput ts j
-      go j b (yes d) = rw d (getD-set-same sets k y 0 (omega (arith, h .size)) ∙ g)
-      go j b (no d) = getD-set-other sets k j y 0 d ∙ h .sets j (omega arith)
+  driving-next k x y l e g h = rw e (record {
+    size = length-set sets k y ∙ h .size;
+    sets =
+        below-more (λ j. getD (set sets k y) j 0 ≡ rowOf drivesOutput ts j) k
+        (λ j b. getD-set-other sets k j y 0 (λ d. omega arith) ∙ h .sets j b) (getD-set-same sets k y 0 (omega (arith, h .size)) ∙ g);
+  })
 
   pub driving-end : (k m : ℕ) → m ≤ k → Driving ts k sets → Driving ts m sets
   driving-end k m l h = record { size = h .size; sets = λ j b. h .sets j (omega arith) }
@@ -93,7 +94,8 @@ and-flags x y a b = and-step (x * 2 + cond a 1 0) (y * 2 + cond b 1 0) ∙ rw (h
     least false false = refl
 
 -- the row of a conjunction is the meet of two rows
-pub row-and : {A X Y Z : Type 0} (f : A → X → Bool) (g : A → Y → Bool) (h : A → Z → Bool) (x : X) (y : Y) (z : Z) → ((t : A) → h t z ≡ (f t x && g t y)) → (ts : List A) → bitAnd (rowOf f ts x) (rowOf g ts y) ≡ rowOf h ts z
+row-and : {A X Y Z : Type 0} (f : A → X → Bool) (g : A → Y → Bool) (h : A → Z → Bool) (x : X) (y : Y) (z : Z)
+    → ((t : A) → h t z ≡ (f t x && g t y)) → (ts : List A) → bitAnd (rowOf f ts x) (rowOf g ts y) ≡ rowOf h ts z
 unfolding rowOf
 row-and f g h x y z e [] = refl
 row-and f g h x y z e (t ∷ ts) = and-flags (rowOf f ts x) (rowOf g ts y) (f t x) (g t y) ∙ ap₂ (λ (r : ℕ) (b : Bool). r * 2 + cond b 1 0) (row-and f g h x y z e ts) (sym (e t))

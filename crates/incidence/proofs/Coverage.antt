@@ -67,7 +67,8 @@ every-append f (x ∷ xs) ys = go (f x) (every-append f xs ys)
     go false h = refl
 
 -- a test of parts that are filtered
-fused : (h : Cell → Bool) (f : Cell → Bool) (part : ℕ → List Cell) (row : ℕ → Bool) (xs : List ℕ) → ((x : ℕ) → List·Memᴰ x xs → row x ≡ every h (filter f (part x))) → every row xs ≡ every h (filter f (join (map part xs)))
+fused : (h : Cell → Bool) (f : Cell → Bool) (part : ℕ → List Cell) (row : ℕ → Bool) (xs : List ℕ)
+    → ((x : ℕ) → List·Memᴰ x xs → row x ≡ every h (filter f (part x))) → every row xs ≡ every h (filter f (join (map part xs)))
 fused h f part row [] e = refl
 fused h f part row (x ∷ xs) e =
     ap₂ _&&_ (e x (List·Memᴰ·head refl)) (fused h f part row xs (λ y m. e y (List·Memᴰ·tail m)))

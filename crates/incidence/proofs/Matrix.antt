@@ -3,7 +3,7 @@ use Prim.Native.Nat.{ℕ, suc, _+_, _*_, _^_, _≤_, _<_}
 use native.Mathlib.Omega.{arith}
 use mathlib.Core.Path.{_≡_, refl, sym, ap, ap₂, _∙_, subst, subst⁻¹}
 use mathlib.Core.Bool.{Bool, true, false, cond}
-use mathlib.Core.List.{List, [], _∷_, _++_, map, append-nil, append-assoc, List·Memᴰ, List·Memᴰ·head, List·Memᴰ·tail}
+use mathlib.Core.List.{List, [], _∷_, _++_, map, map-append, append-nil, append-assoc, List·Memᴰ, List·Memᴰ·head, List·Memᴰ·tail}
 use lib.Bits.{bitAnd}
 use lib.ListN.{length, drop, getD, set, length-append, length-drop, length-set}
 use lib.Seq.{drop-cons, set-at}
@@ -14,7 +14,7 @@ use Rattle.model.specs.Sets.{rowOf}
 use Rattle.model.proofs.Lists.{below-e}
 use Rattle.table.specs.Lists.{parts}
 use Rattle.incidence.specs.Rows.{hasVertex, Driving, Put, Appends, cellRow, vertexRows, AllRows}
-use Rattle.table.proofs.Lists.{map-append, filter-append, parts-next}
+use Rattle.table.proofs.Lists.{filter-append, parts-next}
 use Rattle.incidence.proofs.Candidates.{cell-row}
 
 -- ---- one row more
@@ -56,7 +56,9 @@ module _ (on cubes : ℕ) (driving : List ℕ) (a : List ℕ) (at : ℕ) where
   unfolding vertexRows
   vertex-none = record { size = refl; within = omega arith; put = λ ys old p. rw append-nil p }
 
-  pub vertex-next : (j : ℕ) (b c : List ℕ) (end r x row : ℕ) → x ≡ j → row ≡ bitAnd cubes (getD driving x 0) → Appends a at (vertexRows on cubes driving j) j b end → Appends b end (cellRow on row j) 1 c r → Appends a at (vertexRows on cubes driving (j + 1)) (j + 1) c r
+  pub vertex-next : (j : ℕ) (b c : List ℕ) (end r x row : ℕ) → x ≡ j → row ≡ bitAnd cubes (getD driving x 0)
+      → Appends a at (vertexRows on cubes driving j) j b end → Appends b end (cellRow on row j) 1 c r
+      → Appends a at (vertexRows on cubes driving (j + 1)) (j + 1) c r
   unfolding vertexRows
   vertex-next j b c end r x row e q f g = record {
     size = g .size ∙ f .size;
@@ -85,25 +87,28 @@ module _ (on : List ℕ) (ts : List Term) (driving : List ℕ) (m : ℕ) where
   rowsAt v = vertexRows (getD on v 0) (rowOf hasVertex ts v) driving m
 
   -- the rows of the vertices below k stand in the buffer, eight at most for each
-  pub record Upto (k : ℕ) (old new : List ℕ) (r : ℕ) : Type 0 where
+  pub record RowsBelow (k : ℕ) (old new : List ℕ) (r : ℕ) : Type 0 where
     pub size : length new ≡ length old
     pub within : r ≤ 8 * k
     pub put : Put (parts rowsAt k) old new r
 
-  pub upto-none : (old : List ℕ) → Upto 0 old old 0
-  upto-none old = record { size = refl; within = omega arith; put = record { counted = refl; most = omega arith; same = refl } }
+  pub rows-none : (old : List ℕ) → RowsBelow 0 old old 0
+  rows-none old = record { size = refl; within = omega arith; put = record { counted = refl; most = omega arith; same = refl } }
 
-  pub upto-next : (k : ℕ) (old a b : List ℕ) (at r cubes : ℕ) → m ≤ 8 → cubes ≡ rowOf hasVertex ts k → Upto k old a at → Appends a at (vertexRows (getD on k 0) cubes driving m) m b r → Upto (k + 1) old b r
-  upto-next k old a b at r cubes l e u f = record {
+  pub rows-next : (k : ℕ) (old a b : List ℕ) (at r cubes : ℕ) → m ≤ 8 → cubes ≡ rowOf hasVertex ts k → RowsBelow k old a at
+      → Appends a at (vertexRows (getD on k 0) cubes driving m) m b r → RowsBelow (k + 1) old b r
+  rows-next k old a b at r cubes l e u f = record {
     size = f .size ∙ u .size;
     within = omega (arith, u .within, f .within);
-    put = subst⁻¹ (λ (xs : List ℕ). Put xs old b r) (parts-next rowsAt k) (subst (λ (x : ℕ). Put (parts rowsAt k ++ vertexRows (getD on k 0) x driving m) old b r) e (f .put (parts rowsAt k) old (u .put)));
+    put = subst⁻¹ (λ (xs : List ℕ). Put xs old b r) (parts-next rowsAt k)
+        (subst (λ (x : ℕ). Put (parts rowsAt k ++ vertexRows (getD on k 0) x driving m) old b r) e (f .put (parts rowsAt k) old (u .put)));
   }
 
 -- ---- the rows so put are those of the on cells
 
 -- parts that are made of other parts by a filter and a map
-fused : (h : Cell → ℕ) (f : Cell → Bool) (part : ℕ → List Cell) (row : ℕ → List ℕ) (xs : List ℕ) → ((x : ℕ) → List·Memᴰ x xs → row x ≡ map h (filter f (part x))) → join (map row xs) ≡ map h (filter f (join (map part xs)))
+fused : (h : Cell → ℕ) (f : Cell → Bool) (part : ℕ → List Cell) (row : ℕ → List ℕ) (xs : List ℕ)
+    → ((x : ℕ) → List·Memᴰ x xs → row x ≡ map h (filter f (part x))) → join (map row xs) ≡ map h (filter f (join (map part xs)))
 fused h f part row [] e = refl
 fused h f part row (x ∷ xs) e =
     ap₂ (λ (a b : List ℕ). a ++ b) (e x (List·Memᴰ·head refl)) (fused h f part row xs (λ y m. e y (List·Memᴰ·tail m)))
@@ -128,7 +133,8 @@ vertex-is p ts driving v (j ∷ js) e = go (bit j (getD (p .on) v 0)) (vertex-is
     go true h = ap₂ (λ (x : ℕ) (l : List ℕ). x ∷ l) (e j (List·Memᴰ·head refl)) h
     go false h = h
 
-pub rows-all : (on : List ℕ) (ts : List Term) (driving : List ℕ) (n m k s : ℕ) (old new : List ℕ) (r : ℕ) → s ≡ 2 ^ n → Driving ts m driving → s ≤ k → k ≤ s → Upto on ts driving m k old new r → AllRows on n m ts old new r
+pub rows-all : (on : List ℕ) (ts : List Term) (driving : List ℕ) (n m k s : ℕ) (old new : List ℕ) (r : ℕ) → s ≡ 2 ^ n → Driving ts m driving → s ≤ k
+    → k ≤ s → RowsBelow on ts driving m k old new r → AllRows on n m ts old new r
 unfolding cells onCells vertexRows
 rows-all on ts driving n m k s old new r e d l g u p o =
     let i : k ≡ 2 ^ p .n = omega (arith, ap (λ (x : ℕ). 2 ^ x) (o .inputs)) in

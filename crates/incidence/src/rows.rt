@@ -12,8 +12,8 @@ ghost use Rattle.incidence.specs.Rows.{hasVertex, drivesOutput, Driving,
 use bits::byte;
 use model::Term;
 
-// A truth value as a digit.
-fn digit(b: bool) -> u64
+// A truth value as a number.
+fn flag(b: bool) -> u64
     ensures { λ r. ⌜ r ≡ cond b 1 0 ⌝ }
 {
     if b { 1 } else { 0 }
@@ -28,13 +28,13 @@ pub fn cubes_at(terms: [Term; 64], count: usize, v: u8) -> u64
     let mut k = count;
     while 0 < k {
         k -= 1;
-        set = set * 2 + digit(terms[k].in_cube(v));
+        set = set * 2 + flag(terms[k].in_cube(v));
     }
     set
 }
 
 // The candidates that drive output j, read from the last one down.
-pub fn driving(terms: [Term; 64], count: usize, j: u8) -> u64
+fn driving(terms: [Term; 64], count: usize, j: u8) -> u64
     requires { ⌜ (count ≤ 64) × (j < 8) ⌝ }
     ensures { λ r. ⌜ r ≡ rowOf drivesOutput (take count terms) j ⌝ }
 {
@@ -42,7 +42,7 @@ pub fn driving(terms: [Term; 64], count: usize, j: u8) -> u64
     let mut k = count;
     while 0 < k {
         k -= 1;
-        set = set * 2 + digit(byte::has(terms[k].outputs, j));
+        set = set * 2 + flag(byte::has(terms[k].outputs, j));
     }
     set
 }

@@ -1,5 +1,8 @@
 // Prints what a call of the engine returned and wrote: number, offset and written in decimal with single spaces, then the answer bytes in
 // lower-case hexadecimal, 32 bytes a line.
+//
+// `print` has no `ensures`: it changes nothing that a contract can speak of, and what stands on standard output is in no contract of
+// `io`. The gate holds the output of the programs that call it to their files `stdout`.
 ghost use Prim.Native.Nat.{_<_, _≤_};
 use libc::STDOUT_FILENO;
 

@@ -25,6 +25,7 @@ use Rattle.model.proofs.Drives.{bit-or}
 use Rattle.bits.specs.Bits.{Single, Member}
 use Rattle.bits.proofs.Shifts.{set-is-or}
 use Rattle.bits.proofs.Digits.{digit-bit}
+use borrow.Author.Count.{below-more}
 use Rattle.bits.proofs.Parts.{part-le, part-self, the-member}
 
 -- ---- on | dc, vertex by vertex
@@ -35,14 +36,17 @@ MayBelow on dc k may = (v : ℕ) → v < k → getD may v 0 ≡ bitOr (getD on v
 
 module _ (on dc may : List ℕ) where
   pub may-next : (k : ℕ) → k < length may → MayBelow on dc k may → MayBelow on dc (k + 1) (set may k (bitOr (getD on k 0) (getD dc k 0)))
-  may-next k l h v b = go (ℕ-discrete v k)
-    where
-      go : Dec (v ≡ k) → getD (set may k (bitOr (getD on k 0) (getD dc k 0))) v 0 ≡ bitOr (getD on v 0) (getD dc v 0)
-      go (yes e) = rw e (getD-set-same may k (bitOr (getD on k 0) (getD dc k 0)) 0 l)
-      go (no d) = getD-set-other may k v (bitOr (getD on k 0) (getD dc k 0)) 0 d ∙ h v (omega arith)
+  may-next k l h =
+      let x : ℕ = bitOr (getD on k 0) (getD dc k 0) in
+      below-more (λ v. getD (set may k x) v 0 ≡ bitOr (getD on v 0) (getD dc v 0)) k
+      (λ v b. getD-set-other may k v x 0 (λ e. omega arith) ∙ h v b) (getD-set-same may k x 0 l)
 
   pub may-all : (k : ℕ) → 256 ≤ k → MayBelow on dc k may → MayOf on dc may
-  may-all k l h p n small t = record { inputs = t .inputs; on-or-dc = λ v b. at v b ∙ ap₂ bitOr (t .on-bytes v b) (t .dc-bytes v b); outputs = λ v b. subst⁻¹ (λ (x : ℕ). x < 2 ^ p .m) (at v b) (or-lt (p .m) (getD on v 0) (getD dc v 0) (t .on-lt v b) (t .dc-lt v b)) }
+  may-all k l h p n small t = record {
+    inputs = t .inputs;
+    on-or-dc = λ v b. at v b ∙ ap₂ bitOr (t .on-bytes v b) (t .dc-bytes v b);
+    outputs = λ v b. subst⁻¹ (λ (x : ℕ). x < 2 ^ p .m) (at v b) (or-lt (p .m) (getD on v 0) (getD dc v 0) (t .on-lt v b) (t .dc-lt v b));
+  }
     where
       at : (v : ℕ) → v < 2 ^ n → getD may v 0 ≡ bitOr (getD on v 0) (getD dc v 0)
       at v b = h v (omega (arith, pow-mono small))
@@ -120,10 +124,12 @@ module _ (may : List ℕ) (n care value : ℕ) (k : Cube n care value) (p : Tabl
       T-not (isOff p (cell value j)) (subst (λ (x : Bool). T x) (may-bit p n may a value j small) t) (subst (λ (x : ℕ). T (isOff p (cell x j))) s o))
 
 pub drives-none : (may : List ℕ) (n care value : ℕ) → Cube n care value → getD may value 0 ≡ 0 → Drives may n care value 0
-drives-none may n care value k e p a = sym (bits-ext (drives p care value) 0 (λ j. bool-ext (bit j (drives p care value)) (bit j 0) (λ t. subst (λ (x : ℕ). T (bit j x)) e (at-first may n care value k p a j t)) (λ t. absurd (omega (arith, bit-le j 0 t, pow-pos j)))))
+drives-none may n care value k e p a = sym (bits-ext (drives p care value) 0
+    (λ j. bool-ext (bit j (drives p care value)) (bit j 0) (λ t. subst (λ (x : ℕ). T (bit j x)) e (at-first may n care value k p a j t)) (λ t. absurd (omega (arith, bit-le j 0 t, pow-pos j)))))
 
-pub drives-vertex : (may : List ℕ) (value : ℕ) → DrivesFree may 0 value (getD may value 0)
-drives-vertex may value n care k f p a = bits-ext (getD may value 0) (drives p care value) (λ j. bool-ext (bit j (getD may value 0)) (bit j (drives p care value)) (at-only may n care value k p a f j) (at-first may n care value k p a j))
+drives-vertex : (may : List ℕ) (value : ℕ) → DrivesFree may 0 value (getD may value 0)
+drives-vertex may value n care k f p a = bits-ext (getD may value 0) (drives p care value)
+    (λ j. bool-ext (bit j (getD may value 0)) (bit j (drives p care value)) (at-only may n care value k p a f j) (at-first may n care value k p a j))
 
 pub drives-one : (may : List ℕ) (n care value free : ℕ) → Cube n care value → Free n care free → free ≡ 0 → Drives may n care value (getD may value 0)
 drives-one may n care value free k f e = drives-vertex may value n care k (subst (Free n care) e f)
@@ -170,22 +176,27 @@ module _ (n care value free i a : ℕ) (k : Cube n care value) (f : Free n care 
   in-both p = drives-halves p care value i free-care free-value
 
   halves-drive : (may : List ℕ) (low high : ℕ) → DrivesFree may (free - a) value low → DrivesFree may (free - a) (bitOr value a) high → Drives may n care value (bitAnd low high)
-  halves-drive may low high l h p t = ap₂ bitAnd (l n (setBit i care) low-half free-half p t) (subst (λ (x : ℕ). DrivesFree may (free - a) x high) upper h n (setBit i care) high-half free-half p t) ∙ sym (in-both p)
+  halves-drive may low high l h p t = ap₂ bitAnd (l n (setBit i care) low-half free-half p t)
+      (subst (λ (x : ℕ). DrivesFree may (free - a) x high) upper h n (setBit i care) high-half free-half p t) ∙ sym (in-both p)
 
   half-drives-none : (may : List ℕ) → DrivesFree may (free - a) value 0 → Drives may n care value 0
   half-drives-none may l p t = sym (in-both p ∙ ap (λ (x : ℕ). bitAnd x (drives p (setBit i care) (setBit i value))) (sym (l n (setBit i care) low-half free-half p t)))
 
 module _ (may : List ℕ) (value free a : ℕ) (m : Member free a) where
   pub both-halves : (rest up low high : ℕ) → rest ≡ free - a → up ≡ bitOr value a → DrivesFree may rest value low → DrivesFree may rest up high → DrivesFree may free value (bitAnd low high)
-  both-halves rest up low high e g l h n care k f = halves-drive n care value free (the-member free a m .0) a k f (the-member free a m .1) (digit-bit (the-member free a m .0) free .1 (the-member free a m .2)) may low high (subst (λ (x : ℕ). DrivesFree may x value low) e l) (subst₂ (λ (x y : ℕ). DrivesFree may x y high) e g h)
+  both-halves rest up low high e g l h n care k f = halves-drive n care value free (the-member free a m .0) a k f (the-member free a m .1)
+      (digit-bit (the-member free a m .0) free .1 (the-member free a m .2)) may low high (subst (λ (x : ℕ). DrivesFree may x value low) e l)
+      (subst₂ (λ (x y : ℕ). DrivesFree may x y high) e g h)
 
   pub first-half-none : (rest low : ℕ) → rest ≡ free - a → DrivesFree may rest value low → low ≡ 0 → DrivesFree may free value 0
-  first-half-none rest low e l z n care k f = half-drives-none n care value free (the-member free a m .0) a k f (the-member free a m .1) (digit-bit (the-member free a m .0) free .1 (the-member free a m .2)) may (subst₂ (λ (x y : ℕ). DrivesFree may x value y) e z l)
+  first-half-none rest low e l z n care k f = half-drives-none n care value free (the-member free a m .0) a k f (the-member free a m .1)
+      (digit-bit (the-member free a m .0) free .1 (the-member free a m .2)) may (subst₂ (λ (x y : ℕ). DrivesFree may x value y) e z l)
 
 -- ---- cubes of two and of four vertices
 
 two-of : (may : List ℕ) (value free up r : ℕ) → Single free → up ≡ bitOr value free → r ≡ bitAnd (getD may value 0) (getD may up 0) → DrivesFree may free value r
-two-of may value free up r s e g = subst⁻¹ (DrivesFree may free value) g (both-halves may value free free (record { single = s; part = part-self free }) 0 up (getD may value 0) (getD may up 0) (omega arith) e (drives-vertex may value) (drives-vertex may up))
+two-of may value free up r s e g = subst⁻¹ (DrivesFree may free value) g
+    (both-halves may value free free (record { single = s; part = part-self free }) 0 up (getD may value 0) (getD may up 0) (omega arith) e (drives-vertex may value) (drives-vertex may up))
 
 pub two-vertices : (may : List ℕ) (value free a r : ℕ) → Member free a → free - a ≡ 0 → r ≡ bitAnd (getD may value 0) (getD may (bitOr value a) 0) → DrivesFree may free value r
 two-vertices may value free a r m e g =
@@ -193,5 +204,7 @@ two-vertices may value free a r m e g =
     subst (λ (x : ℕ). DrivesFree may x value r) s (two-of may value a (bitOr value a) r (m .single) refl g)
 
 module _ (may : List ℕ) (value free a b : ℕ) (m : Member free a) (k : Member (free - a) b) (e : free - a ≡ b) where
-  pub four-vertices : (low high : ℕ) → low ≡ bitAnd (getD may value 0) (getD may (bitOr value b) 0) → high ≡ bitAnd (getD may (bitOr value a) 0) (getD may (bitOr (bitOr value a) b) 0) → DrivesFree may free value (bitAnd low high)
-  four-vertices low high g h = both-halves may value free a m b (bitOr value a) low high (sym e) refl (two-of may value b (bitOr value b) low (k .single) refl g) (two-of may (bitOr value a) b (bitOr (bitOr value a) b) high (k .single) refl h)
+  pub four-vertices : (low high : ℕ) → low ≡ bitAnd (getD may value 0) (getD may (bitOr value b) 0)
+      → high ≡ bitAnd (getD may (bitOr value a) 0) (getD may (bitOr (bitOr value a) b) 0) → DrivesFree may free value (bitAnd low high)
+  four-vertices low high g h = both-halves may value free a m b (bitOr value a) low high (sym e) refl
+      (two-of may value b (bitOr value b) low (k .single) refl g) (two-of may (bitOr value a) b (bitOr (bitOr value a) b) high (k .single) refl h)

@@ -1,4 +1,4 @@
--- Well-formed and legal terms; the laws behind `formed`, `holds_no_off` and `legal`.
+-- Well-formed terms, and terms that hold no off cell; the laws behind `formed` and `holds_no_off`.
 use Prim.Native.Nat.{ℕ, _^_, _≤_, _<_}
 use native.Mathlib.Omega.{arith}
 use mathlib.Core.Path.{_≡_, refl, sym, ap, ap₂, _∙_, subst, subst⁻¹}
@@ -9,12 +9,12 @@ use lib.Bits.{bitAnd}
 use lib.Dec.{T, eqb, ltb, eqb→eq, eqb-refl}
 use Rattle.model.specs.declared.Term.{Term}
 use Rattle.model.specs.Base.{bit}
-use Rattle.model.specs.Table.{Table, formed, holdsNoOff, legal}
+use Rattle.model.specs.Table.{Table, formed, holdsNoOff}
 use Rattle.model.specs.Primes.{drives}
 use Rattle.model.specs.Sets.{Within}
 use Rattle.model.proofs.Cubes.{bit-and, bits-ext, and-within, Formed, formed-e}
 use Rattle.model.proofs.Drives.{no-off-e, no-off-i}
-use Rattle.table.specs.Cubes.{Cube, Drives, TellsFormed, TellsNoOff, TellsLegal}
+use Rattle.table.specs.Cubes.{Cube, Drives, TellsFormed, TellsNoOff}
 use Rattle.model.proofs.Lists.{bool-ext}
 
 -- ---- a part of a number's bits, as a test
@@ -55,7 +55,8 @@ module _ (n m : ℕ) (t : Term) where
   no-output z p i j = sym (parts p i j ∙ rw (le-ltb 0 (t .outputs) (omega arith)) (
       ap (λ (x : Bool). ltb (t .care) (2 ^ n) && x) (and-false (eqb (bitAnd (t .value) (t .care)) (t .value))) ∙ and-false (ltb (t .care) (2 ^ n))))
 
-  pub outputs-in : (b x b' y : ℕ) (r : Bool) → b ≡ 2 ^ n → x ≡ t .care → x < b → r ≡ eqb (bitAnd (t .value) (t .care)) (t .value) → r ≡ true → (t .outputs ≡ 0 → ⊥) → y ≡ t .outputs → b' ≡ 2 ^ m → TellsFormed n m t (ltb y b')
+  pub outputs-in : (b x b' y : ℕ) (r : Bool) → b ≡ 2 ^ n → x ≡ t .care → x < b → r ≡ eqb (bitAnd (t .value) (t .care)) (t .value) → r ≡ true
+      → (t .outputs ≡ 0 → ⊥) → y ≡ t .outputs → b' ≡ 2 ^ m → TellsFormed n m t (ltb y b')
   outputs-in b x b' y r e g l h k o u w p i j =
       let c : t .care < 2 ^ n = omega arith in
       let d : 0 < t .outputs = omega arith in
@@ -67,22 +68,9 @@ module _ (n m : ℕ) (t : Term) where
       let g : Formed p t = formed-e p t (subst (λ (b : Bool). T b) (sym e ∙ f p refl refl) tt) in
       record { inputs = l; care-lt = g .care-lt; value-in = g .value-in }
 
--- ---- no off cell, legal
+-- ---- no off cell
 
 pub no-off-tells : (may : List ℕ) (n : ℕ) (t : Term) (d : ℕ) (r : Bool) → Drives may n (t .care) (t .value) d → r ≡ eqb (bitAnd (t .outputs) d) (t .outputs) → TellsNoOff may n t r
 no-off-tells may n t d r h e p a l = e ∙ rw (h p a) (bool-ext (eqb (bitAnd (t .outputs) (drives p (t .care) (t .value))) (t .outputs)) (holdsNoOff p t)
     (λ x. no-off-i p t (test-within (t .outputs) (drives p (t .care) (t .value)) x))
     (λ x. within-test (t .outputs) (drives p (t .care) (t .value)) (no-off-e p t l x)))
-
-module _ (may : List ℕ) (n m : ℕ) (t : Term) (f : Bool) (tells : TellsFormed n m t f) where
-  pub legal-formed-no-off : (r : Bool) → f ≡ true → TellsNoOff may n t r → TellsLegal may n m t r
-  unfolding legal
-  legal-formed-no-off r e h p a j =
-      let y : formed p t ≡ true = sym (tells p (a .inputs) j) ∙ e in
-      h p a (formed-e p t (subst⁻¹ (λ (b : Bool). T b) y tt) .outputs-lt) ∙ rw y
-
-  pub legal-not-formed : f ≡ false → TellsLegal may n m t false
-  unfolding legal
-  legal-not-formed e p a j =
-      let y : formed p t ≡ false = sym (tells p (a .inputs) j) ∙ e in
-      rw y

@@ -5,7 +5,7 @@ use native.Mathlib.Decide.{decLt}
 use native.Mathlib.Numerals.{add-one}
 use mathlib.Core.Path.{_≡_, refl, sym, ap, ap₂, _∙_, subst, subst⁻¹}
 use mathlib.Core.Bool.{Bool, true, false, cond}
-use mathlib.Core.List.{List, [], _∷_, _++_, map, append-nil, append-assoc}
+use mathlib.Core.List.{List, [], _∷_, _++_, map, map-append, append-nil, append-assoc}
 use borrow.Author.Tests.{eq-eqb, ne-eqb}
 use lib.Dec.{eqb}
 use lib.ListN.{length, take, set, length-append, length-take, length-set}
@@ -32,10 +32,6 @@ below-split k s l =
 
 -- ---- a filtered list of parts
 
-pub map-append : {A B : Type 0} (f : A → B) (xs ys : List A) → map f (xs ++ ys) ≡ map f xs ++ map f ys
-map-append f [] ys = refl
-map-append {B} f (x ∷ xs) ys = ap (λ (l : List B). f x ∷ l) (map-append f xs ys)
-
 module _ {A : Type 0} where
   join-append : (xs ys : List (List A)) → join (xs ++ ys) ≡ join xs ++ join ys
   join-append [] ys = refl
@@ -50,7 +46,7 @@ module _ {A : Type 0} where
       go false h = h
 
   module _ (part : ℕ → List A) (k : ℕ) where
-    pub parts-split : (s : ℕ) → k ≤ s → parts part s ≡ parts part k ++ join (map part (from k (s - k)))
+    parts-split : (s : ℕ) → k ≤ s → parts part s ≡ parts part k ++ join (map part (from k (s - k)))
     parts-split s l =
         ap (λ (xs : List ℕ). join (map part xs)) (below-split k s l)
         ∙ ap join (map-append part (below k) (from k (s - k)))
@@ -88,7 +84,8 @@ module _ {A : Type 0} where
       passes-from i zero a b = absurd (omega arith)
       passes-from i (suc k) a b = go (decLt i r) (passes-from (suc i) k)
         where
-          go : Dec (i < r) → (suc i ≤ r → r < suc i + k → filter f (map g (from (suc i) k)) ≡ g r ∷ []) → cond (f (g i)) (g i ∷ filter f (map g (from (suc i) k))) (filter f (map g (from (suc i) k))) ≡ g r ∷ []
+          go : Dec (i < r) → (suc i ≤ r → r < suc i + k → filter f (map g (from (suc i) k)) ≡ g r ∷ [])
+              → cond (f (g i)) (g i ∷ filter f (map g (from (suc i) k))) (filter f (map g (from (suc i) k))) ≡ g r ∷ []
           go (yes l) ih = rw (h i ∙ ne-eqb i r (λ e. omega arith)) (ih l (omega arith))
           go (no l) ih =
               let e : i ≡ r = omega arith in
@@ -100,7 +97,7 @@ module _ {A : Type 0} where
   -- ---- an array that holds a list, with one entry more
 
   module _ (cap : ℕ) (array : List A) (count : ℕ) where
-    pub filled-next : (xs : List A) (x : A) → Filled cap xs array count → count < cap → Filled cap (xs ++ (x ∷ [])) (set array count x) (count + 1)
+    filled-next : (xs : List A) (x : A) → Filled cap xs array count → count < cap → Filled cap (xs ++ (x ∷ [])) (set array count x) (count + 1)
     filled-next xs x f l = record {
       size = length-set array count x ∙ f .size;
       counted = omega (arith, f .counted, length-append xs (x ∷ []));

@@ -96,9 +96,11 @@ module _ (p : Table) (care value i : ℕ) (inside : Within value care) (t : T (b
     where
       go : T (bit i value) ⊎ T (not (bit i value)) → drives p (care - 2 ^ i) wide ≡ bitAnd (drives p care value) (drives p care (bitXor value (2 ^ i)))
       go (inl u) =
-          wide-halves ∙ ap₂ (λ (x y : ℕ). bitAnd (drives p care x) (drives p care y)) (wide-is (bitXor value (2 ^ i)) (λ j d. flip-other i j value d) (flip-off i value u)) (set-wide value (λ j d. refl) u)
+          wide-halves ∙ ap₂ (λ (x y : ℕ). bitAnd (drives p care x) (drives p care y))
+          (wide-is (bitXor value (2 ^ i)) (λ j d. flip-other i j value d) (flip-off i value u)) (set-wide value (λ j d. refl) u)
           ∙ and-comm (drives p care (bitXor value (2 ^ i))) (drives p care value)
-      go (inr u) = wide-halves ∙ ap₂ (λ (x y : ℕ). bitAnd (drives p care x) (drives p care y)) (wide-is value (λ j d. refl) u) (set-wide (bitXor value (2 ^ i)) (λ j d. flip-other i j value d) (flip-on i value u))
+      go (inr u) = wide-halves ∙ ap₂ (λ (x y : ℕ). bitAnd (drives p care x) (drives p care y)) (wide-is value (λ j d. refl) u)
+          (set-wide (bitXor value (2 ^ i)) (λ j d. flip-other i j value d) (flip-on i value u))
 
 -- ---- one literal
 
@@ -120,11 +122,13 @@ module _ (n care value i : ℕ) (k : Cube n care value) (b : Bool) (h : b ≡ bi
       go j u (yes q) = subst⁻¹ (λ (x : ℕ). T (bit x care)) q (literal t)
       go j u (no d) = k .value-in j (subst (λ (x : Bool). T x) (flip-other i j value d) u)
 
-  pub droppable-literal : (may : List ℕ) (w d outputs : ℕ) (r : Bool) → b ≡ true → w ≡ 2 ^ i → Drives may n care value outputs → Drives may n care (bitXor value w) d → r ≡ eqb (bitAnd outputs d) outputs → TellsDroppable may n care value outputs i r
+  pub droppable-literal : (may : List ℕ) (w d outputs : ℕ) (r : Bool) → b ≡ true → w ≡ 2 ^ i → Drives may n care value outputs
+      → Drives may n care (bitXor value w) d → r ≡ eqb (bitAnd outputs d) outputs → TellsDroppable may n care value outputs i r
   unfolding droppable
   droppable-literal may w d outputs r t e o f g p a =
       let wider : bitAnd outputs (drives p (care - 2 ^ i) (bitAnd value (care - 2 ^ i))) ≡ bitAnd outputs d =
-      ap (bitAnd outputs) (across-drives p care value i (k .value-in) (literal t) ∙ ap₂ bitAnd (sym (o p a)) (ap (λ (x : ℕ). drives p care (bitXor value x)) (sym e) ∙ sym (f p a))) ∙ and-twice outputs d in
+      ap (bitAnd outputs) (across-drives p care value i (k .value-in) (literal t) ∙ ap₂ bitAnd (sym (o p a)) (ap (λ (x : ℕ). drives p care (bitXor value x)) (sym e) ∙ sym (f p a)))
+      ∙ and-twice outputs d in
       g ∙ rw (wider, sym h ∙ t)
 
   pub droppable-free : (may : List ℕ) (outputs : ℕ) → b ≡ false → TellsDroppable may n care value outputs i false
@@ -183,11 +187,17 @@ module _ (may : List ℕ) (n care value d : ℕ) (k : Cube n care value) (h : Dr
 
       locally : Locally p (term care value d)
       locally = record {
-        formed = record { care-lt = subst⁻¹ (λ (x : ℕ). care < 2 ^ x) (a .inputs) (k .care-lt); value-in = k .value-in; outputs-pos = pos; outputs-lt = subst⁻¹ (λ (x : ℕ). x < 2 ^ p .m) (h p a) (drives-lt p care value) };
+        formed = record {
+          care-lt = subst⁻¹ (λ (x : ℕ). care < 2 ^ x) (a .inputs) (k .care-lt);
+          value-in = k .value-in;
+          outputs-pos = pos;
+          outputs-lt = subst⁻¹ (λ (x : ℕ). x < 2 ^ p .m) (h p a) (drives-lt p care value);
+        };
         outs = h p a;
         tight = λ i b w.
             let v : ℕ = drives p (care - 2 ^ i) (bitAnd value (care - 2 ^ i)) in
-            T-not (bit i care && eqb (bitAnd d v) d) (subst (SomeDroppable may n care value d) e s p a i (bit-lt i n care b (k .care-lt))) (and-i (bit i care) (eqb (bitAnd d v) d) b (within-test d v w));
+            T-not (bit i care && eqb (bitAnd d v) d) (subst (SomeDroppable may n care value d) e s p a i (bit-lt i n care b (k .care-lt)))
+            (and-i (bit i care) (eqb (bitAnd d v) d) b (within-test d v w));
       }
 
       back : T (eqb o d && ltb 0 d) → T (prime p (term care value o))

@@ -44,11 +44,11 @@ module _ (a : PrimeList) (t : Term) where
 pub extends-none : (a : PrimeList) (ts : List Term) → ts ≡ [] → Extends a ts a
 extends-none a ts e xs h = rw (e, append-nil) h
 
-pub extends-both : (a b c : PrimeList) (ts us : List Term) → Extends a ts b → Extends b us c → Extends a (ts ++ us) c
+extends-both : (a b c : PrimeList) (ts us : List Term) → Extends a ts b → Extends b us c → Extends a (ts ++ us) c
 extends-both a b c ts us f g xs h = subst (λ (l : List Term). Listed l c) (append-assoc xs ts us) (g (xs ++ ts) (f xs h))
 
 -- a full list stays as it is, whatever comes
-pub extends-full : (a b : PrimeList) (ts us : List Term) → Extends a ts b → b .full ≡ true → Extends a (ts ++ us) b
+extends-full : (a b : PrimeList) (ts us : List Term) → Extends a ts b → b .full ≡ true → Extends a (ts ++ us) b
 extends-full a b ts us f e xs h =
     let k : Listed (xs ++ ts) b = f xs h in
     let l : 64 < length (xs ++ ts) = ltb-true 64 (length (xs ++ ts)) (sym (k .more) ∙ e) in
@@ -94,10 +94,12 @@ module _ (may : List ℕ) (n care : ℕ) (a : PrimeList) where
   pub care-none : (k r : ℕ) (b c : PrimeList) → ExtendsByCare may n care k a b → PrimeOutputs may n care k r → r ≡ 0 → c ≡ b → ExtendsByCare may n care (k + 1) a c
   care-none k r b c x o z e = subst⁻¹ (ExtendsByCare may n care (k + 1) a) e (care-next k b b x (cube-none may n care k b r o z))
 
-  pub care-one : (k r : ℕ) (b c d : PrimeList) → ExtendsByCare may n care k a b → PrimeOutputs may n care k r → (r ≡ 0 → ⊥) → Extends b (term care k r ∷ []) c → d ≡ c → ExtendsByCare may n care (k + 1) a d
+  pub care-one : (k r : ℕ) (b c d : PrimeList) → ExtendsByCare may n care k a b → PrimeOutputs may n care k r → (r ≡ 0 → ⊥)
+      → Extends b (term care k r ∷ []) c → d ≡ c → ExtendsByCare may n care (k + 1) a d
   care-one k r b c d x o z y e = subst⁻¹ (ExtendsByCare may n care (k + 1) a) e (care-next k b c x (cube-one may n care k b r c o z y))
 
-  pub care-full : (k s r : ℕ) (b c : PrimeList) → s ≡ 2 ^ n → k < s → ExtendsByCare may n care k a b → PrimeOutputs may n care k r → (r ≡ 0 → ⊥) → Extends b (term care k r ∷ []) c → c .full ≡ true → ExtendsByCare may n care (2 ^ n) a c
+  pub care-full : (k s r : ℕ) (b c : PrimeList) → s ≡ 2 ^ n → k < s → ExtendsByCare may n care k a b → PrimeOutputs may n care k r → (r ≡ 0 → ⊥)
+      → Extends b (term care k r ∷ []) c → c .full ≡ true → ExtendsByCare may n care (2 ^ n) a c
   care-full k s r b c e l x o z y f p h = part-full (prime p) (ofCube p care) k a b c (x p h) (cube-one may n care k b r c o z y p h) (2 ^ n) f (omega arith)
 
   pub care-all : (k s : ℕ) (b : PrimeList) → s ≡ 2 ^ n → s ≤ k → k ≤ s → ExtendsByCare may n care k a b → ExtendsByCare may n care (2 ^ n) a b

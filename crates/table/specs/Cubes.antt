@@ -8,7 +8,7 @@ use lib.Dec.{T, eqb, ltb}
 use lib.ListN.{getD}
 use Rattle.model.specs.Base.{bit}
 use Rattle.model.specs.declared.Term.{Term}
-use Rattle.model.specs.Table.{Table, term, formed, holdsNoOff, legal}
+use Rattle.model.specs.Table.{Table, term, formed, holdsNoOff}
 use Rattle.model.specs.Primes.{drives, prime}
 use Rattle.model.specs.Sets.{Within}
 
@@ -55,10 +55,6 @@ TellsFormed n m t r = (p : Table) → p .n ≡ n → p .m ≡ m → r ≡ formed
 -- r tells whether t holds no off cell (refusal 10 does not apply)
 abbrev pub TellsNoOff : List ℕ → ℕ → Term → Bool → Type 0
 TellsNoOff may n t r = (p : Table) → Allowed p n may → t .outputs < 2 ^ p .m → r ≡ holdsNoOff p t
-
--- r tells whether t is legal
-abbrev pub TellsLegal : List ℕ → ℕ → ℕ → Term → Bool → Type 0
-TellsLegal may n m t r = (p : Table) → Allowed p n may → p .m ≡ m → r ≡ legal p t
 
 -- input i is a literal of the cube, and the cube without it may drive the outputs
 unfoldable pub droppable : Table → ℕ → ℕ → ℕ → ℕ → Bool

@@ -3,7 +3,7 @@ ghost use mathlib.Core.Path.{_≡_};
 ghost use Prim.Native.Nat.{_^_, _≤_, _<_};
 ghost use lib.Bits.{bitAnd};
 ghost use lib.ListN.{getD};
-ghost use Rattle.bits.specs.Bits.{Member};
+ghost use Rattle.bits.specs.Bits.{Lowest};
 ghost use Rattle.table.specs.Cubes.{Cube, Free, Drives, DrivesFree};
 use bits::byte;
 
@@ -18,7 +18,7 @@ fn free_inputs(n: u8, care: u8) -> u8
 // The first of the free inputs, as a set.
 fn first_free(free: u8) -> u8
     requires { ⌜ 0 < free ⌝ }
-    ensures { λ r. ⌜ Member free r ⌝ }
+    ensures { λ r. ⌜ Lowest free r ⌝ }
 {
     free ^ (free & (free - 1))
 }

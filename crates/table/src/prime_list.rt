@@ -15,7 +15,7 @@ pub struct PrimeList {
 
 impl PrimeList {
     // The empty list.
-    pub fn empty() -> PrimeList
+    fn empty() -> PrimeList
         ensures { λ r. ⌜ Listed [] r ⌝ }
     {
         PrimeList {
@@ -30,7 +30,7 @@ impl PrimeList {
     }
 
     // The list with t behind it. Of a 65th term it only tells that there is one.
-    pub fn with(self, t: Term) -> PrimeList
+    fn with(self, t: Term) -> PrimeList
         ensures { λ r. ⌜ Extends self (t ∷ []) r ⌝ }
     {
         let at = self.count;
@@ -46,7 +46,7 @@ impl PrimeList {
 }
 
 // The list with the primes of one care behind it, by rising value. It stops where a 65th comes.
-pub fn with_care(may: &[u8; 256], n: u8, care: u8, list: PrimeList) -> PrimeList
+fn with_care(may: &[u8; 256], n: u8, care: u8, list: PrimeList) -> PrimeList
     requires { ⌜ (n ≤ 8) × (care < 2 ^ n) ⌝ }
     ensures { λ r. ⌜ ExtendsByCare (now (may .entry)) n care (2 ^ n) list r ⌝ }
 {
@@ -54,11 +54,12 @@ pub fn with_care(may: &[u8; 256], n: u8, care: u8, list: PrimeList) -> PrimeList
     let mut next = list;
     let mut value: usize = 0;
     while value < size {
-        let outputs = primes::outputs_at(may, n, care, value as u8);
+        let v = value as u8;
+        let outputs = primes::outputs_at(may, n, care, v);
         if outputs != 0 {
             next = next.with(Term {
                 care: care,
-                value: value as u8,
+                value: v,
                 outputs: outputs,
             });
             if next.full {

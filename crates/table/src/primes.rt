@@ -6,7 +6,7 @@ use bits::byte;
 
 // Whether input i is a literal of the cube, and the cube without it may still drive the outputs. The cube itself may drive them,
 // so only its neighbour across the literal is looked at.
-pub fn droppable(may: &[u8; 256], n: u8, care: u8, value: u8, outputs: u8, i: u8) -> bool
+fn droppable(may: &[u8; 256], n: u8, care: u8, value: u8, outputs: u8, i: u8) -> bool
     requires { ⌜ Cube n care value ⌝ }
     requires { ⌜ Drives (now may) n care value outputs ⌝ }
     requires { ⌜ i < n ⌝ }
@@ -21,7 +21,7 @@ pub fn droppable(may: &[u8; 256], n: u8, care: u8, value: u8, outputs: u8, i: u8
 }
 
 // Whether some literal of the cube is droppable. One at a time is enough: a cube with fewer literals may drive less.
-pub fn some_droppable(may: &[u8; 256], n: u8, care: u8, value: u8, outputs: u8) -> bool
+fn some_droppable(may: &[u8; 256], n: u8, care: u8, value: u8, outputs: u8) -> bool
     requires { ⌜ Cube n care value ⌝ }
     requires { ⌜ Drives (now may) n care value outputs ⌝ }
     ensures { λ r. ⌜ SomeDroppable (now (may .entry)) n care value outputs r ⌝ }
@@ -37,7 +37,7 @@ pub fn some_droppable(may: &[u8; 256], n: u8, care: u8, value: u8, outputs: u8) 
 }
 
 // The outputs of the cube's prime: all that it may drive, where that is some and each literal is needed for it; else 0.
-pub fn prime_outputs(may: &[u8; 256], n: u8, care: u8, value: u8) -> u8
+fn prime_outputs(may: &[u8; 256], n: u8, care: u8, value: u8) -> u8
     requires { ⌜ Cube n care value ⌝ }
     ensures { λ r. ⌜ PrimeOutputs (now (may .entry)) n care value r ⌝ }
 {

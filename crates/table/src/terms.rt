@@ -1,23 +1,9 @@
-// What a term holds, and whether it is legal.
-ghost use mathlib.Core.Path.{_≡_};
-ghost use Prim.Native.Nat.{_≤_, _<_};
-ghost use Rattle.model.specs.Table.{cell, holds};
-ghost use Rattle.table.specs.Cubes.{Cube, TellsFormed, TellsNoOff, TellsLegal};
+// Whether a term is well-formed, and whether it holds an off cell: refusals 9 and 10.
+ghost use Prim.Native.Nat.{_≤_};
+ghost use Rattle.table.specs.Cubes.{Cube, TellsFormed, TellsNoOff};
 use crate::cubes;
 use bits::byte;
 use model::Term;
-
-// Whether term t holds the cell of vertex v and output j.
-pub fn holds(t: Term, v: u8, j: u8) -> bool
-    requires { ⌜ j < 8 ⌝ }
-    ensures { λ r. ⌜ r ≡ holds t (cell v j) ⌝ }
-{
-    if t.in_cube(v) {
-        byte::has(t.outputs, j)
-    } else {
-        false
-    }
-}
 
 // Whether t is well-formed for n inputs and m outputs, with the tests in the order of refusal 9.
 pub fn formed(n: u8, m: u8, t: Term) -> bool
@@ -43,16 +29,4 @@ pub fn holds_no_off(may: &[u8; 256], n: u8, t: Term) -> bool
     ensures { λ r. ⌜ TellsNoOff (now (may .entry)) n t r ⌝ }
 {
     byte::within(t.outputs, cubes::drives(may, n, t.care, t.value))
-}
-
-// Whether t is legal: neither refusal 9 nor 10 applies.
-pub fn legal(may: &[u8; 256], n: u8, m: u8, t: Term) -> bool
-    requires { ⌜ (n ≤ 8) × (m ≤ 8) ⌝ }
-    ensures { λ r. ⌜ TellsLegal (now (may .entry)) n m t r ⌝ }
-{
-    if formed(n, m, t) {
-        holds_no_off(may, n, t)
-    } else {
-        false
-    }
 }

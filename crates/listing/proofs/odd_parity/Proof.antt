@@ -5,8 +5,6 @@ use native.Mathlib.Omega.{arith}
 use lib.ListN.{length, length-set}
 use Rattle.listing.proofs.odd_parity.Statement.{statement}
 use Rattle.listing.proofs.odd_parity.Tie as tie
-use Rattle.listing.proofs.odd_parity.Reads as reads
-use Rattle.listing.proofs.odd_parity.Lts as lts
 
 abbrev Inv-loop : tie.InvT-loop
 Inv-loop on₀ v₀ on v = (v ≤ 128) × (length on ≡ 256)
@@ -14,31 +12,24 @@ Inv-loop on₀ v₀ on v = (v ≤ 128) × (length on ≡ 256)
 abbrev μ-loop : tie.MeasureT-loop
 μ-loop on₀ v₀ on v = 128 - v
 
--- src/main.rt:51:5
 loop-holds : tie.Need-loop-holds Inv-loop μ-loop
 loop-holds c = (omega arith, refl)
 
--- src/main.rt:52:17
 cast-on : tie.Need-cast-on Inv-loop μ-loop
 cast-on c = omega arith
 
--- src/main.rt:52:9
 array-write-on : tie.Need-array-write-on Inv-loop μ-loop
 array-write-on c = omega arith
 
--- src/main.rt:53:9
 add-v : tie.Need-add-v Inv-loop μ-loop
 add-v c = omega arith
 
--- src/main.rt:51:5
 loop-less : tie.Need-loop-less Inv-loop μ-loop
 loop-less c = omega arith
 
--- src/main.rt:51:5
 loop-again : tie.Need-loop-again Inv-loop μ-loop
 loop-again c = (omega arith, (simp length-set (c .before .loop .inv .1)))
 
--- src/main.rt:48:1
 returns : tie.Need-returns Inv-loop μ-loop
 returns c = tt
 

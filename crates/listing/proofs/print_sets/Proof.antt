@@ -5,10 +5,6 @@ use borrow.Author.Needs.{needs}
 use lib.ListN.{length}
 use Rattle.listing.proofs.print_sets.Statement.{statement}
 use Rattle.listing.proofs.print_sets.Tie as tie
-use Rattle.listing.proofs.print_sets.Reads as reads
-use Rattle.listing.proofs.print_sets.Lts as lts
-use Rattle.io.proofs.write_all.Reads as write-all-reads
-use Rattle.listing.proofs.print_number.Reads as print-number-reads
 
 abbrev Inv-loop : tie.InvT-loop
 Inv-loop sets count more i₀ t5 t6 i = i ≤ length sets
@@ -16,51 +12,39 @@ Inv-loop sets count more i₀ t5 t6 i = i ≤ length sets
 abbrev μ-loop : tie.MeasureT-loop
 μ-loop sets count more i₀ t5 t6 i = length sets - i
 
--- src/main.rt:21:5
 loop-holds : tie.Need-loop-holds Inv-loop μ-loop
 loop-holds c = omega arith
 
--- src/main.rt:23:26
 mul-print-number : tie.Need-mul-print-number Inv-loop μ-loop
 mul-print-number c = search needs
 
--- src/main.rt:23:26
 shared-slice-read-print-number : tie.Need-shared-slice-read-print-number Inv-loop μ-loop
 shared-slice-read-print-number c = search needs
 
--- src/main.rt:23:13
 print-number-requires : tie.Need-print-number-requires Inv-loop μ-loop
 print-number-requires c κs = tt
 
--- src/main.rt:25:9
 add-i : tie.Need-add-i Inv-loop μ-loop
 add-i c = omega arith
 
--- src/main.rt:21:5
 loop-less : tie.Need-loop-less Inv-loop μ-loop
 loop-less c = omega arith
 
--- src/main.rt:21:5
 loop-again : tie.Need-loop-again Inv-loop μ-loop
 loop-again c = omega arith
 
--- src/main.rt:28:38
 slice-aggregate-write-all : tie.Need-slice-aggregate-write-all Inv-loop μ-loop
 slice-aggregate-write-all c = search needs
 
--- src/main.rt:28:9
 write-all-requires : tie.Need-write-all-requires Inv-loop μ-loop
 write-all-requires c κs = tt
 
--- src/main.rt:30:34
 slice-aggregate-write-all-2 : tie.Need-slice-aggregate-write-all-2 Inv-loop μ-loop
 slice-aggregate-write-all-2 c = search needs
 
--- src/main.rt:30:5
 write-all-requires-2 : tie.Need-write-all-requires-2 Inv-loop μ-loop
 write-all-requires-2 c κs = tt
 
--- src/main.rt:19:1
 returns : tie.Need-returns Inv-loop μ-loop
 returns c = tt
 

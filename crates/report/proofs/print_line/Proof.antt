@@ -1,17 +1,11 @@
 -- `report::print_line` is safe and ends.
-use Prim.Native.Nat.{_≤_, _-_, _*_}
-use mathlib.Core.Path.{_≡_, refl, sym, _∙_}
+use Prim.Native.Nat.{_≤_, _-_}
+use mathlib.Core.Path.{_≡_, refl, sym}
 use native.Mathlib.Omega.{arith}
 use lib.ListN.{length, length-set}
 use lib.Seq.{length-take-le}
 use Rattle.report.proofs.print_line.Statement.{statement}
 use Rattle.report.proofs.print_line.Tie as tie
-use Rattle.report.proofs.print_line.Reads as reads
-use Rattle.report.proofs.print_line.Lts as lts
-use Rattle.io.proofs.write_all.Reads as write-all-reads
-use Rattle.report.proofs.at_most_32.Reads as at-most-32-reads
-use Rattle.report.proofs.high.Reads as high-reads
-use Rattle.report.proofs.low.Reads as low-reads
 
 abbrev Inv-loop : tie.InvT-loop
 Inv-loop bytes n line₀ i₀ line i = (i ≤ n) × (n ≤ length bytes) × (n ≤ 32) × (length line ≡ 65)
@@ -19,87 +13,66 @@ Inv-loop bytes n line₀ i₀ line i = (i ≤ n) × (n ≤ length bytes) × (n �
 abbrev μ-loop : tie.MeasureT-loop
 μ-loop bytes n line₀ i₀ line i = n - i
 
--- src/lib.rt:37:9
 at-most-32-requires : tie.Need-at-most-32-requires Inv-loop μ-loop
 at-most-32-requires c κs = tt
 
--- src/lib.rt:40:5
 loop-holds : tie.Need-loop-holds Inv-loop μ-loop
 loop-holds c = (omega arith, c .at-most-32 .ensures .0, c .at-most-32 .ensures .1, refl)
 
--- src/lib.rt:41:17
 shared-slice-read-b : tie.Need-shared-slice-read-b Inv-loop μ-loop
 shared-slice-read-b c = omega (arith, c .before .before .loop .inv .0)
 
--- src/lib.rt:42:23
 high-requires : tie.Need-high-requires Inv-loop μ-loop
 high-requires c κs = tt
 
--- src/lib.rt:42:14
 mul-line : tie.Need-mul-line Inv-loop μ-loop
 mul-line c = omega arith
 
--- src/lib.rt:42:9
 array-write-line : tie.Need-array-write-line Inv-loop μ-loop
 array-write-line c = omega arith
 
--- src/lib.rt:43:27
 low-requires : tie.Need-low-requires Inv-loop μ-loop
 low-requires c κs = tt
 
--- src/lib.rt:43:14
 mul-line-2 : tie.Need-mul-line-2 Inv-loop μ-loop
 mul-line-2 c = omega arith
 
--- src/lib.rt:43:14
 add-line : tie.Need-add-line Inv-loop μ-loop
 add-line c = omega arith
 
--- src/lib.rt:43:9
 array-write-line-2 : tie.Need-array-write-line-2 Inv-loop μ-loop
 array-write-line-2 c = omega arith
 
--- src/lib.rt:44:9
 add-i : tie.Need-add-i Inv-loop μ-loop
 add-i c = omega arith
 
--- src/lib.rt:40:5
 loop-less : tie.Need-loop-less Inv-loop μ-loop
 loop-less c = omega arith
 
--- src/lib.rt:40:5
 loop-again : tie.Need-loop-again Inv-loop μ-loop
 loop-again c = let v = c .before .before .before .before .loop .inv in (omega arith, v .1, v .2, (simp length-set (v .3)))
 
--- src/lib.rt:46:10
 mul-line-3 : tie.Need-mul-line-3 Inv-loop μ-loop
 mul-line-3 c = omega arith
 
--- src/lib.rt:46:5
 array-write-line-3 : tie.Need-array-write-line-3 Inv-loop μ-loop
 array-write-line-3 c = omega arith
 
--- src/lib.rt:47:42
 mul-line-4 : tie.Need-mul-line-4 Inv-loop μ-loop
 mul-line-4 c = omega arith
 
--- src/lib.rt:47:42
 add-line-2 : tie.Need-add-line-2 Inv-loop μ-loop
 add-line-2 c = omega arith
 
--- src/lib.rt:47:34
 array-share-prefix-line : tie.Need-array-share-prefix-line Inv-loop μ-loop
 array-share-prefix-line c = simp length-set (omega (arith, c .before .loop .inv .3))
 
--- src/lib.rt:47:34
 slice-aggregate-write-all : tie.Need-slice-aggregate-write-all Inv-loop μ-loop
 slice-aggregate-write-all c = sym (length-take-le _ _ (array-share-prefix-line (c .before)))
 
--- src/lib.rt:47:5
 write-all-requires : tie.Need-write-all-requires Inv-loop μ-loop
 write-all-requires c κs = tt
 
--- src/lib.rt:36:1
 returns : tie.Need-returns Inv-loop μ-loop
 returns c = tt
 

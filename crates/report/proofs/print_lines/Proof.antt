@@ -4,9 +4,6 @@ use native.Mathlib.Omega.{arith}
 use lib.ListN.{length}
 use Rattle.report.proofs.print_lines.Statement.{statement}
 use Rattle.report.proofs.print_lines.Tie as tie
-use Rattle.report.proofs.print_lines.Reads as reads
-use Rattle.report.proofs.print_lines.Lts as lts
-use Rattle.report.proofs.print_line.Reads as print-line-reads
 
 abbrev Inv-loop : tie.InvT-loop
 Inv-loop bytes i₀ i = i ≤ length bytes
@@ -14,47 +11,36 @@ Inv-loop bytes i₀ i = i ≤ length bytes
 abbrev μ-loop : tie.MeasureT-loop
 μ-loop bytes i₀ i = length bytes - i
 
--- src/lib.rt:53:5
 loop-holds : tie.Need-loop-holds Inv-loop μ-loop
 loop-holds c = omega arith
 
--- src/lib.rt:54:20
 sub-print-line : tie.Need-sub-print-line Inv-loop μ-loop
 sub-print-line c = omega arith
 
--- src/lib.rt:54:20
 part-print-line-start : tie.Need-part-print-line-start Inv-loop μ-loop
 part-print-line-start c = omega arith
 
--- src/lib.rt:54:20
 part-print-line-end : tie.Need-part-print-line-end Inv-loop μ-loop
 part-print-line-end c = omega arith
 
--- src/lib.rt:54:9
 print-line-requires : tie.Need-print-line-requires Inv-loop μ-loop
 print-line-requires c κs = tt
 
--- src/lib.rt:55:12
 sub-if1 : tie.Need-sub-if1 Inv-loop μ-loop
 sub-if1 c = omega arith
 
--- src/lib.rt:56:13
 returns : tie.Need-returns Inv-loop μ-loop
 returns c = tt
 
--- src/lib.rt:58:9
 add-i : tie.Need-add-i Inv-loop μ-loop
 add-i c = omega arith
 
--- src/lib.rt:53:5
 loop-less : tie.Need-loop-less Inv-loop μ-loop
 loop-less c = omega arith
 
--- src/lib.rt:53:5
 loop-again : tie.Need-loop-again Inv-loop μ-loop
 loop-again c = omega arith
 
--- src/lib.rt:51:1
 returns-2 : tie.Need-returns-2 Inv-loop μ-loop
 returns-2 c = tt
 

@@ -45,7 +45,8 @@ loop-again : tie.Need-loop-again Inv-loop μ-loop
 loop-again c = held-next _ _ _ _ _ _ _ (c .before .before .before .before .before .loop .inv) (c .before .before .before .cubes-at .ensures) (c .before .vertex-held .ensures) (c .if1 .taken)
 
 returns : tie.Need-returns Inv-loop μ-loop
-returns c = one-not-held _ _ _ _ _ _ (c .before .before .before .before .before .before .before .bound .ensures) (c .before .before .before .before .before .before .driving-all .ensures) _ _ _ (c .before .before .before .before .loop-test .taken) (c .before .before .before .cubes-at .ensures) (c .before .vertex-held .ensures) (c .if1 .left)
+returns c = let c3 = c .before .before .before in let c6 = c3 .before .before .before in
+    one-not-held _ _ _ _ _ _ (c6 .before .bound .ensures) (c6 .driving-all .ensures) _ _ _ (c3 .before .loop-test .taken) (c3 .cubes-at .ensures) (c .before .vertex-held .ensures) (c .if1 .left)
 
 returns-2 : tie.Need-returns-2 Inv-loop μ-loop
 returns-2 c = all-held _ _ _ _ _ _ (c .before .before .before .bound .ensures) (c .before .before .driving-all .ensures) _ (c .loop-test .left) (c .before .loop .inv)

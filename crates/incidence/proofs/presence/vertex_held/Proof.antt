@@ -29,7 +29,8 @@ array-read-if2 : tie.Need-array-read-if2 Inv-loop μ-loop
 array-read-if2 c = search needs
 
 returns : tie.Need-returns Inv-loop μ-loop
-returns c = one-fails _ _ _ (c .before .before .before .before .loop-test .taken) (cell-not-held _ _ _ _ _ (c .before .before .before .has .ensures) _ (c .before .before .if1 .taken) (c .before .wide .ensures) (c .if2 .taken))
+returns c = let c2 = c .before .before in
+    one-fails _ _ _ (c2 .before .before .loop-test .taken) (cell-not-held _ _ _ _ _ (c2 .before .has .ensures) _ (c2 .if1 .taken) (c .before .wide .ensures) (c .if2 .taken))
 
 add-j : tie.Need-add-j Inv-loop μ-loop
 add-j c = search needs
@@ -38,7 +39,9 @@ loop-less : tie.Need-loop-less Inv-loop μ-loop
 loop-less c = search needs
 
 loop-again : tie.Need-loop-again Inv-loop μ-loop
-loop-again c = passed-next (cellHeld (c .before .before .before .before .args .on) (c .before .before .before .before .args .cubes) (c .before .before .before .before .args .t3)) _ (c .before .before .before .loop .inv) (⊎-elim (λ w. cell-held _ _ _ _ _ (c .before .has .ensures) _ (w .0 .taken) (w .1 .ensures) (w .2 .left)) (λ w. cell-not-on _ _ _ _ _ (c .before .has .ensures) (w .left)) (c .if1 .came))
+loop-again c = let c3 = c .before .before .before in let c4 = c3 .before in
+    passed-next (cellHeld (c4 .args .on) (c4 .args .cubes) (c4 .args .t3)) _ (c3 .loop .inv)
+    (⊎-elim (λ w. cell-held _ _ _ _ _ (c .before .has .ensures) _ (w .0 .taken) (w .1 .ensures) (w .2 .left)) (λ w. cell-not-on _ _ _ _ _ (c .before .has .ensures) (w .left)) (c .if1 .came))
 
 returns-2 : tie.Need-returns-2 Inv-loop μ-loop
 returns-2 c = all-pass _ _ _ (c .loop-test .left) (c .before .loop .inv)

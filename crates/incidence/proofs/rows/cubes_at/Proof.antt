@@ -6,7 +6,7 @@ use borrow.Author.Needs.{needs}
 use lib.ListN.{take, drop}
 use Rattle.model.specs.Sets.{rowOf}
 use Rattle.incidence.specs.Rows.{hasVertex}
-use Rattle.incidence.proofs.Candidates.{row-none, row-room, row-next, row-done, digit-le}
+use Rattle.incidence.proofs.Candidates.{row-none, row-room, row-next, row-done, flag-le}
 use Rattle.incidence.proofs.rows.cubes_at.Statement.{statement}
 use Rattle.incidence.proofs.rows.cubes_at.Tie as tie
 
@@ -34,17 +34,23 @@ array-copy-out-in-cube c = search needs
 in-cube-requires : tie.Need-in-cube-requires Inv-loop μ-loop
 in-cube-requires c κs = search needs
 
-digit-requires : tie.Need-digit-requires Inv-loop μ-loop
-digit-requires c κs = search needs
+flag-requires : tie.Need-flag-requires Inv-loop μ-loop
+flag-requires c κs = search needs
 
 add-set : tie.Need-add-set Inv-loop μ-loop
-add-set c = omega (arith, row-room hasVertex _ _ _ (c .before .before .before .before .before .good .0 .1 .0 .1) (c .before .before .before .before .before .pre) _ _ (c .before .before .before .loop-test .taken) (c .before .before .before .before .loop .inv .0) (c .before .before .before .before .loop .inv .1), digit-le (c .before .in-cube .result) _ (c .digit .ensures))
+add-set c = let c3 = c .before .before .before in let c4 = c3 .before in
+    omega (
+      arith,
+      row-room hasVertex _ _ _ (c4 .before .good .0 .1 .0 .1) (c4 .before .pre) _ _ (c3 .loop-test .taken) (c4 .loop .inv .0) (c4 .loop .inv .1),
+      flag-le (c .before .in-cube .result) _ (c .flag .ensures),
+    )
 
 loop-less : tie.Need-loop-less Inv-loop μ-loop
 loop-less c = search needs
 
 loop-again : tie.Need-loop-again Inv-loop μ-loop
-loop-again c = (search needs, row-next hasVertex _ _ _ (c .before .before .before .before .before .good .0 .1 .0 .1) (c .before .before .before .before .before .pre) _ _ (c .before .before .before .loop-test .taken) (c .before .before .before .before .loop .inv .0) (c .before .before .before .before .loop .inv .1) _ _ _ (c .before .in-cube .ensures) (c .digit .ensures))
+loop-again c = let c3 = c .before .before .before in let c4 = c3 .before in let c5 = c4 .before in
+    (search needs, row-next hasVertex _ _ _ (c5 .good .0 .1 .0 .1) (c5 .pre) _ _ (c3 .loop-test .taken) (c4 .loop .inv .0) (c4 .loop .inv .1) _ _ _ (c .before .in-cube .ensures) (c .flag .ensures))
 
 returns : tie.Need-returns Inv-loop μ-loop
 returns c = row-done hasVertex (c .before .before .args .t1) (c .before .before .args .count) _ _ _ (c .loop-test .left) (c .before .loop .inv .1)
@@ -61,7 +67,7 @@ cubes-at-spec =
     mul-in-cube
     array-copy-out-in-cube
     in-cube-requires
-    digit-requires
+    flag-requires
     add-set
     loop-less
     loop-again

@@ -6,7 +6,7 @@ use borrow.Author.Needs.{needs}
 use lib.ListN.{take, drop}
 use Rattle.model.specs.Sets.{rowOf}
 use Rattle.incidence.specs.Rows.{drivesOutput}
-use Rattle.incidence.proofs.Candidates.{row-none, row-room, row-next, row-done, digit-le}
+use Rattle.incidence.proofs.Candidates.{row-none, row-room, row-next, row-done, flag-le}
 use Rattle.incidence.proofs.rows.driving.Statement.{statement}
 use Rattle.incidence.proofs.rows.driving.Tie as tie
 
@@ -34,17 +34,24 @@ element-copy-out-has c = search needs
 has-requires : tie.Need-has-requires Inv-loop μ-loop
 has-requires c κs = c .before .before .pre .1
 
-digit-requires : tie.Need-digit-requires Inv-loop μ-loop
-digit-requires c κs = search needs
+flag-requires : tie.Need-flag-requires Inv-loop μ-loop
+flag-requires c κs = search needs
 
 add-set : tie.Need-add-set Inv-loop μ-loop
-add-set c = omega (arith, row-room drivesOutput _ _ _ (c .before .before .before .before .good .0 .1 .0 .1) (c .before .before .before .before .pre .0) _ _ (c .before .before .loop-test .taken) (c .before .before .before .loop .inv .0) (c .before .before .before .loop .inv .1), digit-le (c .before .has .result) _ (c .digit .ensures))
+add-set c = let c3 = c .before .before .before in
+    omega (
+      arith,
+      row-room drivesOutput _ _ _ (c3 .before .good .0 .1 .0 .1) (c3 .before .pre .0) _ _ (c .before .before .loop-test .taken)
+          (c3 .loop .inv .0) (c3 .loop .inv .1),
+      flag-le (c .before .has .result) _ (c .flag .ensures),
+    )
 
 loop-less : tie.Need-loop-less Inv-loop μ-loop
 loop-less c = search needs
 
 loop-again : tie.Need-loop-again Inv-loop μ-loop
-loop-again c = (search needs, row-next drivesOutput _ _ _ (c .before .before .before .before .good .0 .1 .0 .1) (c .before .before .before .before .pre .0) _ _ (c .before .before .loop-test .taken) (c .before .before .before .loop .inv .0) (c .before .before .before .loop .inv .1) _ _ _ (c .before .has .ensures) (c .digit .ensures))
+loop-again c = let c2 = c .before .before in let c3 = c2 .before in let c4 = c3 .before in
+    (search needs, row-next drivesOutput _ _ _ (c4 .good .0 .1 .0 .1) (c4 .pre .0) _ _ (c2 .loop-test .taken) (c3 .loop .inv .0) (c3 .loop .inv .1) _ _ _ (c .before .has .ensures) (c .flag .ensures))
 
 returns : tie.Need-returns Inv-loop μ-loop
 returns c = row-done drivesOutput (c .before .before .args .t1) (c .before .before .args .count) _ _ _ (c .loop-test .left) (c .before .loop .inv .1)
@@ -61,7 +68,7 @@ driving-spec =
     mul-has
     element-copy-out-has
     has-requires
-    digit-requires
+    flag-requires
     add-set
     loop-less
     loop-again

@@ -37,7 +37,8 @@ loop-less : tie.Need-loop-less Inv-loop μ-loop
 loop-less c = search needs
 
 loop-again : tie.Need-loop-again Inv-loop μ-loop
-loop-again c = (search needs, driving-next _ _ _ _ _ (omega (arith, c .before .before .before .before .pre .1)) (c .wide .ensures) (c .before .driving .ensures) (c .before .before .before .loop .inv .1))
+loop-again c = let c3 = c .before .before .before in
+    (search needs, driving-next _ _ _ _ _ (omega (arith, c3 .before .pre .1)) (c .wide .ensures) (c .before .driving .ensures) (c3 .loop .inv .1))
 
 returns : tie.Need-returns Inv-loop μ-loop
 returns c = driving-end _ _ _ _ (c .loop-test .left) (c .before .loop .inv .1)

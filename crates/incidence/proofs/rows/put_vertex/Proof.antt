@@ -27,7 +27,8 @@ array-read-row : tie.Need-array-read-row Inv-loop μ-loop
 array-read-row c = search needs
 
 put-cell-requires : tie.Need-put-cell-requires Inv-loop μ-loop
-put-cell-requires c κs = (omega (arith, c .before .before .before .before .before .pre), omega (arith, c .before .before .before .before .before .pre, c .before .before .before .loop .inv .1 .within), omega (arith, c .before .before .before .before .before .pre, c .before .before .before .loop .inv .1 .size))
+put-cell-requires c κs = let c3 = c .before .before .before in let c5 = c3 .before .before in
+    (omega (arith, c5 .pre), omega (arith, c5 .pre, c3 .loop .inv .1 .within), omega (arith, c5 .pre, c3 .loop .inv .1 .size))
 
 add-j : tie.Need-add-j Inv-loop μ-loop
 add-j c = search needs
@@ -36,7 +37,8 @@ loop-less : tie.Need-loop-less Inv-loop μ-loop
 loop-less c = search needs
 
 loop-again : tie.Need-loop-again Inv-loop μ-loop
-loop-again c = (search needs, vertex-next _ _ _ _ _ _ _ _ _ _ _ _ (c .before .before .before .before .wide .ensures) refl (c .before .before .before .before .before .before .loop .inv .1) (c .before .before .put-cell .ensures))
+loop-again c = let c4 = c .before .before .before .before in
+    (search needs, vertex-next _ _ _ _ _ _ _ _ _ _ _ _ (c4 .wide .ensures) refl (c4 .before .before .loop .inv .1) (c .before .before .put-cell .ensures))
 
 same-length : tie.Need-same-length Inv-loop μ-loop
 same-length c = c .before .loop .inv .1 .size

@@ -4,12 +4,12 @@ use native.Mathlib.Omega.{arith}
 use borrow.Author.Needs.{needs}
 use lib.ListN.{take}
 use Rattle.bits.proofs.Shifts.{power-le}
-use Rattle.incidence.proofs.Matrix.{Upto, upto-none, upto-next, rows-all}
+use Rattle.incidence.proofs.Matrix.{RowsBelow, rows-none, rows-next, rows-all}
 use Rattle.incidence.proofs.rows.rows.Statement.{statement}
 use Rattle.incidence.proofs.rows.rows.Tie as tie
 
 abbrev Inv-loop : tie.InvT-loop
-Inv-loop on terms count n m out₀ size driving end₀ v₀ out end v = (v ≤ size) × Upto on (take count terms) driving m v out₀ out end
+Inv-loop on terms count n m out₀ size driving end₀ v₀ out end v = (v ≤ size) × RowsBelow on (take count terms) driving m v out₀ out end
 
 abbrev μ-loop : tie.MeasureT-loop
 μ-loop on terms count n m out₀ size driving end₀ v₀ out end v = size - v
@@ -21,7 +21,7 @@ driving-all-requires : tie.Need-driving-all-requires Inv-loop μ-loop
 driving-all-requires c κs = (c .before .before .pre .0, c .before .before .pre .2)
 
 loop-holds : tie.Need-loop-holds Inv-loop μ-loop
-loop-holds c = (search needs, upto-none _ _ _ _ _)
+loop-holds c = (search needs, rows-none _ _ _ _ _)
 
 cast-cubes-at : tie.Need-cast-cubes-at Inv-loop μ-loop
 cast-cubes-at c = omega (arith, power-le _ _ (c .before .before .before .before .before .pre .1) (c .before .before .before .bound .ensures))
@@ -33,7 +33,8 @@ element-copy-out-put-vertex : tie.Need-element-copy-out-put-vertex Inv-loop μ-l
 element-copy-out-put-vertex c = omega (arith, power-le _ _ (c .before .before .before .before .before .before .pre .1) (c .before .before .before .before .bound .ensures))
 
 put-vertex-requires : tie.Need-put-vertex-requires Inv-loop μ-loop
-put-vertex-requires c κs = (c .before .before .before .before .before .before .before .before .pre .2, omega (arith, power-le _ _ (c .before .before .before .before .before .before .before .before .pre .1) (c .before .before .before .before .before .before .bound .ensures), c .before .before .before .before .loop .inv .1 .within), omega (arith, c .before .before .before .before .before .before .before .before .pre .3, c .before .before .before .before .loop .inv .1 .size))
+put-vertex-requires c κs = let c4 = c .before .before .before .before in let c6 = c4 .before .before in let c8 = c6 .before .before in
+    (c8 .pre .2, omega (arith, power-le _ _ (c8 .pre .1) (c6 .bound .ensures), c4 .loop .inv .1 .within), omega (arith, c8 .pre .3, c4 .loop .inv .1 .size))
 
 add-v : tie.Need-add-v Inv-loop μ-loop
 add-v c = search needs
@@ -42,7 +43,8 @@ loop-less : tie.Need-loop-less Inv-loop μ-loop
 loop-less c = search needs
 
 loop-again : tie.Need-loop-again Inv-loop μ-loop
-loop-again c = (search needs, upto-next _ _ _ _ _ _ _ _ _ _ _ (c .before .before .before .before .before .before .before .before .before .before .before .pre .2) (c .before .before .before .before .before .cubes-at .ensures) (c .before .before .before .before .before .before .before .loop .inv .1) (c .before .before .put-vertex .ensures))
+loop-again c = let c5 = c .before .before .before .before .before in let c7 = c5 .before .before in
+    (search needs, rows-next _ _ _ _ _ _ _ _ _ _ _ (c7 .before .before .before .before .pre .2) (c5 .cubes-at .ensures) (c7 .loop .inv .1) (c .before .before .put-vertex .ensures))
 
 same-length : tie.Need-same-length Inv-loop μ-loop
 same-length c = c .before .loop .inv .1 .size

@@ -33,7 +33,8 @@ loop-less : tie.Need-loop-less Inv-loop μ-loop
 loop-less c = search needs
 
 loop-again : tie.Need-loop-again Inv-loop μ-loop
-loop-again c = (search needs, search needs, may-next (c .before .before .before .before .args .on .now) (c .before .before .before .before .args .dc .now) (c .before .before .before .loop .may) (c .before .before .before .loop .v) (omega arith) (c .before .before .before .loop .inv .2))
+loop-again c = let c3 = c .before .before .before in
+    (search needs, search needs, may-next (c3 .before .args .on .now) (c3 .before .args .dc .now) (c3 .loop .may) (c3 .loop .v) (omega arith) (c3 .loop .inv .2))
 
 returns : tie.Need-returns Inv-loop μ-loop
 returns c = may-all (c .before .before .args .on .now) (c .before .before .args .dc .now) (c .before .loop .may) (c .before .loop .v) (c .loop-test .left) (c .before .loop .inv .2)

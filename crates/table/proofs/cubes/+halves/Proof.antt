@@ -32,13 +32,13 @@ halves-first-free-requires : (t : ℕ) → halves-lts.Need-first-free-requires (
 halves-first-free-requires t c κs = c .pre .1
 
 halves-sub-rest : (t : ℕ) → halves-lts.Need-sub-rest (G t) (halves-at t) halves.Post
-halves-sub-rest t c = first-part _ _ (c .first-free .ensures)
+halves-sub-rest t c = first-part _ _ (c .first-free .ensures .member)
 
 halves-pair-requires : (t : ℕ) → halves-lts.Need-pair-requires (G t) (halves-at t) halves.Post
 halves-pair-requires t c κs = search needs
 
 halves-returns : (t : ℕ) → halves-lts.Need-returns (G t) (halves-at t) halves.Post
-halves-returns t c = two-vertices _ _ _ _ _ (c .before .before .first-free .ensures) (c .before .if1 .taken) (c .pair .ensures)
+halves-returns t c = two-vertices _ _ _ _ _ (c .before .before .first-free .ensures .member) (c .before .if1 .taken) (c .pair .ensures)
 
 halves-first-free-requires-2 : (t : ℕ) → halves-lts.Need-first-free-requires-2 (G t) (halves-at t) halves.Post
 halves-first-free-requires-2 t c κs = omega (arith, c .if1 .left)
@@ -50,19 +50,22 @@ halves-pair-requires-3 : (t : ℕ) → halves-lts.Need-pair-requires-3 (G t) (ha
 halves-pair-requires-3 t c κs = search needs
 
 halves-returns-2 : (t : ℕ) → halves-lts.Need-returns-2 (G t) (halves-at t) halves.Post
-halves-returns-2 t c = four-vertices _ _ _ _ _ (c .before .before .before .before .before .first-free .ensures) (c .before .before .before .first-free2 .ensures) (c .before .before .if2 .taken) _ _ (c .before .pair2 .ensures) (c .pair3 .ensures)
+halves-returns-2 t c = let c2 = c .before .before in
+    four-vertices _ _ _ _ _ (c2 .before .before .before .first-free .ensures .member) (c2 .before .first-free2 .ensures .member) (c2 .if2 .taken) _ _ (c .before .pair2 .ensures) (c .pair3 .ensures)
 
 halves-halves-requires : (t : ℕ) → halves-lts.Need-halves-requires (G t) (halves-at t) halves.Post
-halves-halves-requires t c κs = (omega (arith, (c .before .before .before .before .pre .0), fewer-free _ _ _ (c .before .before .before .first-free .ensures) refl), omega (arith, (c .before .before .if1 .left)))
+halves-halves-requires t c κs = let c2 = c .before .before in
+    (omega (arith, (c2 .before .before .pre .0), fewer-free _ _ _ (c2 .before .first-free .ensures .member) refl), omega (arith, (c2 .if1 .left)))
 
 halves-returns-3 : (t : ℕ) → halves-lts.Need-returns-3 (G t) (halves-at t) halves.Post
-halves-returns-3 t c = first-half-none _ _ _ _ (c .before .before .before .before .before .first-free .ensures) _ _ refl (c .before .halves .ensures) (c .if3 .taken)
+halves-returns-3 t c = first-half-none _ _ _ _ (c .before .before .before .before .before .first-free .ensures .member) _ _ refl (c .before .halves .ensures) (c .if3 .taken)
 
 halves-halves-requires-2 : (t : ℕ) → halves-lts.Need-halves-requires-2 (G t) (halves-at t) halves.Post
-halves-halves-requires-2 t c κs = (omega (arith, (c .before .before .before .before .before .before .pre .0), fewer-free _ _ _ (c .before .before .before .before .before .first-free .ensures) refl), omega (arith, (c .before .before .before .before .if1 .left)))
+halves-halves-requires-2 t c κs = let c4 = c .before .before .before .before in
+    (omega (arith, (c4 .before .before .pre .0), fewer-free _ _ _ (c4 .before .first-free .ensures .member) refl), omega (arith, (c4 .if1 .left)))
 
 halves-returns-4 : (t : ℕ) → halves-lts.Need-returns-4 (G t) (halves-at t) halves.Post
-halves-returns-4 t c = both-halves _ _ _ _ (c .before .before .before .before .before .before .first-free .ensures) _ _ _ _ refl refl (c .before .before .halves .ensures) (c .halves2 .ensures)
+halves-returns-4 t c = both-halves _ _ _ _ (c .before .before .before .before .before .before .first-free .ensures .member) _ _ _ _ refl refl (c .before .before .halves .ensures) (c .halves2 .ensures)
 
 pub +halves-spec : {M : Type 1} → statement M
 +halves-spec = close μ-halves λ t. halves-lts.spec (G t)

@@ -32,7 +32,8 @@ with-care-requires : tie.Need-with-care-requires Inv-loop μ-loop
 with-care-requires c κs = (c .before .before .before .before .pre, omega (arith, c .before .before .before .bound .ensures))
 
 returns : tie.Need-returns Inv-loop μ-loop
-returns c = primes-full _ _ _ _ _ _ _ (c .before .before .before .before .empty .ensures) (c .before .before .before .before .before .bound .ensures) (c .before .before .loop-test .taken) (c .before .before .before .loop .inv .1) (c .before .with-care .ensures) (c .if1 .taken)
+returns c = let c3 = c .before .before .before in
+    primes-full _ _ _ _ _ _ _ (c3 .before .empty .ensures) (c3 .before .before .bound .ensures) (c .before .before .loop-test .taken) (c3 .loop .inv .1) (c .before .with-care .ensures) (c .if1 .taken)
 
 add-care : tie.Need-add-care Inv-loop μ-loop
 add-care c = search needs

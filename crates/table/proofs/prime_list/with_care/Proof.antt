@@ -23,20 +23,18 @@ bound-requires c κs = c .pre .0
 loop-holds : tie.Need-loop-holds Inv-loop μ-loop
 loop-holds c = (search needs, λ p h. extends-none _ [] refl)
 
-cast-outputs-at : tie.Need-cast-outputs-at Inv-loop μ-loop
-cast-outputs-at c = omega (arith, power-le _ _ (c .before .before .before .pre .0) (c .before .before .bound .ensures))
+cast-v : tie.Need-cast-v Inv-loop μ-loop
+cast-v c = omega (arith, power-le _ _ (c .before .before .before .pre .0) (c .before .before .bound .ensures))
 
 outputs-at-requires : tie.Need-outputs-at-requires Inv-loop μ-loop
 outputs-at-requires c κs = c .before .before .before .pre
-
-cast-t11 : tie.Need-cast-t11 Inv-loop μ-loop
-cast-t11 c = record { fits = omega (arith, power-le _ _ (c .before .before .before .before .before .pre .0) (c .before .before .before .before .bound .ensures)) }
 
 with-requires : tie.Need-with-requires Inv-loop μ-loop
 with-requires c κs = search needs
 
 returns : tie.Need-returns Inv-loop μ-loop
-returns c = care-full _ _ _ _ _ _ _ _ _ (c .before .before .before .before .before .before .bound .ensures) (c .before .before .before .before .loop-test .taken) (c .before .before .before .before .before .loop .inv .1) (c .before .before .before .outputs-at .ensures) (c .before .before .if1 .taken) (c .before .with .ensures) (c .if2 .taken)
+returns c = let c2 = c .before .before in let c3 = c2 .before in let c5 = c3 .before .before in
+    care-full _ _ _ _ _ _ _ _ _ (c5 .before .bound .ensures) (c3 .before .loop-test .taken) (c5 .loop .inv .1) (c3 .outputs-at .ensures) (c2 .if1 .taken) (c .before .with .ensures) (c .if2 .taken)
 
 add-value : tie.Need-add-value Inv-loop μ-loop
 add-value c = search needs
@@ -64,9 +62,8 @@ with-care-spec =
     μ-loop
     bound-requires
     loop-holds
-    cast-outputs-at
+    cast-v
     outputs-at-requires
-    cast-t11
     with-requires
     returns
     add-value

@@ -17,7 +17,8 @@ within-requires : tie.Need-within-requires
 within-requires c κs = search needs
 
 returns : tie.Need-returns
-returns c = droppable-literal _ _ _ _ (c .before .before .before .before .before .pre .0) _ (c .before .before .before .before .has .ensures) _ _ _ _ _ (c .before .before .before .if1 .taken) (c .before .before .power .ensures) (c .before .before .before .before .before .pre .1 .0) (c .before .drives .ensures) (c .within .ensures)
+returns c = let c3 = c .before .before .before in let c5 = c3 .before .before in
+    droppable-literal _ _ _ _ (c5 .pre .0) _ (c3 .before .has .ensures) _ _ _ _ _ (c3 .if1 .taken) (c .before .before .power .ensures) (c5 .pre .1 .0) (c .before .drives .ensures) (c .within .ensures)
 
 returns-2 : tie.Need-returns-2
 returns-2 c = droppable-free _ _ _ _ (c .before .before .pre .0) _ (c .before .has .ensures) _ _ (c .if1 .left)

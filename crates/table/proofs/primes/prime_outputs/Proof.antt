@@ -17,7 +17,8 @@ returns-2 : tie.Need-returns-2
 returns-2 c = prime-droppable _ _ _ _ _ (c .before .before .before .before .pre) (c .before .before .before .drives .ensures) _ (c .before .some-droppable .ensures) (c .if2 .taken)
 
 returns-3 : tie.Need-returns-3
-returns-3 c = prime-all _ _ _ _ _ (c .before .before .before .before .pre) (c .before .before .before .drives .ensures) _ (c .before .before .if1 .left) (c .before .some-droppable .ensures) (c .if2 .left)
+returns-3 c = let c2 = c .before .before in
+    prime-all _ _ _ _ _ (c2 .before .before .pre) (c2 .before .drives .ensures) _ (c2 .if1 .left) (c .before .some-droppable .ensures) (c .if2 .left)
 
 pub prime-outputs-spec : {M : Type 1} → statement M
 prime-outputs-spec =

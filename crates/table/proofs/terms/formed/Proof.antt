@@ -26,7 +26,9 @@ bound-requires-2 : tie.Need-bound-requires-2
 bound-requires-2 c κs = search needs
 
 returns-3 : tie.Need-returns-3
-returns-3 c = outputs-in _ _ _ _ _ _ _ _ (c .before .before .before .before .before .before .before .before .bound .ensures) (c .before .before .before .before .before .before .before .wide .ensures) (c .before .before .before .before .before .before .if1 .left) (c .before .before .before .before .before .within .ensures) (c .before .before .before .before .if2 .taken) (c .before .before .if3 .left) (c .before .wide2 .ensures) (c .bound2 .ensures)
+returns-3 c = let c4 = c .before .before .before .before in let c6 = c4 .before .before in
+    outputs-in _ _ _ _ _ _ _ _ (c6 .before .before .bound .ensures) (c6 .before .wide .ensures) (c6 .if1 .left) (c4 .before .within .ensures)
+    (c4 .if2 .taken) (c .before .before .if3 .left) (c .before .wide2 .ensures) (c .bound2 .ensures)
 
 returns-4 : tie.Need-returns-4
 returns-4 c = value-out _ _ _ _ (c .before .within .ensures) (c .if2 .left)
