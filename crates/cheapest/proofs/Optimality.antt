@@ -9,7 +9,7 @@ use lib.Dec.{T, not-T}
 use lib.Pow.{pow-pos}
 use lib.ListN.{length, getD}
 use Rattle.model.specs.Base.{bit, sum}
-use Rattle.model.specs.Sets.{members, ofRows, cover, coverable, cost}
+use Rattle.model.specs.Sets.{members, ofRows, coverable, cost}
 use Rattle.model.specs.Sets as model
 use Rattle.model.proofs.Lists.{yes-or-no, T-true, T-false}
 use Rattle.model.proofs.Bits.{bit0-e, bit0-n}
