@@ -13,7 +13,8 @@ use Rattle.rows.specs.Covers.{IrredundantCover, Node}
 use Rattle.lister_narrowing.specs.Narrowing.{NoneBetween}
 use Rattle.lister.specs.Levels.{top, PossibleLevels}
 use Rattle.lister.specs.Lister.{Among, LeastIn}
-use Rattle.lister.proofs.Tree.{has-bit, lacks-bit, in-first, in-second}
+use Rattle.bits.proofs.Members.{has-bit, lacks-bit}
+use Rattle.lister.proofs.Tree.{in-first, in-second}
 
 top-le : (at i n : ℕ) → i ≤ n → at < 2 ^ n → top at i ≤ 2 ^ n
 unfolding top

@@ -16,35 +16,14 @@ use Rattle.bits.specs.Bits.{digit, Minus}
 use Rattle.rows.specs.Covers.{IrredundantCover, Between, Node}
 use Rattle.lister.specs.Lister.{Among, LeastIn, RangeKept}
 use Rattle.lister_narrowing.specs.Narrowing.{IrredundantBetween, Tightened}
-use Rattle.bits.proofs.Digits.{eq?, digit-lt, digit-of-zero, digit-and, digit-or, a-member, pow-here, pow-only}
+use Rattle.bits.proofs.Digits.{eq?, digit-lt, digit-or}
 use Rattle.bits.proofs.Decide.{true-is-not-false}
-use Rattle.bits.proofs.Members.{and-left, and-right, above, within}
+use Rattle.bits.proofs.Members.{has-bit, bit-here, lacks-bit, bit-elsewhere, above, within}
 use Rattle.bits.proofs.Tops.{digit-in}
 use Rattle.rows.proofs.Nodes.{halves}
 
 pub not-zero-pos : {n : ℕ} → (n ≡ 0 → ⊥) → 0 < n
 not-zero-pos h = omega arith
-
--- ---- the set m of the one candidate j
-
-module _ (j m : ℕ) (e : m ≡ 2 ^ j) where
-  pub has-bit : (x : ℕ) → (bitAnd x m ≡ 0 → ⊥) → digit j x ≡ 1
-  has-bit x d =
-      let q : (b : ℕ) × (digit b (bitAnd x m) ≡ 1) = a-member (bitAnd x m) d in
-      let b : ℕ = q .0 in
-      let f : b ≡ j = pow-only b j (sym (ap (digit b) e) ∙ and-right b x m (q .1)) in
-      subst (λ (c : ℕ). digit c x ≡ 1) f (and-left b x m (q .1))
-
-  bit-here : digit j m ≡ 1
-  bit-here = ap (digit j) e ∙ pow-here j
-
-  pub lacks-bit : (x : ℕ) → bitAnd x m ≡ 0 → digit j x ≡ 0
-  lacks-bit x z = omega (arith, digit-and j x m, bit-here, ap (digit j) z, digit-of-zero j, digit-lt j x)
-
-  bit-elsewhere : (b : ℕ) → (b ≡ j → ⊥) → digit b m ≡ 0
-  bit-elsewhere b d =
-      ⊎-elim (λ (f : digit b m ≡ 1). absurd (d (pow-only b j (sym (ap (digit b) e) ∙ f))))
-      (λ (f : digit b m ≡ 1 → ⊥). omega (arith, digit-lt b m)) (eq? (digit b m) 1)
 
 -- ---- bit j of the numbers in the two halves
 

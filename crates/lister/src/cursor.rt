@@ -48,7 +48,7 @@ fn least(rows: &[u64], i: u64, s: u64, t: Tight) -> Found
             rows,
             j,
             s + m,
-            lister_extension::settle(rows, t.s | m, rest),
+            lister_extension::narrow_exactly(rows, t.s | m, rest),
         ),
     }
 }

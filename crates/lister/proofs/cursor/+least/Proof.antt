@@ -13,7 +13,7 @@ use Rattle.lister.proofs.cursor.least.Kinds as least-kinds
 use Rattle.lister.proofs.cursor.+least.Lts-least as least-lts
 use Rattle.bits.proofs.set.minus.Reads as minus-reads
 use Rattle.bits.proofs.set.power.Reads as power-reads
-use Rattle.lister_extension.proofs.settle.Reads as settle-reads
+use Rattle.lister_extension.proofs.narrow_exactly.Reads as narrow-exactly-reads
 use Rattle.lister_narrowing.proofs.narrow.Reads as narrow-reads
 use Rattle.rows.proofs.covering.irredundant.Reads as irredundant-reads
 use Rattle.lister.proofs.cursor.+least.{statement}
@@ -41,8 +41,8 @@ G t = (
   minus-reads.Learnt,
   narrow-reads.Asked,
   narrow-reads.Learnt,
-  settle-reads.Asked,
-  settle-reads.Learnt,
+  narrow-exactly-reads.Asked,
+  narrow-exactly-reads.Learnt,
 )
 
 least-returns : (t : ℕ) → least-lts.Need-returns (G t) (least-at t) least.Post
@@ -128,8 +128,8 @@ least-add-least-2 t c =
     let pos = not-zero-pos (c .before .before .before .before .before .before .before .before .before .before .if2 .left) in
     omega (arith, power, halves (start .args .i) pos, start .pre .1 .0 .room, pow-pos (start .args .i - 1))
 
-least-settle-requires : (t : ℕ) → least-lts.Need-settle-requires (G t) (least-at t) least.Post
-least-settle-requires t c κs = search needs
+least-narrow-exactly-requires : (t : ℕ) → least-lts.Need-narrow-exactly-requires (G t) (least-at t) least.Post
+least-narrow-exactly-requires t c κs = search needs
 
 least-least-requires-4 : (t : ℕ) → least-lts.Need-least-requires-4 (G t) (least-at t) least.Post
 least-least-requires-4 t c κs =
@@ -138,7 +138,7 @@ least-least-requires-4 t c κs =
     let pos = not-zero-pos (c .before .before .before .before .before .before .before .before .before .before .before .before .if2 .left) in
     let node = start .pre .1 .0 in
     let rest = c .before .before .before .before .before .before .minus .ensures in
-    let range = high-open _ _ _ _ (start .pre .1 .1) _ power node pos _ rest _ (c .settle .ensures) in
+    let range = high-open _ _ _ _ (start .pre .1 .1) _ power node pos _ rest _ (c .narrow-exactly .ensures) in
     (omega (arith, start .pre .0, pos), (high-node _ _ _ power node pos, range))
 
 least-returns-6 : (t : ℕ) → least-lts.Need-returns-6 (G t) (least-at t) least.Post
@@ -177,7 +177,7 @@ pub +least-spec : {M : Type 1} → statement M
     (least-enum-known-low t)
     (least-enum-told t)
     (least-add-least-2 t)
-    (least-settle-requires t)
+    (least-narrow-exactly-requires t)
     (least-least-requires-4 t)
     (least-returns-6 t)
     (least-returns-7 t)
