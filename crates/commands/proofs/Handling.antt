@@ -102,9 +102,10 @@ module _ (p : Problem) (sizes : Sized p) (v on dc r : ℕ) (o : r ≡ firstOf (r
   pub row-refused : (e : Effect) → (r ≡ 0 → ⊥) → e ≡ refusedAs p r → HandlesR p v on dc e
   row-refused e d q x free f a b c = handled-refused x model.Kind.R free p r e q (late-own x model.Kind.R r (row-here x f a b c) d) d
 
-  pub row-kept : (q : Problem) → r ≡ 0 → q ≡ atPlace model.inRows (withRows (rowPut (p .rows) v on dc) p) → HandlesR p v on dc (record { number = 0; written = 0; problem = q })
+  pub row-kept : (q : Problem) (i : ℕ) → r ≡ 0 → i ≡ v → q ≡ atPlace model.inRows (withRows (rowPut (p .rows) i on dc) p) → HandlesR p v on dc (record { number = 0; written = 0; problem = q })
   unfolding answerFor
-  row-kept q z s x free f a b c =
+  row-kept q i z e w x free f a b c =
+      let s : q ≡ atPlace model.inRows (withRows (rowPut (p .rows) v on dc) p) = w ∙ ap (λ (k : ℕ). atPlace model.inRows (withRows (rowPut (p .rows) k on dc) p)) e in
       let own : 0 ≡ firstOf (refusalsOf x model.Kind.R) = sym z ∙ row-here x f a b c in
       handled-silent x model.Kind.R free q refl own
       (subst⁻¹ (λ (y : Problem). Holds y (problemAfter x model.Kind.R)) s (after-R x p v on dc (f .holds) (f .valid) (f .begun) a b c (subst (λ (w : ℕ). w < 2 ^ x .problem .settings .n) a (row-vertex x own))))

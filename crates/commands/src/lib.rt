@@ -9,6 +9,7 @@ ghost use Rattle.problem.specs.Problems.{Sized, Reached};
 ghost use Rattle.commands.specs.Effects.{refusedAs, RefusesTerm, HandlesI, HandlesR, HandlesT, HandlesP, HandlesE};
 use answers::writers;
 use answers::writers::Reply;
+use bits::byte;
 use model::Term;
 use problem::Problem;
 use problem::refusals;
@@ -50,21 +51,25 @@ pub fn init(p: Problem, n: u8, m: u8) -> Effect
     }
 }
 
-// R with its operands.
+// R with its operands. The rows are copied once, for the test and for what becomes of them.
 pub fn row(p: Problem, v: u8, on: u8, dc: u8) -> Effect
     requires { ⌜ Sized p ⌝ }
     ensures { λ r. ⌜ HandlesR p v on dc r ⌝ }
 {
     let s = p.settings;
-    let rows = p.rows;
+    let mut rows = p.rows;
     let number = refusals::row_refusal(s, &rows.given, v, on, dc);
     if number != 0 {
         return refused(p, number);
     }
+    let i = byte::wide(v);
+    rows.on[i] = on;
+    rows.dc[i] = dc;
+    rows.given[i] = 1;
     Effect {
         number: 0,
         written: 0,
-        problem: problem::with_row(p, v, on, dc),
+        problem: problem::with_rows(p, rows),
     }
 }
 

@@ -5,8 +5,7 @@
 ghost use mathlib.Core.Path.{_≡_};
 ghost use Prim.Native.Nat.{_<_};
 ghost use Rattle.model.specs.Commands as model;
-ghost use Rattle.problem.specs.Problems.{noProblem, startedWith, atPlace, withRows, rowPut, withCandidates, termPut, listed};
-use bits::byte;
+ghost use Rattle.problem.specs.Problems.{noProblem, startedWith, atPlace, withRows, withCandidates, termPut, listed};
 use model::Term;
 use table::prime_list::PrimeList;
 
@@ -70,19 +69,18 @@ pub fn started(n: u8, m: u8, place: u8) -> Problem
     }
 }
 
-// With a row at vertex v.
-pub fn with_row(p: Problem, v: u8, on: u8, dc: u8) -> Problem
-    ensures { λ r. ⌜ r ≡ atPlace model.inRows (withRows (rowPut (p .rows) v on dc) p) ⌝ }
+// With these rows: what an R leaves.
+pub fn with_rows(p: Problem, rows: TableRows) -> Problem
+    ensures { λ r. ⌜ r ≡ atPlace model.inRows (withRows rows p) ⌝ }
 {
-    let i = byte::wide(v);
-    let mut rows = p.rows;
-    rows.on[i] = on;
-    rows.dc[i] = dc;
-    rows.given[i] = 1;
-    let mut q = p;
-    q.rows = rows;
-    q.place = 2;
-    q
+    let settings = p.settings;
+    let candidates = p.candidates;
+    Problem {
+        place: 2,
+        settings: settings,
+        rows: rows,
+        candidates: candidates,
+    }
 }
 
 // With one candidate more, behind the others.
