@@ -1,5 +1,5 @@
 pub mod Valuing
 pub mod Parting
 pub mod Following
-pub mod Pinning
+pub mod FirstCover
 pub mod Optimality

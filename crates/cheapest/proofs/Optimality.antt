@@ -9,20 +9,20 @@ use lib.Dec.{T, not-T}
 use lib.Pow.{pow-pos}
 use lib.ListN.{length, getD}
 use Rattle.model.specs.Base.{bit, sum}
-use Rattle.model.specs.Sets.{members, ofRows, cover, coverable, cost}
+use Rattle.model.specs.Sets.{members, ofRows, coverable, cost}
 use Rattle.model.specs.Sets as model
 use Rattle.model.proofs.Lists.{yes-or-no, T-true, T-false}
 use Rattle.model.proofs.Bits.{bit0-e, bit0-n}
 use Rattle.model.proofs.Sets.{cover-all}
 use Rattle.model.proofs.Cheapest.{least-is-best}
-use Rattle.model.proofs.Matrix.{sum-index, from-length}
+use Rattle.model.proofs.Matrix.{sum-index}
 use Rattle.cheapest.specs.declared.search.Optimum.the-variants.{Nothing}
 use Rattle.cheapest.specs.declared.search.Optimum.the-variants as found
 use Rattle.rows.specs.Covers.{Cover}
 use Rattle.cheapest_bounds.specs.Costs.{costOf}
 use Rattle.cheapest.specs.Optimum.{Cheapest, Optimal}
 use Rattle.cheapest_bounds.proofs.Costing.{cost-small}
-use Rattle.rows.proofs.Bridge.{cover-to, cover-from}
+use Rattle.rows.proofs.Bridge.{cover-to, cover-from, of-rows-size}
 
 -- ---- costs
 
@@ -49,11 +49,8 @@ cost-is costs rows s =
 -- ---- the cheapest
 
 module _ (rows costs : List ℕ) where
-  size : length (ofRows costs rows .cands) ≡ length costs
-  size = from-length 0 (length costs)
-
   small : (s : ℕ) → s < 2 ^ length (ofRows costs rows .cands) → s < 2 ^ length costs
-  small s l = subst (λ (n : ℕ). s < 2 ^ n) size l
+  small s l = subst (λ (n : ℕ). s < 2 ^ n) (of-rows-size costs rows) l
 
   -- no set of candidates is a cover, so all of them is none
   pub optimal-none : ((t : ℕ) → t < 2 ^ length costs → Cover rows t → ⊥) → Optimal rows costs Nothing
@@ -67,7 +64,7 @@ module _ (rows costs : List ℕ) where
   unfolding Optimal
   optimal-cover c s l lt h = (
     subst (λ (x : ℕ). model.Best (ofRows costs rows) x s) (cost-is costs rows s ∙ h .cost-is)
-        (least-is-best (ofRows costs rows) s (subst (λ (n : ℕ). s < 2 ^ n) (sym size) (h .below)) (cover-from costs rows s (h .below) (h .cover))
+        (least-is-best (ofRows costs rows) s (subst (λ (n : ℕ). s < 2 ^ n) (sym (of-rows-size costs rows)) (h .below)) (cover-from costs rows s (h .below) (h .cover))
         (λ a b t.
         let cover-a : Cover rows a = cover-to costs rows a t in
         let le : c ≤ costOf costs a = h .least a (small a b) cover-a in

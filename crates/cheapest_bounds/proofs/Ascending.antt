@@ -6,7 +6,8 @@ use Prim.Native.Nat.{ℕ, zero, suc, _+_, _-_, _*_, _/_, _%_, _^_, _≤_, _<_}
 use native.Mathlib.Nat.{one-mul, zero-mul, mod-eq-of-lt}
 use native.Mathlib.Decide.{decLt}
 use native.Mathlib.Omega.{arith}
-use lib.ListN.{length, getD, List·getD-eq-default, set, replicate, length-set, length-replicate}
+use borrow.Author.Count.{below-more}
+use lib.ListN.{length, getD, List·getD-eq-default, set, replicate, length-set, length-replicate, getD-replicate}
 use lib.Seq.{getD-set-same, getD-set-other}
 use lib.Bits.{bitAnd, and-mask}
 use Rattle.cheapest_bounds.specs.declared.ascent.Duals.{Duals}
@@ -16,13 +17,13 @@ use Rattle.cheapest_bounds.specs.Ascent.{Charged, Paid, Meets, Raised, S
 use Rattle.bits.proofs.Digits.{eq?, digit-first, digit-next, digit-lt, a-member, pow-here, pow-only}
 use Rattle.bits.proofs.Members.{and-left, and-right, not-zero}
 use Rattle.bits.proofs.Parts.{members, by-members, part-self, part-trans, minus-part}
-use Rattle.bits.proofs.Steps.{all-next, taken-gone, others-stay, Visited, visited-none, visited-more, visited-all}
+use Rattle.bits.proofs.Steps.{taken-gone, others-stay, Visited, visited-none, visited-more, visited-all}
 use Rattle.cheapest_bounds.proofs.Costing.{cost-part, cost-one, cost-small}
 
 -- ---- one entry
 
 -- a set that has the entry pays v for what was there
-pub cost-set : (l : List ℕ) (i v t : ℕ) → i < length l → costOf (set l i v) t + digit i t * getD l i 0 ≡ costOf l t + digit i t * v
+cost-set : (l : List ℕ) (i v t : ℕ) → i < length l → costOf (set l i v) t + digit i t * getD l i 0 ≡ costOf l t + digit i t * v
 unfolding costOf
 cost-set [] i v t lt = absurd (omega arith)
 cost-set (w ∷ ws) zero v t lt = omega (arith, ap (λ (d : ℕ). d * w) (digit-first t), ap (λ (d : ℕ). d * v) (digit-first t))
@@ -31,19 +32,19 @@ cost-set (w ∷ ws) (suc i) v t lt =
 
 module _ (l : List ℕ) (i y t : ℕ) (lt : i < length l) (le : y ≤ getD l i 0) where
   -- a set without the entry costs what it did
-  pub less-out : (digit i t ≡ 1 → ⊥) → costOf (set l i (getD l i 0 - y)) t ≡ costOf l t
+  less-out : (digit i t ≡ 1 → ⊥) → costOf (set l i (getD l i 0 - y)) t ≡ costOf l t
   less-out n =
       let z : digit i t ≡ 0 = omega (arith, digit-lt i t) in
       let v : ℕ = getD l i 0 - y in
       omega (arith, cost-set l i v t lt, ap (λ (d : ℕ). d * getD l i 0) z, ap (λ (d : ℕ). d * v) z, zero-mul (getD l i 0), zero-mul v)
 
   -- a set with it costs y less
-  pub less-in : digit i t ≡ 1 → costOf (set l i (getD l i 0 - y)) t + y ≡ costOf l t
+  less-in : digit i t ≡ 1 → costOf (set l i (getD l i 0 - y)) t + y ≡ costOf l t
   less-in o =
       let v : ℕ = getD l i 0 - y in
       omega (arith, cost-set l i v t lt, ap (λ (d : ℕ). d * getD l i 0) o, ap (λ (d : ℕ). d * v) o, one-mul (getD l i 0), one-mul v)
 
-  pub less-all : costOf (set l i (getD l i 0 - y)) t ≤ costOf l t
+  less-all : costOf (set l i (getD l i 0 - y)) t ≤ costOf l t
   less-all = ⊎-elim (λ (o : digit i t ≡ 1). omega (arith, less-in o)) (λ (n : digit i t ≡ 1 → ⊥). omega (arith, less-out n)) (eq? (digit i t) 1)
 
 -- ---- one row
@@ -138,7 +139,7 @@ raising-more rows n old mid new sum y h p = record {
 }
 
 -- the set of all 64 meets all rows
-pub meets-all : (rows : List ℕ) → ((k : ℕ) → getD rows k 0 < 2 ^ 64) → (n : ℕ) → Meets rows n (2 ^ 64 - 1)
+meets-all : (rows : List ℕ) → ((k : ℕ) → getD rows k 0 < 2 ^ 64) → (n : ℕ) → Meets rows n (2 ^ 64 - 1)
 unfolding Meets
 meets-all rows fit n k l nz z = nz (sym (and-mask (getD rows k 0) 64 ∙ mod-eq-of-lt (fit k)) ∙ z)
 
@@ -151,7 +152,7 @@ pub raising-all : (rows : List ℕ) (n : ℕ) (old new : List ℕ) (sum : ℕ) �
 raising-all rows n old new sum e h = record { size = h .size; under = λ t m. h .under t (subst (λ (k : ℕ). Meets rows k t) (sym e) m) }
 
 -- one pass over the rows and then another
-pub raised-then : (rows a b c : List ℕ) (p q : ℕ) → Raised rows a b p → Raised rows b c q → Raised rows a c (p + q)
+raised-then : (rows a b c : List ℕ) (p q : ℕ) → Raised rows a b p → Raised rows b c q → Raised rows a c (p + q)
 raised-then rows a b c p q f g = record { size = g .size ∙ f .size; under = λ t m. omega (arith, f .under t m, g .under t m) }
 
 -- six passes
@@ -165,7 +166,7 @@ module _ (rows : List ℕ) {a b c d e f g : List ℕ} {p q r s t u : ℕ} where
 
 -- ---- the costs with 0 behind them
 
-pub cost-zeros : (l : List ℕ) (t : ℕ) → ((k : ℕ) → getD l k 0 ≡ 0) → costOf l t ≡ 0
+cost-zeros : (l : List ℕ) (t : ℕ) → ((k : ℕ) → getD l k 0 ≡ 0) → costOf l t ≡ 0
 unfolding costOf
 cost-zeros [] t z = refl
 cost-zeros (w ∷ ws) t z =
@@ -175,7 +176,7 @@ cost-zeros (w ∷ ws) t z =
     omega (arith, cost-zeros ws (t / 2) (λ k. z (suc k)), ap (λ (d : ℕ). d * w) o, zero-mul w)) (eq? (t % 2) 1)
 
 -- the same entries make the same cost
-pub cost-same : (a b : List ℕ) (t : ℕ) → ((k : ℕ) → getD a k 0 ≡ getD b k 0) → costOf a t ≡ costOf b t
+cost-same : (a b : List ℕ) (t : ℕ) → ((k : ℕ) → getD a k 0 ≡ getD b k 0) → costOf a t ≡ costOf b t
 unfolding costOf
 cost-same [] b t h = sym (cost-zeros b t (λ k. sym (h k)))
 cost-same (v ∷ vs) [] t h = cost-zeros (v ∷ vs) t h
@@ -189,18 +190,20 @@ pub record Padding (costs left : List ℕ) (i : ℕ) : Type 0 where
   pub same : (k : ℕ) → k < i → getD left k 0 ≡ getD costs k 0
   pub rest : (k : ℕ) → i ≤ k → getD left k 0 ≡ 0
 
-zeros : (n k : ℕ) → _≡_ {A = ℕ} (getD (replicate n 0) k 0) 0
-zeros zero k = refl
-zeros (suc n) zero = refl
-zeros (suc n) (suc k) = zeros n k
-
 pub padding-none : (costs : List ℕ) → Padding costs (replicate 64 0) 0
-padding-none costs = record { size = length-replicate {A = ℕ} 64 0; same = λ k lt. absurd (omega arith); rest = λ k le. zeros 64 k }
+padding-none costs = record {
+  size = length-replicate {A = ℕ} 64 0;
+  same = λ k lt. absurd (omega arith);
+  rest = λ k le. elim (decLt k 64) [
+    | yes lt ↦ getD-replicate 64 k 0 0 lt
+    | no ge ↦ List·getD-eq-default (replicate 64 0) 0 {n = k} (omega (arith, length-replicate {A = ℕ} 64 0))
+  ];
+}
 
 pub padding-more : (costs left : List ℕ) (i : ℕ) → i < 64 → Padding costs left i → Padding costs (set left i (getD costs i 0)) (i + 1)
 padding-more costs left i lt h = record {
   size = length-set left i (getD costs i 0) ∙ h .size;
-  same = all-next (λ k. getD (set left i (getD costs i 0)) k 0 ≡ getD costs k 0) i
+  same = below-more (λ k. getD (set left i (getD costs i 0)) k 0 ≡ getD costs k 0) i
       (λ k l. getD-set-other left i k (getD costs i 0) 0 (λ e. omega arith) ∙ h .same k l)
       (getD-set-same left i (getD costs i 0) 0 (omega (arith, h .size)));
   rest = λ k l. getD-set-other left i k (getD costs i 0) 0 (λ e. omega arith) ∙ h .rest k (omega arith);
@@ -229,16 +232,10 @@ trimmed-none left free spare = record { part = part-self free; dear = λ b m n. 
 
 pub trimmed-drop : (left : List ℕ) (free spare kept m p kept' : ℕ) → Trimmed left free spare kept → Single m → Price left m p → spare ≤ p → Minus kept m kept'
     → Trimmed left free spare kept'
-unfolding Minus Single
+unfolding Single Visited
 trimmed-drop left free spare kept m p kept' h one q le d = record {
   part = part-trans kept' kept free (minus-part kept m kept' d) (h .part);
-  dear = λ b f n. ⊎-elim
-      (λ (e : digit b kept ≡ 1).
-      let in-m : digit b m ≡ 1 = ⊎-elim (λ (g : digit b m ≡ 1). g) (λ (g : digit b m ≡ 1 → ⊥). absurd (n (omega (arith, d b, digit-lt b m)))) (eq? (digit b m) 1) in
-      let same : b ≡ one .0 = pow-only b (one .0) (sym (ap (digit b) (one .1)) ∙ in-m) in
-      omega (arith, q .is, ap (costOf left) (one .1 ∙ ap (λ (j : ℕ). 2 ^ j) (sym same))))
-      (λ (e : digit b kept ≡ 1 → ⊥). h .dear b f e)
-      (eq? (digit b kept) 1);
+  dear = visited-more (λ b. spare ≤ costOf left (2 ^ b)) free kept m (one .0) kept' (h .dear) (one .1) d (omega (arith, q .is, ap (costOf left) (one .1)));
 }
 
 -- ---- what a cheap set can have

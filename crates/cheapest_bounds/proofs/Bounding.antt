@@ -1,17 +1,17 @@
 -- The cost of one candidate, the floor of a set, and the bound by disjoint unmet rows.
 use mathlib.Core.Path.{_≡_, refl, sym, ap, _∙_, subst}
 use mathlib.Core.Logic.{⊎-elim}
-use mathlib.Core.List.{List, [], _∷_}
-use Prim.Native.Nat.{ℕ, zero, suc, _+_, _*_, _/_, _%_, _^_, _≤_, _<_}
+use mathlib.Core.List.{List}
+use Prim.Native.Nat.{ℕ, _+_, _^_, _≤_, _<_}
 use native.Mathlib.Omega.{arith}
 use lib.ListN.{length, getD, List·getD-eq-default}
 use lib.Bits.{bitAnd, bitOr}
 use Rattle.bits.specs.Bits.{digit, Part, Minus, Member, Index}
 use Rattle.rows.specs.Covers.{Cover, Between}
 use Rattle.cheapest_bounds.specs.Costs.{costOf, noCost, Price, Floor, CoverBetween, Fresh, Bound}
-use Rattle.bits.proofs.Digits.{eq?, digit-lt, digit-or, a-member, pow-only}
+use Rattle.bits.proofs.Digits.{eq?, digit-lt, digit-or, a-member}
 use Rattle.bits.proofs.Members.{not-zero, and-left, and-right, and-both}
-use Rattle.bits.proofs.Parts.{by-members, part-self, the-member, apart-by, no-common, and-or}
+use Rattle.bits.proofs.Parts.{by-members, part-self, the-member, part-and-left, apart-by, no-common, and-or}
 use Rattle.bits.proofs.Steps.{Visited, visited-none, visited-more, visited-all}
 use Rattle.cheapest_bounds.proofs.Costing.{cost-join, cost-part, cost-one, cost-small, cost-floor}
 use Rattle.rows.proofs.Sets.{meets}
@@ -79,13 +79,12 @@ packed-more rows costs s free used sum k x w h lt fr n f = record {
   under = λ t r.
       let b : (c : ℕ) × (digit c (bitAnd row free) ≡ 1) × (digit c t ≡ 1) = meets rows s free k lt (fr n .0) t (r .0) (r .1) in
       let some : bitAnd t x ≡ 0 → ⊥ = not-zero (b .0) (bitAnd t x) (and-both (b .0) t x (b .2) (ap (digit (b .0)) (fr n .1) ∙ b .1)) in
-      let part : Part (bitAnd t x) x = by-members (bitAnd t x) x (λ c q. and-right c t x q) in
       let apart : bitAnd (bitAnd t used) (bitAnd t x) ≡ 0
       = apart-by (bitAnd t used) (bitAnd t x) (λ c p q. no-common used x c (fr n .2) (and-right c t used p) (and-right c t x q)) in
       omega (
         arith,
         h .under t r,
-        cost-floor costs x w (bitAnd t x) f part some,
+        cost-floor costs x w (bitAnd t x) f (part-and-left t x) some,
         cost-join costs (bitAnd t used) (bitAnd t x) apart,
         ap (costOf costs) (and-or t used x),
       );
@@ -105,7 +104,8 @@ packed-as rows costs s free {used} {used'} {sum} {sum'} e f h =
 pub packed-small : (rows costs : List ℕ) (s free used sum : ℕ) → length costs ≤ 64 → ((k : ℕ) → getD costs k 0 < 65536) → Packed rows costs s free used sum → sum < noCost
 packed-small rows costs s free used sum l lt h = omega (arith, h .little, cost-small costs used lt)
 
-pub packed-all : (rows costs : List ℕ) (s free used sum : ℕ) → length costs ≤ 64 → ((k : ℕ) → getD costs k 0 < 65536) → Packed rows costs s free used sum → Bound rows costs s free sum
+pub packed-all : (rows costs : List ℕ) (s free used sum : ℕ) → length costs ≤ 64 → ((k : ℕ) → getD costs k 0 < 65536)
+    → Packed rows costs s free used sum → Bound rows costs s free sum
 unfolding CoverBetween Between
 packed-all rows costs s free used sum l lt h = record {
   under = λ t r.

@@ -6,6 +6,8 @@ use Prim.Native.Nat.{ℕ, zero, suc, _+_, _-_, _*_, _/_, _%_, _^_, _≤_, _<_, m
 use native.Mathlib.Nat.{pow-suc, add-mul, one-mul, zero-mul, mul-le-mul}
 use native.Mathlib.Omega.{arith}
 use lib.ListN.{length, getD}
+use mir.Syntax.{w16}
+use mir.Val.{Fits}
 use lib.Bits.{bitAnd, bitOr, bitXor, and-step, or-step}
 use Rattle.bits.specs.Bits.{digit, Part, Minus, Member}
 use Rattle.cheapest_bounds.specs.Costs.{costOf, noCost, Price, Floor}
@@ -53,6 +55,10 @@ cost-one (w ∷ ws) (suc b) =
     let even : 2 ^ suc b % 2 ≡ 0 = omega arith in
     let half : 2 ^ suc b / 2 ≡ 2 ^ b = omega arith in
     omega (arith, ap (λ (x : ℕ). x * w) even, zero-mul w, ap (costOf ws) half, cost-one ws b)
+
+-- a list of 16-bit numbers, as the code tells it
+pub small-entries : (ws : List ℕ) → ((k : ℕ) → Fits w16 (getD ws k 0)) → (k : ℕ) → getD ws k 0 < 65536
+small-entries ws h k = omega (arith, h k)
 
 -- costs below 65536 make at most 65535 for each
 pub cost-small : (ws : List ℕ) (s : ℕ) → ((k : ℕ) → getD ws k 0 < 65536) → costOf ws s ≤ 65535 * length ws

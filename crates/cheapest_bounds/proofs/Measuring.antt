@@ -1,16 +1,16 @@
 -- Costs that are multiples of a unit: sums of them are, and a limit between two multiples can be lowered to the lower one.
-use mathlib.Core.Path.{_≡_, ap, _∙_}
+use mathlib.Core.Path.{_≡_, ap}
 use mathlib.Core.Logic.{⊎-elim}
 use mathlib.Core.List.{List, [], _∷_}
 use Prim.Native.Nat.{ℕ, suc, _+_, _-_, _*_, _/_, _%_, _≤_, _<_}
 use native.Mathlib.Nat.{add-mul, one-mul, zero-mul, div-add-mod', mod-lt, mul-le-mul-right, mul-one}
 use native.Mathlib.Decide.{decLe}
 use native.Mathlib.Omega.{arith}
+use borrow.Author.Count.{below-more}
 use lib.ListN.{length, getD}
 use Rattle.cheapest_bounds.specs.Costs.{costOf}
 use Rattle.cheapest_bounds.specs.Units.{Multiple, Measures, CommonUnit, LimitBelow}
 use Rattle.bits.proofs.Digits.{eq?}
-use Rattle.bits.proofs.Steps.{all-next}
 
 -- ---- the unit
 
@@ -25,7 +25,7 @@ measured-none costs u k lt = absurd (omega arith)
 pub measured-more : (costs : List ℕ) (u n : ℕ) → Measured costs u n → getD costs n 0 % u ≡ 0 → Measured costs u (n + 1)
 unfolding Measured Multiple
 measured-more costs u n h z =
-    all-next (λ k. Multiple u (getD costs k 0)) n h (getD costs n 0 / u, omega (arith, div-add-mod' (getD costs n 0) u))
+    below-more (λ k. Multiple u (getD costs k 0)) n h (getD costs n 0 / u, omega (arith, div-add-mod' (getD costs n 0) u))
 
 pub measured-all : (costs : List ℕ) (u n : ℕ) → n ≡ length costs → Measured costs u n → Measures costs u
 unfolding Measured Measures

@@ -4,6 +4,7 @@ use mathlib.Core.Logic.{_⊎_, ⊎-elim}
 use mathlib.Core.List.{List}
 use Prim.Native.Nat.{ℕ, _+_, _<_}
 use native.Mathlib.Omega.{arith}
+use borrow.Author.Count.{below-more}
 use lib.ListN.{length, getD}
 use lib.Bits.{bitAnd}
 use Rattle.cheapest_nodes.specs.declared.branching.Choice.{Choice}
@@ -12,10 +13,8 @@ use Rattle.bits.specs.Bits.{digit, Part, Member}
 use Rattle.rows.specs.Covers.{Cover}
 use Rattle.cheapest_bounds.specs.Costs.{CoverBetween}
 use Rattle.cheapest_nodes.specs.Nodes.{Chosen}
-use Rattle.bits.proofs.Digits.{eq?}
-use Rattle.bits.proofs.Members.{not-zero, and-left, and-right}
-use Rattle.bits.proofs.Parts.{members, by-members, member-of-more, apart-by, no-common}
-use Rattle.bits.proofs.Steps.{all-next}
+use Rattle.bits.proofs.Members.{not-zero, and-left}
+use Rattle.bits.proofs.Parts.{members, by-members, member-of-more, part-and-left, apart-by, no-common}
 use Rattle.rows.proofs.Sets.{meets}
 
 -- pick is free and not in s; where it is 0, s meets the first n rows
@@ -34,7 +33,7 @@ picked-none rows s free = record {
 module _ (rows : List ℕ) (n s free pick : ℕ) (h : Picked rows n s free pick) where
   pub picked-met : (bitAnd (getD rows n 0) s ≡ 0 → ⊥) → Picked rows (n + 1) s free pick
   picked-met m = record {
-    met = λ e. all-next (λ k. bitAnd (getD rows k 0) s ≡ 0 → ⊥) n (h .met e) m;
+    met = λ e. below-more (λ k. bitAnd (getD rows k 0) s ≡ 0 → ⊥) n (h .met e) m;
     part = h .part;
     apart = h .apart;
   }
@@ -45,7 +44,7 @@ module _ (rows : List ℕ) (n s free pick : ℕ) (h : Picked rows n s free pick)
       ⊎-elim
       (λ (e : pick' ≡ bitAnd (getD rows n 0) free). record {
         met = λ q. absurd (nz (sym e ∙ q));
-        part = subst (λ (v : ℕ). Part v free) (sym e) (by-members (bitAnd (getD rows n 0) free) free (λ b m. and-right b (getD rows n 0) free m));
+        part = subst (λ (v : ℕ). Part v free) (sym e) (part-and-left (getD rows n 0) free);
         apart = subst (λ (v : ℕ). bitAnd s v ≡ 0) (sym e)
             (apart-by s (bitAnd (getD rows n 0) free) (λ b p q. no-common (getD rows n 0) s b z (and-left b (getD rows n 0) free q) p));
       })

@@ -1,25 +1,24 @@
 -- Free candidates in two parts that no unmet row links.
-use mathlib.Core.Path.{_≡_, sym, subst}
-use mathlib.Core.Logic.{_⊎_, inr, ⊎-elim}
+use mathlib.Core.Path.{_≡_, subst}
+use mathlib.Core.Logic.{_⊎_, inr}
 use mathlib.Core.List.{List}
 use Prim.Native.Nat.{ℕ, _+_}
 use native.Mathlib.Omega.{arith}
+use borrow.Author.Count.{below-more}
 use lib.ListN.{length, getD}
 use lib.Bits.{bitAnd}
 use Rattle.bits.specs.Bits.{Part}
 use Rattle.cheapest_nodes.specs.Nodes.{Closed, Component}
-use Rattle.bits.proofs.Members.{and-left, and-right}
-use Rattle.bits.proofs.Parts.{by-members, part-self}
-use Rattle.bits.proofs.Steps.{all-next}
+use Rattle.bits.proofs.Parts.{part-self, part-and-left, part-and-less}
 
 module _ (rows : List ℕ) (n s free a : ℕ) (h : Closed rows n s free a) where
   pub closed-met : (bitAnd (getD rows n 0) s ≡ 0 → ⊥) → Closed rows (n + 1) s free a
   unfolding Closed
-  closed-met d = all-next _ n h (λ z. absurd (d z))
+  closed-met d = below-more _ n h (λ z. absurd (d z))
 
   pub closed-more : (bitAnd (bitAnd (getD rows n 0) free) a ≡ 0) ⊎ Part (bitAnd (getD rows n 0) free) a → Closed rows (n + 1) s free a
   unfolding Closed
-  closed-more d = all-next _ n h (λ z. d)
+  closed-more d = below-more _ n h (λ z. d)
 
 pub closed-none : (rows : List ℕ) (s free a : ℕ) → Closed rows 0 s free a
 unfolding Closed
@@ -33,8 +32,8 @@ pub component-all : (rows : List ℕ) (s free : ℕ) → Component rows s free f
 unfolding Closed
 component-all rows s free = record {
   part = part-self free;
-  closed = λ k lt z. inr (by-members (bitAnd (getD rows k 0) free) free (λ b m. and-right b (getD rows k 0) free m));
+  closed = λ k lt z. inr (part-and-left (getD rows k 0) free);
 }
 
 pub component-grown : (rows : List ℕ) (s free g : ℕ) → Closed rows (length rows) s free (bitAnd free g) → Component rows s free (bitAnd free g)
-component-grown rows s free g h = record { part = by-members (bitAnd free g) free (λ b m. and-left b free g m); closed = h }
+component-grown rows s free g h = record { part = part-and-less free g free (part-self free); closed = h }

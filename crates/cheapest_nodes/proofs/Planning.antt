@@ -1,10 +1,11 @@
 -- What is left of the rows when s is taken, and how the search for the cheapest cover goes on: candidates that are too dear are not needed.
-use mathlib.Core.Path.{_≡_, refl, sym, ap, _∙_, subst}
+use mathlib.Core.Path.{_≡_, sym, ap, _∙_, subst}
 use mathlib.Core.Logic.{_⊎_, ⊎-elim}
 use mathlib.Core.List.{List}
 use Prim.Native.Nat.{ℕ, _+_, _-_, _≤_, _<_}
 use native.Mathlib.Decide.{decLt}
 use native.Mathlib.Omega.{arith}
+use borrow.Author.Count.{below-more}
 use lib.ListN.{length, getD, set, take}
 use lib.Seq.{getD-set-same, getD-set-other, getD-take, length-take-le}
 use lib.Bits.{bitAnd, bitXor}
@@ -21,7 +22,6 @@ use Rattle.cheapest_nodes.specs.Plan.{Residue, ResidueIn, Open, Sufficie
 use Rattle.bits.proofs.Digits.{eq?, digit-lt, digit-and, digit-or, digit-ext, a-member}
 use Rattle.bits.proofs.Members.{and-left, and-right, and-both}
 use Rattle.bits.proofs.Parts.{members, by-members, part-self, part-trans, part-and-left, minus-bits, apart-by, no-common}
-use Rattle.bits.proofs.Steps.{all-next}
 use Rattle.cheapest_bounds.proofs.Costing.{cost-apart}
 use Rattle.rows.proofs.Sets.{meets}
 use Rattle.cheapest_nodes.proofs.Choosing.{tried}
@@ -45,7 +45,7 @@ module _ (rows : List ℕ) (s free : ℕ) (out : List ℕ) (n i : ℕ) (g : Leav
   pub leaves-skip : (bitAnd (getD rows i 0) s ≡ 0 → ⊥) → Leaves rows s free out n (i + 1)
   leaves-skip met = record {
     few = omega (arith, g .few);
-    has = all-next _ i (g .has) (λ z. absurd (met z));
+    has = below-more _ i (g .has) (λ z. absurd (met z));
     from = λ j lt.
         let r : (k : ℕ) × (k < i) × (bitAnd (getD rows k 0) s ≡ 0) × (getD out j 0 ≡ bitAnd (getD rows k 0) free) = g .from j lt in
         (r .0, omega (arith, r .1), r .2, r .3);
@@ -54,12 +54,12 @@ module _ (rows : List ℕ) (s free : ℕ) (out : List ℕ) (n i : ℕ) (g : Leav
   pub leaves-take : n < length out → bitAnd (getD rows i 0) s ≡ 0 → Leaves rows s free (set out n (bitAnd (getD rows i 0) free)) (n + 1) (i + 1)
   leaves-take room z = record {
     few = omega (arith, g .few);
-    has = all-next (λ k. bitAnd (getD rows k 0) s ≡ 0 → (j : ℕ) × (j < n + 1) × (getD (set out n x) j 0 ≡ bitAnd (getD rows k 0) free)) i
+    has = below-more (λ k. bitAnd (getD rows k 0) s ≡ 0 → (j : ℕ) × (j < n + 1) × (getD (set out n x) j 0 ≡ bitAnd (getD rows k 0) free)) i
         (λ k lt y.
         let r : (j : ℕ) × (j < n) × (getD out j 0 ≡ bitAnd (getD rows k 0) free) = g .has k lt y in
         (r .0, omega (arith, r .1), other (r .0) (r .1) ∙ r .2))
         (λ y. (n, omega arith, getD-set-same out n x 0 room));
-    from = all-next (λ j. (k : ℕ) × (k < i + 1) × (bitAnd (getD rows k 0) s ≡ 0) × (getD (set out n x) j 0 ≡ bitAnd (getD rows k 0) free)) n
+    from = below-more (λ j. (k : ℕ) × (k < i + 1) × (bitAnd (getD rows k 0) s ≡ 0) × (getD (set out n x) j 0 ≡ bitAnd (getD rows k 0) free)) n
         (λ j lt.
         let r : (k : ℕ) × (k < i) × (bitAnd (getD rows k 0) s ≡ 0) × (getD out j 0 ≡ bitAnd (getD rows k 0) free) = g .from j lt in
         (r .0, omega (arith, r .1), r .2, other j lt ∙ r .3))

@@ -4,15 +4,16 @@ use mathlib.Core.Logic.{⊎-elim}
 use mathlib.Core.List.{List}
 use Prim.Native.Nat.{ℕ, _+_, _^_, _<_}
 use native.Mathlib.Omega.{arith}
+use borrow.Author.Count.{below-more}
 use lib.ListN.{length, getD, set, length-set}
 use lib.Seq.{getD-set-same, getD-set-other}
-use lib.Bits.{bitAnd, bitOr}
+use lib.Bits.{bitAnd}
 use Rattle.bits.specs.Bits.{digit, Part, Minus, Member, Index}
 use Rattle.cheapest_nodes.specs.Nodes.{Dominators, Restricted, Shared}
-use Rattle.bits.proofs.Digits.{eq?, digit-lt, digit-or, a-member, pow-here, pow-only}
-use Rattle.bits.proofs.Members.{and-left, and-right, and-both, not-zero}
-use Rattle.bits.proofs.Parts.{members, by-members, part-self, part-trans, part-and-left, part-and-less}
-use Rattle.bits.proofs.Steps.{all-next, Visited, visited-none, visited-more, visited-all}
+use Rattle.bits.proofs.Digits.{eq?, a-member, pow-here, pow-only}
+use Rattle.bits.proofs.Members.{and-left, and-right, and-both}
+use Rattle.bits.proofs.Parts.{members, part-self, part-trans, part-and-left, part-and-less}
+use Rattle.bits.proofs.Steps.{Visited, visited-none, visited-more, visited-all}
 
 -- ---- one row
 
@@ -71,13 +72,13 @@ shared-none rows s free common e = record { size = e; each = λ b m k lt. absurd
 module _ (rows : List ℕ) (n s free : ℕ) (old : List ℕ) (h : Shared rows n s free old) where
   pub shared-met : (bitAnd (getD rows n 0) s ≡ 0 → ⊥) → Shared rows (n + 1) s free old
   unfolding Dominators
-  shared-met d = record { size = h .size; each = λ b m. all-next _ n (h .each b m) (λ z. absurd (d z)) }
+  shared-met d = record { size = h .size; each = λ b m. below-more _ n (h .each b m) (λ z. absurd (d z)) }
 
   pub shared-more : (new : List ℕ) → Restricted (getD rows n 0) (bitAnd (getD rows n 0) free) old new → Shared rows (n + 1) s free new
   unfolding Dominators
   shared-more new w = record {
     size = w .size ∙ h .size;
-    each = λ b m. all-next (λ k. bitAnd (getD rows k 0) s ≡ 0 → (bitAnd (getD rows k 0) (2 ^ b) ≡ 0 → ⊥) → Part (getD new b 0) (getD rows k 0)) n
+    each = λ b m. below-more (λ k. bitAnd (getD rows k 0) s ≡ 0 → (bitAnd (getD rows k 0) (2 ^ b) ≡ 0 → ⊥) → Part (getD new b 0) (getD rows k 0)) n
         (λ k lt z q. part-trans (getD new b 0) (getD old b 0) (getD rows k 0) (w .less b) (h .each b m k lt z q))
         (λ z q. w .met b (and-both b (getD rows n 0) free (one-in b (getD rows n 0) q) m));
   }

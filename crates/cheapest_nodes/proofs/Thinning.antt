@@ -12,7 +12,7 @@ use Rattle.cheapest_bounds.specs.Costs.{costOf, Price, CoverBetween}
 use Rattle.cheapest_nodes.specs.Nodes.{Dominators, Cheaper, Thinned}
 use Rattle.bits.proofs.Digits.{eq?, digit-lt, digit-or, a-member, pow-only}
 use Rattle.bits.proofs.Members.{not-zero, and-left, and-right, and-both}
-use Rattle.bits.proofs.Parts.{members, by-members, part-trans, minus-bits, minus-part, member-of-more, no-common}
+use Rattle.bits.proofs.Parts.{members, by-members, part-self, part-trans, part-and-less, minus-bits, minus-part, member-of-more, no-common}
 use Rattle.cheapest_bounds.proofs.Costing.{cost-part, cost-either, cost-apart}
 
 pub cheaper-one : (costs : List ℕ) (x rest d m p q : ℕ) → Part rest x → Member rest d → Price costs d q → Price costs m p → q ≤ p → Cheaper costs x m d
@@ -194,13 +194,15 @@ module _ (rows costs : List ℕ) (s free u : ℕ) (h : Unmet rows (length rows) 
 
 -- what is both free and in an unmet row is free
 pub free-part : (free u : ℕ) → Part (bitAnd free u) free
-free-part free u = by-members (bitAnd free u) free (λ c m. and-left c free u m)
+free-part free u = part-and-less free u free (part-self free)
 
 pub thinned-unmet : (rows costs : List ℕ) (s free u : ℕ) → Unmet rows (length rows) s u → Thinned rows costs s free (bitAnd free u)
 unfolding CoverBetween
 thinned-unmet rows costs s free u h = record {
   part = free-part free u;
-  swap = λ t r. (trimmed rows costs s free u h t r, (trimmed-cover rows costs s free u h t r, trimmed-between rows costs s free u h t r), cost-part costs (trimmed rows costs s free u h t r) t (trimmed-part rows costs s free u h t r));
+  swap = λ t r.
+      let x : ℕ = trimmed rows costs s free u h t r in
+      (x, (trimmed-cover rows costs s free u h t r, trimmed-between rows costs s free u h t r), cost-part costs x t (trimmed-part rows costs s free u h t r));
 }
 
 -- ---- the value

@@ -9,7 +9,7 @@ ghost use Rattle.bits.specs.Bits.{Part};
 ghost use Rattle.cheapest_nodes.specs.Nodes.{Closed, Component};
 
 // Whether x is partly in a: it has members in a and others. Only false says something.
-fn straddles(x: u64, a: u64) -> bool
+fn partly_in(x: u64, a: u64) -> bool
     ensures { λ r. ⌜ (r ≡ false → (bitAnd x a ≡ 0) ⊎ Part x a) ⌝ }
 {
     if x & a == 0 {
@@ -25,7 +25,7 @@ fn closed(rows: &[u64], s: u64, free: u64, a: u64) -> bool
     let mut i = 0;
     while i < rows.len() {
         if rows[i] & s == 0 {
-            if straddles(rows[i] & free, a) {
+            if partly_in(rows[i] & free, a) {
                 return false;
             }
         }

@@ -2,7 +2,7 @@
 use borrow.Author.Needs.{needs}
 use native.Mathlib.Omega.{arith}
 use Rattle.bits.proofs.Parts.{minus-member-less}
-use Rattle.cheapest.proofs.Pinning.{PartsOf, parts-none, parts-more}
+use Rattle.cheapest.proofs.FirstCover.{PartsOf, parts-none, parts-more}
 use Rattle.cheapest.proofs.greedy.greedy.Statement.{statement}
 use Rattle.cheapest.proofs.greedy.greedy.Tie as tie
 

@@ -1,6 +1,6 @@
 -- `cheapest::greedy::start` meets its contract.
 use Rattle.bits.proofs.Decide.{decides-true}
-use Rattle.cheapest.proofs.Pinning.{known-cover, known-none}
+use Rattle.cheapest.proofs.FirstCover.{known-cover, known-none}
 use borrow.Author.Needs.{needs}
 use Rattle.cheapest.proofs.greedy.start.Statement.{statement}
 use Rattle.cheapest.proofs.greedy.start.Tie as tie

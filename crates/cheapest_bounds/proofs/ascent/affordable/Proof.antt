@@ -23,7 +23,10 @@ trim-requires : tie.Need-trim-requires
 trim-requires c κs = search needs
 
 returns-3 : tie.Need-returns-3
-returns-3 c = affordable-trimmed _ _ _ _ _ _ (c .before .before .before .before .ascent .ensures) (c .before .before .before .if2 .left) (c .trim .ensures)
+returns-3 c =
+    let c3 = c .before .before .before in
+    let c4 = c3 .before in
+    affordable-trimmed _ _ _ _ _ _ (c4 .ascent .ensures) (c3 .if2 .left) (c .trim .ensures)
 
 pub affordable-spec : {M : Type 1} → statement M
 affordable-spec =

@@ -1,5 +1,6 @@
 -- `cheapest_bounds::ascent::ascent` meets its contract. Each sum is a part of the last, which is no more than what all candidates cost.
 use native.Mathlib.Omega.{arith}
+use Rattle.cheapest_bounds.proofs.Costing.{small-entries}
 use Rattle.cheapest_bounds.proofs.Ascending.{raised-six, raised-small, dual}
 use borrow.Author.Needs.{needs}
 use Rattle.cheapest_bounds.proofs.ascent.ascent.Statement.{statement}
@@ -45,7 +46,20 @@ raise-requires-6 : tie.Need-raise-requires-6
 raise-requires-6 c κs = search needs
 
 add-t27 : tie.Need-add-t27
-add-t27 c = omega (arith, raised-small _ _ _ (λ k. omega (arith, c .before .before .before .before .before .before .before .before .before .before .before .before .before .before .before .before .before .before .before .before .shared-slice-known .given k)) (c .before .before .before .before .before .before .before .before .before .before .before .before .before .before .before .before .before .before .before .before .before .pre) (λ k. omega (arith, c .before .before .before .before .before .before .before .before .before .before .before .before .before .before .before .before .before .before .before .shared-slice-known2 .given k)) (c .before .before .before .before .before .before .before .before .before .before .before .before .before .before .before .before .before .before .padded .ensures) _ _ (raised-six _ (c .before .before .before .before .before .before .before .before .before .before .before .before .before .before .before .before .raise .ensures) (c .before .before .before .before .before .before .before .before .before .before .before .before .before .raise2 .ensures) (c .before .before .before .before .before .before .before .before .before .before .raise3 .ensures) (c .before .before .before .before .before .before .before .raise4 .ensures) (c .before .before .before .before .raise5 .ensures) (c .before .raise6 .ensures)))
+add-t27 c =
+    let c4 = c .before .before .before .before in
+    let c7 = c4 .before .before .before in
+    let c10 = c7 .before .before .before in
+    let c13 = c10 .before .before .before in
+    let c16 = c13 .before .before .before in
+    let c18 = c16 .before .before in
+    let c19 = c18 .before in
+    let c20 = c19 .before in
+    let start = c20 .before in
+    let small = small-entries (start .args .costs .now) (c19 .shared-slice-known2 .given) in
+    let all
+    = raised-six _ (c16 .raise .ensures) (c13 .raise2 .ensures) (c10 .raise3 .ensures) (c7 .raise4 .ensures) (c4 .raise5 .ensures) (c .before .raise6 .ensures) in
+    omega (arith, raised-small _ _ _ (λ k. omega (arith, c20 .shared-slice-known .given k)) (start .pre) small (c18 .padded .ensures) _ _ all)
 
 add-t23 : tie.Need-add-t23
 add-t23 c = omega (arith, add-t27 c)
@@ -60,7 +74,19 @@ add-t26 : tie.Need-add-t26
 add-t26 c = omega (arith, add-t27 c)
 
 returns : tie.Need-returns
-returns c = dual _ _ _ (λ k. omega (arith, c .before .before .before .before .before .before .before .before .before .before .before .before .before .before .before .before .before .before .before .before .shared-slice-known .given k)) (c .before .before .before .before .before .before .before .before .before .before .before .before .before .before .before .before .before .before .before .before .before .pre) (λ k. omega (arith, c .before .before .before .before .before .before .before .before .before .before .before .before .before .before .before .before .before .before .before .shared-slice-known2 .given k)) (c .before .before .before .before .before .before .before .before .before .before .before .before .before .before .before .before .before .before .padded .ensures) _ (raised-six _ (c .before .before .before .before .before .before .before .before .before .before .before .before .before .before .before .before .raise .ensures) (c .before .before .before .before .before .before .before .before .before .before .before .before .before .raise2 .ensures) (c .before .before .before .before .before .before .before .before .before .before .raise3 .ensures) (c .before .before .before .before .before .before .before .raise4 .ensures) (c .before .before .before .before .raise5 .ensures) (c .before .raise6 .ensures))
+returns c =
+    let c4 = c .before .before .before .before in
+    let c7 = c4 .before .before .before in
+    let c10 = c7 .before .before .before in
+    let c13 = c10 .before .before .before in
+    let c16 = c13 .before .before .before in
+    let c18 = c16 .before .before in
+    let c19 = c18 .before in
+    let c20 = c19 .before in
+    let start = c20 .before in
+    let small = small-entries (start .args .costs .now) (c19 .shared-slice-known2 .given) in
+    dual _ _ _ (λ k. omega (arith, c20 .shared-slice-known .given k)) (start .pre) small (c18 .padded .ensures) _
+    (raised-six _ (c16 .raise .ensures) (c13 .raise2 .ensures) (c10 .raise3 .ensures) (c7 .raise4 .ensures) (c4 .raise5 .ensures) (c .before .raise6 .ensures))
 
 pub ascent-spec : {M : Type 1} → statement M
 ascent-spec =

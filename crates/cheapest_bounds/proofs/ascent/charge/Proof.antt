@@ -28,16 +28,24 @@ mul-left : tie.Need-mul-left Inv-loop μ-loop
 mul-left c = search needs
 
 slice-read-left : tie.Need-slice-read-left Inv-loop μ-loop
-slice-read-left c = omega (arith, c .before .index .ensures .small, c .before .before .before .before .loop .inv .size, c .before .before .before .before .before .before .pre .0)
+slice-read-left c =
+    let c4 = c .before .before .before .before in
+    let start = c4 .before .before in
+    omega (arith, c .before .index .ensures .small, c4 .loop .inv .size, start .pre .0)
 
 sub-left : tie.Need-sub-left Inv-loop μ-loop
-sub-left c = charging-can _ _ _ _ _ _ _ (c .before .before .before .before .loop .inv) (c .before .before .lowest .ensures .member) (c .before .index .ensures)
+sub-left c =
+    let c4 = c .before .before .before .before in
+    charging-can _ _ _ _ _ _ _ (c4 .loop .inv) (c .before .before .lowest .ensures .member) (c .before .index .ensures)
 
 mul-left-2 : tie.Need-mul-left-2 Inv-loop μ-loop
 mul-left-2 c = search needs
 
 slice-write-left : tie.Need-slice-write-left Inv-loop μ-loop
-slice-write-left c = omega (arith, c .before .index .ensures .small, c .before .before .before .before .loop .inv .size, c .before .before .before .before .before .before .pre .0)
+slice-write-left c =
+    let c4 = c .before .before .before .before in
+    let start = c4 .before .before in
+    omega (arith, c .before .index .ensures .small, c4 .loop .inv .size, start .pre .0)
 
 minus-requires : tie.Need-minus-requires Inv-loop μ-loop
 minus-requires c κs = search needs
@@ -46,7 +54,13 @@ loop-less : tie.Need-loop-less Inv-loop μ-loop
 loop-less c = minus-member-less _ _ _ (c .before .before .before .lowest .ensures .member) (c .minus .ensures)
 
 loop-again : tie.Need-loop-again Inv-loop μ-loop
-loop-again c = charging-more _ _ _ _ _ _ _ _ (c .before .before .before .before .before .loop .inv) (c .before .before .before .lowest .ensures .member) (c .before .before .index .ensures) (c .minus .ensures) (omega (arith, c .before .before .index .ensures .small, c .before .before .before .before .before .loop .inv .size, c .before .before .before .before .before .before .before .pre .0))
+loop-again c =
+    let c2 = c .before .before in
+    let c3 = c2 .before in
+    let c5 = c3 .before .before in
+    let start = c5 .before .before in
+    charging-more _ _ _ _ _ _ _ _ (c5 .loop .inv) (c3 .lowest .ensures .member) (c2 .index .ensures) (c .minus .ensures)
+    (omega (arith, c2 .index .ensures .small, c5 .loop .inv .size, start .pre .0))
 
 same-length : tie.Need-same-length Inv-loop μ-loop
 same-length c = c .before .loop .inv .size

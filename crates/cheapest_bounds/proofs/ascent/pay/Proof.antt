@@ -25,13 +25,18 @@ sub-y : tie.Need-sub-y
 sub-y c = search needs
 
 charge-requires : tie.Need-charge-requires
-charge-requires c κs = (c .before .before .before .before .before .before .before .before .pre, floor-less _ _ _ _ (c .before .before .before .floor .ensures) (⊎-elim (λ w. omega (arith, w .1)) (λ w. omega (arith, w .1)) (c .before .if4 .came)))
+charge-requires c κs =
+    let c3 = c .before .before .before in
+    let start = c3 .before .before .before .before .before in
+    (start .pre, floor-less _ _ _ _ (c3 .floor .ensures) (⊎-elim (λ w. omega (arith, w .1)) (λ w. omega (arith, w .1)) (c .before .if4 .came)))
 
 same-length-2 : tie.Need-same-length-2
 same-length-2 c = search needs
 
 returns-4 : tie.Need-returns-4
-returns-4 c = paid-some _ _ _ _ (c .before .before .before .before .before .before .before .before .before .if1 .left) (c .before .before .charge .ensures)
+returns-4 c =
+    let c9 = c .before .before .before .before .before .before .before .before .before in
+    paid-some _ _ _ _ (c9 .if1 .left) (c .before .before .charge .ensures)
 
 pub pay-spec : {M : Type 1} → statement M
 pay-spec =

@@ -27,7 +27,16 @@ pay-requires : tie.Need-pay-requires Inv-loop μ-loop
 pay-requires c κs = c .before .before .before .loop .inv .1 .size ∙ c .before .before .before .before .before .before .pre
 
 add-sum : tie.Need-add-sum Inv-loop μ-loop
-add-sum c = omega (arith, raising-small _ _ _ _ _ (λ k. omega (arith, c .before .before .before .before .before .before .before .before .shared-slice-known .given k)) (c .before .before .before .before .before .before .before .before .before .pre) (λ k. omega (arith, c .before .before .before .before .before .before .before .slice-known .given k)) (raising-more _ _ _ _ _ _ _ (c .before .before .before .before .before .before .loop .inv .1) (c .before .before .pay .ensures)))
+add-sum c =
+    let c6 = c .before .before .before .before .before .before in
+    let c7 = c6 .before in
+    let c8 = c7 .before in
+    let start = c8 .before in
+    let more = raising-more _ _ _ _ _ _ _ (c6 .loop .inv .1) (c .before .before .pay .ensures) in
+    omega (
+      arith,
+      raising-small _ _ _ _ _ (λ k. omega (arith, c8 .shared-slice-known .given k)) (start .pre) (λ k. omega (arith, c7 .slice-known .given k)) more,
+    )
 
 add-i : tie.Need-add-i Inv-loop μ-loop
 add-i c = search needs
@@ -36,7 +45,9 @@ loop-less : tie.Need-loop-less Inv-loop μ-loop
 loop-less c = search needs
 
 loop-again : tie.Need-loop-again Inv-loop μ-loop
-loop-again c = (search needs, raising-more _ _ _ _ _ _ _ (c .before .before .before .before .before .before .loop .inv .1) (c .before .before .pay .ensures))
+loop-again c =
+    let c6 = c .before .before .before .before .before .before in
+    (search needs, raising-more _ _ _ _ _ _ _ (c6 .loop .inv .1) (c .before .before .pay .ensures))
 
 same-length : tie.Need-same-length Inv-loop μ-loop
 same-length c = c .before .loop .inv .1 .size

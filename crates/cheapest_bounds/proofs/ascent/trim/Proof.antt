@@ -32,7 +32,11 @@ loop-less : tie.Need-loop-less Inv-loop μ-loop
 loop-less c = minus-member-less _ _ _ (c .before .before .before .before .lowest .ensures .member) (c .before .before .before .minus .ensures)
 
 loop-again : tie.Need-loop-again Inv-loop μ-loop
-loop-again c = trimmed-drop _ _ _ _ _ _ _ (c .before .before .before .before .before .before .loop .inv) (c .before .before .before .before .lowest .ensures .member .single) (c .before .before .price .ensures) (omega (arith, c .before .if1 .taken)) (c .minus2 .ensures)
+loop-again c =
+    let c4 = c .before .before .before .before in
+    let c6 = c4 .before .before in
+    trimmed-drop _ _ _ _ _ _ _ (c6 .loop .inv) (c4 .lowest .ensures .member .single) (c .before .before .price .ensures) (omega (arith, c .before .if1 .taken))
+    (c .minus2 .ensures)
 
 loop-less-2 : tie.Need-loop-less-2 Inv-loop μ-loop
 loop-less-2 c = minus-member-less _ _ _ (c .before .before .before .lowest .ensures .member) (c .before .before .minus .ensures)

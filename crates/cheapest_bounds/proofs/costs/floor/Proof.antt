@@ -30,7 +30,9 @@ loop-less c = minus-member-less _ _ _ (c .before .before .before .before .lowest
 
 loop-again : tie.Need-loop-again Inv-loop μ-loop
 loop-again c =
-    floored-more _ _ _ _ _ _ _ _ (c .before .before .before .before .before .before .loop .inv) (c .before .before .before .before .lowest .ensures .member) (c .before .before .before .price .ensures) (c .minus .ensures)
+    let c3 = c .before .before .before in
+    let c4 = c3 .before in
+    floored-more _ _ _ _ _ _ _ _ (c4 .before .before .loop .inv) (c4 .lowest .ensures .member) (c3 .price .ensures) (c .minus .ensures)
     (⊎-elim (λ w. omega (arith, w .0 .taken, w .1)) (λ w. omega (arith, w .1)) (c .before .if2 .came))
     (⊎-elim (λ w. omega (arith, w .1)) (λ w. omega (arith, w .0 .left, w .1)) (c .before .if2 .came))
 

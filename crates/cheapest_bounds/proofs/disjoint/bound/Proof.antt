@@ -4,6 +4,7 @@ use Prim.Native.Nat.{_-_, _≤_}
 use native.Mathlib.Omega.{arith}
 use lib.ListN.{length}
 use mathlib.Core.Logic.{⊎-elim}
+use Rattle.cheapest_bounds.proofs.Costing.{small-entries}
 use Rattle.cheapest_bounds.proofs.Bounding.{Packed, packed-none, packed-more, packed-as, packed-small, packed-all, bound-lost}
 use Rattle.cheapest_bounds.proofs.disjoint.bound.Statement.{statement}
 use Rattle.cheapest_bounds.proofs.disjoint.bound.Tie as tie
@@ -39,7 +40,11 @@ floor-requires : tie.Need-floor-requires Inv-loop μ-loop
 floor-requires c κs = search needs
 
 add-sum : tie.Need-add-sum Inv-loop μ-loop
-add-sum c = omega (arith, c .floor .ensures .small, packed-small _ _ _ _ _ _ (c .before .before .before .before .before .before .before .before .before .before .pre) (λ k. omega (arith, c .before .before .before .before .before .before .before .before .shared-slice-known2 .given k)) (c .before .before .before .before .before .before .before .loop .inv .1))
+add-sum c =
+    let c7 = c .before .before .before .before .before .before .before in
+    let c8 = c7 .before in
+    let start = c8 .before .before in
+    omega (arith, c .floor .ensures .small, packed-small _ _ _ _ _ _ (start .pre) (small-entries (start .args .costs .now) (c8 .shared-slice-known2 .given)) (c7 .loop .inv .1))
 
 add-i : tie.Need-add-i Inv-loop μ-loop
 add-i c = search needs
@@ -48,10 +53,18 @@ loop-less : tie.Need-loop-less Inv-loop μ-loop
 loop-less c = search needs
 
 loop-again : tie.Need-loop-again Inv-loop μ-loop
-loop-again c = (search needs, ⊎-elim (λ w. packed-as _ _ _ _ (w .2) (w .3) (packed-more _ _ _ _ _ _ _ _ _ (c .before .before .before .before .before .before .loop .inv .1) (omega arith) (c .before .fresh .ensures) (w .0 .taken) (w .1 .ensures))) (λ w. packed-as _ _ _ _ (w .1) (w .2) (c .before .before .before .before .before .before .loop .inv .1)) (c .if2 .came))
+loop-again c =
+    let c6 = c .before .before .before .before .before .before in (
+      search needs,
+      ⊎-elim
+          (λ w. packed-as _ _ _ _ (w .2) (w .3) (packed-more _ _ _ _ _ _ _ _ _ (c6 .loop .inv .1) (omega arith) (c .before .fresh .ensures) (w .0 .taken) (w .1 .ensures)))
+          (λ w. packed-as _ _ _ _ (w .1) (w .2) (c6 .loop .inv .1)) (c .if2 .came),
+    )
 
 returns-2 : tie.Need-returns-2 Inv-loop μ-loop
-returns-2 c = packed-all _ _ _ _ _ _ (c .before .before .before .before .pre) (λ k. omega (arith, c .before .before .shared-slice-known2 .given k)) (c .before .loop .inv .1)
+returns-2 c =
+    let start = c .before .before .before .before in
+    packed-all _ _ _ _ _ _ (start .pre) (small-entries (start .args .costs .now) (c .before .before .shared-slice-known2 .given)) (c .before .loop .inv .1)
 
 pub bound-spec : {M : Type 1} → statement M
 bound-spec =

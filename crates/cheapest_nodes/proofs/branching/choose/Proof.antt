@@ -43,7 +43,12 @@ loop-less : tie.Need-loop-less Inv-loop μ-loop
 loop-less c = search needs
 
 loop-again : tie.Need-loop-again Inv-loop μ-loop
-loop-again c = (search needs, ⊎-elim (λ w. subst (Picked _ _ _ _) (sym (w .4)) (picked-unmet _ _ _ _ _ (c .before .before .before .loop .inv .1) _ (w .0 .taken) (w .2 .left) (w .3 .ensures))) (λ w. subst (Picked _ _ _ _) (sym (w .1)) (picked-met _ _ _ _ _ (c .before .before .before .loop .inv .1) (w .0 .left))) (c .if1 .came))
+loop-again c =
+    let c3 = c .before .before .before in (
+      search needs,
+      ⊎-elim (λ w. subst (Picked _ _ _ _) (sym (w .4)) (picked-unmet _ _ _ _ _ (c3 .loop .inv .1) _ (w .0 .taken) (w .2 .left) (w .3 .ensures)))
+          (λ w. subst (Picked _ _ _ _) (sym (w .1)) (picked-met _ _ _ _ _ (c3 .loop .inv .1) (w .0 .left))) (c .if1 .came),
+    )
 
 returns-2 : tie.Need-returns-2 Inv-loop μ-loop
 returns-2 c = chosen-done _ _ _ _ _ (c .before .before .loop .inv .1) (omega arith) (c .if3 .taken)

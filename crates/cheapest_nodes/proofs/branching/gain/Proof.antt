@@ -38,7 +38,10 @@ loop-less : tie.Need-loop-less Inv-loop μ-loop
 loop-less c = search needs
 
 loop-again : tie.Need-loop-again Inv-loop μ-loop
-loop-again c = (search needs, ⊎-elim (λ w. omega (arith, w .3 .taken, w .4)) (⊎-elim (λ w. omega (arith, w .4)) (⊎-elim (λ w. omega (arith, w .3)) (λ w. omega (arith, w .1)))) (c .if1 .came))
+loop-again c = (
+  search needs,
+  ⊎-elim (λ w. omega (arith, w .3 .taken, w .4)) (⊎-elim (λ w. omega (arith, w .4)) (⊎-elim (λ w. omega (arith, w .3)) (λ w. omega (arith, w .1)))) (c .if1 .came),
+)
 
 returns : tie.Need-returns Inv-loop μ-loop
 returns c = search needs

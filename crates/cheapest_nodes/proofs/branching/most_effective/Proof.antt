@@ -48,16 +48,33 @@ mul-if1-2 : tie.Need-mul-if1-2 Inv-loop μ-loop
 mul-if1-2 c = omega (arith, product-fits _ _ (c .before .before .gain2 .ensures) (c .price2 .ensures .small))
 
 loop-less : tie.Need-loop-less Inv-loop μ-loop
-loop-less c = minus-member-less _ _ _ (c .before .before .before .before .before .lowest2 .ensures .member) (c .before .before .before .before .minus2 .ensures)
+loop-less c =
+    let c4 = c .before .before .before .before in
+    let c5 = c4 .before in
+    minus-member-less _ _ _ (c5 .lowest2 .ensures .member) (c4 .minus2 .ensures)
 
 loop-again : tie.Need-loop-again Inv-loop μ-loop
-loop-again c = (member-of-more _ _ _ (c .before .before .before .before .before .before .before .loop .inv .1) (c .before .before .before .before .before .lowest2 .ensures .member), part-trans _ _ _ (minus-part _ _ _ (c .before .before .before .before .minus2 .ensures)) (c .before .before .before .before .before .before .before .loop .inv .1), c .before .before .before .gain2 .ensures)
+loop-again c =
+    let c3 = c .before .before .before in
+    let c4 = c3 .before in
+    let c5 = c4 .before in
+    let c7 = c5 .before .before in (
+      member-of-more _ _ _ (c7 .loop .inv .1) (c5 .lowest2 .ensures .member),
+      part-trans _ _ _ (minus-part _ _ _ (c4 .minus2 .ensures)) (c7 .loop .inv .1),
+      c3 .gain2 .ensures,
+    )
 
 loop-less-2 : tie.Need-loop-less-2 Inv-loop μ-loop
-loop-less-2 c = minus-member-less _ _ _ (c .before .before .before .before .before .lowest2 .ensures .member) (c .before .before .before .before .minus2 .ensures)
+loop-less-2 c =
+    let c4 = c .before .before .before .before in
+    let c5 = c4 .before in
+    minus-member-less _ _ _ (c5 .lowest2 .ensures .member) (c4 .minus2 .ensures)
 
 loop-again-2 : tie.Need-loop-again-2 Inv-loop μ-loop
-loop-again-2 c = (c .before .before .before .before .before .before .before .loop .inv .0, part-trans _ _ _ (minus-part _ _ _ (c .before .before .before .before .minus2 .ensures)) (c .before .before .before .before .before .before .before .loop .inv .1), c .before .before .before .before .before .before .before .loop .inv .2)
+loop-again-2 c =
+    let c4 = c .before .before .before .before in
+    let c7 = c4 .before .before .before in
+    (c7 .loop .inv .0, part-trans _ _ _ (minus-part _ _ _ (c4 .minus2 .ensures)) (c7 .loop .inv .1), c7 .loop .inv .2)
 
 returns : tie.Need-returns Inv-loop μ-loop
 returns c = c .before .loop .inv .0

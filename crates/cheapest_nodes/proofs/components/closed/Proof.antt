@@ -26,14 +26,14 @@ mul-if1 c = search needs
 shared-slice-read-if1 : tie.Need-shared-slice-read-if1 Inv-loop μ-loop
 shared-slice-read-if1 c = search needs
 
-mul-straddles : tie.Need-mul-straddles Inv-loop μ-loop
-mul-straddles c = search needs
+mul-partly-in : tie.Need-mul-partly-in Inv-loop μ-loop
+mul-partly-in c = search needs
 
-shared-slice-read-straddles : tie.Need-shared-slice-read-straddles Inv-loop μ-loop
-shared-slice-read-straddles c = search needs
+shared-slice-read-partly-in : tie.Need-shared-slice-read-partly-in Inv-loop μ-loop
+shared-slice-read-partly-in c = search needs
 
-straddles-requires : tie.Need-straddles-requires Inv-loop μ-loop
-straddles-requires c κs = search needs
+partly-in-requires : tie.Need-partly-in-requires Inv-loop μ-loop
+partly-in-requires c κs = search needs
 
 returns : tie.Need-returns Inv-loop μ-loop
 returns c = λ e. absurd (true-is-not-false (sym e))
@@ -65,9 +65,9 @@ closed-spec =
     loop-holds
     mul-if1
     shared-slice-read-if1
-    mul-straddles
-    shared-slice-read-straddles
-    straddles-requires
+    mul-partly-in
+    shared-slice-read-partly-in
+    partly-in-requires
     returns
     add-i
     loop-less

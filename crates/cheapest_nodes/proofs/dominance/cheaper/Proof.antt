@@ -26,10 +26,19 @@ price-requires-2 : tie.Need-price-requires-2 Inv-loop μ-loop
 price-requires-2 c κs = c .lowest .ensures .member .single
 
 returns : tie.Need-returns Inv-loop μ-loop
-returns c = cheaper-one _ _ _ _ _ _ _ (c .before .before .before .before .loop .inv) (c .before .before .lowest .ensures .member) (c .before .price2 .ensures) (c .before .before .before .before .before .price .ensures) (omega (arith, c .if1 .taken))
+returns c =
+    let c4 = c .before .before .before .before in
+    let c5 = c4 .before in
+    cheaper-one _ _ _ _ _ _ _ (c4 .loop .inv) (c .before .before .lowest .ensures .member) (c .before .price2 .ensures) (c5 .price .ensures)
+    (omega (arith, c .if1 .taken))
 
 returns-2 : tie.Need-returns-2 Inv-loop μ-loop
-returns-2 c = cheaper-one _ _ _ _ _ _ _ (c .before .before .before .before .before .before .loop .inv) (c .before .before .before .before .lowest .ensures .member) (c .before .before .before .price2 .ensures) (c .before .before .before .before .before .before .before .price .ensures) (omega (arith, c .before .if2 .taken))
+returns-2 c =
+    let c3 = c .before .before .before in
+    let c4 = c3 .before in
+    let c6 = c4 .before .before in
+    let c7 = c6 .before in
+    cheaper-one _ _ _ _ _ _ _ (c6 .loop .inv) (c4 .lowest .ensures .member) (c3 .price2 .ensures) (c7 .price .ensures) (omega (arith, c .before .if2 .taken))
 
 minus-requires : tie.Need-minus-requires Inv-loop μ-loop
 minus-requires c κs = search needs

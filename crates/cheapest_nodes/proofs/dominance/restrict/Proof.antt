@@ -25,13 +25,19 @@ mul-common : tie.Need-mul-common Inv-loop μ-loop
 mul-common c = search needs
 
 slice-read-common : tie.Need-slice-read-common Inv-loop μ-loop
-slice-read-common c = omega (arith, c .before .index .ensures .small, c .before .before .before .before .loop .inv .size, c .before .before .before .before .before .before .pre)
+slice-read-common c =
+    let c4 = c .before .before .before .before in
+    let start = c4 .before .before in
+    omega (arith, c .before .index .ensures .small, c4 .loop .inv .size, start .pre)
 
 mul-common-2 : tie.Need-mul-common-2 Inv-loop μ-loop
 mul-common-2 c = search needs
 
 slice-write-common : tie.Need-slice-write-common Inv-loop μ-loop
-slice-write-common c = omega (arith, c .before .index .ensures .small, c .before .before .before .before .loop .inv .size, c .before .before .before .before .before .before .pre)
+slice-write-common c =
+    let c4 = c .before .before .before .before in
+    let start = c4 .before .before in
+    omega (arith, c .before .index .ensures .small, c4 .loop .inv .size, start .pre)
 
 minus-requires : tie.Need-minus-requires Inv-loop μ-loop
 minus-requires c κs = search needs
@@ -40,7 +46,11 @@ loop-less : tie.Need-loop-less Inv-loop μ-loop
 loop-less c = minus-member-less _ _ _ (c .before .before .before .lowest .ensures .member) (c .minus .ensures)
 
 loop-again : tie.Need-loop-again Inv-loop μ-loop
-loop-again c = restricting-more _ _ _ _ _ _ _ _ (c .before .before .before .before .before .loop .inv) (c .before .before .index .ensures) (c .minus .ensures) (omega (arith, c .before .before .index .ensures .small, c .before .before .before .before .before .loop .inv .size, c .before .before .before .before .before .before .before .pre))
+loop-again c =
+    let c2 = c .before .before in
+    let c5 = c2 .before .before .before in
+    let start = c5 .before .before in
+    restricting-more _ _ _ _ _ _ _ _ (c5 .loop .inv) (c2 .index .ensures) (c .minus .ensures) (omega (arith, c2 .index .ensures .small, c5 .loop .inv .size, start .pre))
 
 same-length : tie.Need-same-length Inv-loop μ-loop
 same-length c = c .before .loop .inv .size

@@ -50,7 +50,12 @@ loop-less : tie.Need-loop-less Inv-loop μ-loop
 loop-less c = search needs
 
 loop-again : tie.Need-loop-again Inv-loop μ-loop
-loop-again c = (search needs, ⊎-elim (λ w. subst (Shared _ _ _ _) (sym (w .6)) (shared-more _ _ _ _ _ (c .before .before .before .loop .inv .1) _ (w .4 .ensures))) (λ w. subst (Shared _ _ _ _) (sym (w .1)) (shared-met _ _ _ _ _ (c .before .before .before .loop .inv .1) (w .0 .left))) (c .if1 .came))
+loop-again c =
+    let c3 = c .before .before .before in (
+      search needs,
+      ⊎-elim (λ w. subst (Shared _ _ _ _) (sym (w .6)) (shared-more _ _ _ _ _ (c3 .loop .inv .1) _ (w .4 .ensures)))
+          (λ w. subst (Shared _ _ _ _) (sym (w .1)) (shared-met _ _ _ _ _ (c3 .loop .inv .1) (w .0 .left))) (c .if1 .came),
+    )
 
 returns : tie.Need-returns Inv-loop μ-loop
 returns c = shared-all _ _ _ _ _ (omega arith) (c .before .loop .inv .1)

@@ -22,7 +22,9 @@ unmet-members-requires : tie.Need-unmet-members-requires Inv-loop μ-loop
 unmet-members-requires c κs = search needs
 
 loop-holds : tie.Need-loop-holds Inv-loop μ-loop
-loop-holds c = (thinned-unmet _ _ _ _ _ (c .unmet-members .ensures), free-part (c .before .before .before .before .args .free) (c .unmet-members .result))
+loop-holds c =
+    let start = c .before .before .before .before in
+    (thinned-unmet _ _ _ _ _ (c .unmet-members .ensures), free-part (start .args .free) (c .unmet-members .result))
 
 lowest-requires : tie.Need-lowest-requires Inv-loop μ-loop
 lowest-requires c κs = omega (arith, c .loop-test .taken)
@@ -46,16 +48,36 @@ cheaper-requires : tie.Need-cheaper-requires Inv-loop μ-loop
 cheaper-requires c κs = c .before .before .before .lowest .ensures .member .single
 
 loop-less : tie.Need-loop-less Inv-loop μ-loop
-loop-less c = minus-member-less _ _ _ (c .before .before .before .before .before .lowest .ensures .member) (c .before .before .before .before .minus .ensures)
+loop-less c =
+    let c4 = c .before .before .before .before in
+    let c5 = c4 .before in
+    minus-member-less _ _ _ (c5 .lowest .ensures .member) (c4 .minus .ensures)
 
 loop-again : tie.Need-loop-again Inv-loop μ-loop
-loop-again c = (thinned-trans _ _ _ _ _ _ (c .before .before .before .before .before .before .before .loop .inv .0) (thinned-drop _ _ _ _ _ _ _ _ (c .before .before .before .before .before .lowest .ensures .member .single) (c .before .before .before .minus2 .ensures) (shared-one _ _ _ _ _ _ _ (c .before .before .before .before .before .before .before .before .before .shared .ensures) (c .before .before .before .before .before .before .before .loop .inv .1) (c .before .before .before .before .before .lowest .ensures .member) (c .before .before .index .ensures)) (c .before .cheaper .ensures) (c .if1 .taken)), part-trans _ _ _ (minus-part _ _ _ (c .before .before .before .before .minus .ensures)) (c .before .before .before .before .before .before .before .loop .inv .1))
+loop-again c =
+    let c3 = c .before .before .before in
+    let c4 = c3 .before in
+    let c5 = c4 .before in
+    let c7 = c5 .before .before in
+    let c9 = c7 .before .before in
+    let one = c5 .lowest .ensures .member in
+    let entry = shared-one _ _ _ _ _ _ _ (c9 .shared .ensures) (c7 .loop .inv .1) one (c .before .before .index .ensures) in (
+      thinned-trans _ _ _ _ _ _ (c7 .loop .inv .0)
+          (thinned-drop _ _ _ _ _ _ _ _ (one .single) (c3 .minus2 .ensures) entry (c .before .cheaper .ensures) (c .if1 .taken)),
+      part-trans _ _ _ (minus-part _ _ _ (c4 .minus .ensures)) (c7 .loop .inv .1),
+    )
 
 loop-less-2 : tie.Need-loop-less-2 Inv-loop μ-loop
-loop-less-2 c = minus-member-less _ _ _ (c .before .before .before .before .before .lowest .ensures .member) (c .before .before .before .before .minus .ensures)
+loop-less-2 c =
+    let c4 = c .before .before .before .before in
+    let c5 = c4 .before in
+    minus-member-less _ _ _ (c5 .lowest .ensures .member) (c4 .minus .ensures)
 
 loop-again-2 : tie.Need-loop-again-2 Inv-loop μ-loop
-loop-again-2 c = (c .before .before .before .before .before .before .before .loop .inv .0, part-trans _ _ _ (minus-part _ _ _ (c .before .before .before .before .minus .ensures)) (c .before .before .before .before .before .before .before .loop .inv .1))
+loop-again-2 c =
+    let c4 = c .before .before .before .before in
+    let c7 = c4 .before .before .before in
+    (c7 .loop .inv .0, part-trans _ _ _ (minus-part _ _ _ (c4 .minus .ensures)) (c7 .loop .inv .1))
 
 returns : tie.Need-returns Inv-loop μ-loop
 returns c = c .before .loop .inv .0

@@ -38,7 +38,12 @@ loop-less : tie.Need-loop-less Inv-loop μ-loop
 loop-less c = search needs
 
 loop-again : tie.Need-loop-again Inv-loop μ-loop
-loop-again c = (search needs, ⊎-elim (λ w. subst (Unmet _ _ _) (sym (w .2)) (unmet-more _ _ _ _ (c .before .before .before .loop .inv .1))) (λ w. subst (Unmet _ _ _) (sym (w .1)) (unmet-met _ _ _ _ (c .before .before .before .loop .inv .1) (w .0 .left))) (c .if1 .came))
+loop-again c =
+    let c3 = c .before .before .before in (
+      search needs,
+      ⊎-elim (λ w. subst (Unmet _ _ _) (sym (w .2)) (unmet-more _ _ _ _ (c3 .loop .inv .1)))
+          (λ w. subst (Unmet _ _ _) (sym (w .1)) (unmet-met _ _ _ _ (c3 .loop .inv .1) (w .0 .left))) (c .if1 .came),
+    )
 
 returns : tie.Need-returns Inv-loop μ-loop
 returns c = unmet-all _ _ _ _ (omega arith) (c .before .loop .inv .1)

@@ -1,5 +1,5 @@
 -- `cheapest_nodes::plan::decide` meets its contract.
-use Rattle.cheapest_bounds.proofs.Costing.{cost-fits}
+use Rattle.cheapest_bounds.proofs.Costing.{cost-fits, small-entries}
 use Rattle.cheapest_nodes.proofs.Planning.{cut-bound, sufficient-thinned, done-next, lost-next, split-next, branch-next}
 use native.Mathlib.Omega.{arith}
 use borrow.Author.Needs.{needs}
@@ -10,7 +10,9 @@ bound-requires : tie.Need-bound-requires
 bound-requires c κs = search needs
 
 add-if1 : tie.Need-add-if1
-add-if1 c = omega (arith, cost-fits _ _ _ (c .before .before .before .pre .0) (λ k. omega (arith, c .before .shared-slice-known2 .given k)) (c .before .before .before .pre .1 .0), c .bound .ensures .small)
+add-if1 c =
+    let start = c .before .before .before in
+    omega (arith, cost-fits _ _ _ (start .pre .0) (small-entries (start .args .costs .now) (c .before .shared-slice-known2 .given)) (start .pre .1 .0), c .bound .ensures .small)
 
 returns : tie.Need-returns
 returns c = cut-bound _ _ _ _ _ _ _ (c .before .before .before .before .pre .1 .0) (c .before .bound .ensures) (c .if1 .taken)
@@ -46,16 +48,36 @@ divides-requires : tie.Need-divides-requires
 divides-requires c κs = search needs
 
 returns-2 : tie.Need-returns-2
-returns-2 c = split-next _ _ _ _ _ _ _ (sufficient-thinned _ _ _ _ (c .before .before .before .before .before .before .before .before .before .before .before .before .before .before .pre .1 .1) _ _ _ _ (c .before .before .before .before .before .before .before .before .before .before .before .before .before .before .pre .1 .0) (c .before .before .before .before .before .before .before .before .before .affordable .ensures) (c .before .before .before .before .before .before .before .before .thin .ensures)) _ _ (c .before .before .before .component .ensures) (c .before .before .minus .ensures) (c .before .divides .ensures (c .if2 .taken))
+returns-2 c =
+    let c3 = c .before .before .before in
+    let c8 = c3 .before .before .before .before .before in
+    let c9 = c8 .before in
+    let start = c9 .before .before .before .before .before in
+    split-next _ _ _ _ _ _ _ (sufficient-thinned _ _ _ _ (start .pre .1 .1) _ _ _ _ (start .pre .1 .0) (c9 .affordable .ensures) (c8 .thin .ensures)) _ _
+    (c3 .component .ensures) (c .before .before .minus .ensures) (c .before .divides .ensures (c .if2 .taken))
 
 returns-3 : tie.Need-returns-3
-returns-3 c = done-next _ _ _ _ _ _ _ _ _ (c .enum-told .given .1) (c .before .before .choose .ensures) (c .before .before .before .before .before .if1 .left)
+returns-3 c =
+    let c5 = c .before .before .before .before .before in
+    done-next _ _ _ _ _ _ _ _ _ (c .enum-told .given .1) (c .before .before .choose .ensures) (c5 .if1 .left)
 
 returns-4 : tie.Need-returns-4
-returns-4 c = lost-next _ _ _ _ _ _ _ (sufficient-thinned _ _ _ _ (c .before .before .before .before .before .before .before .before .before .pre .1 .1) _ _ _ _ (c .before .before .before .before .before .before .before .before .before .pre .1 .0) (c .before .before .before .before .affordable .ensures) (c .before .before .before .thin .ensures)) _ (c .enum-told2 .given .1) (c .before .before .choose .ensures)
+returns-4 c =
+    let c3 = c .before .before .before in
+    let c4 = c3 .before in
+    let start = c4 .before .before .before .before .before in
+    lost-next _ _ _ _ _ _ _ (sufficient-thinned _ _ _ _ (start .pre .1 .1) _ _ _ _ (start .pre .1 .0) (c4 .affordable .ensures) (c3 .thin .ensures)) _
+    (c .enum-told2 .given .1) (c .before .before .choose .ensures)
 
 returns-5 : tie.Need-returns-5
-returns-5 c = branch-next _ _ _ _ _ _ _ (sufficient-thinned _ _ _ _ (c .before .before .before .before .before .before .before .before .before .before .before .before .before .before .pre .1 .1) _ _ _ _ (c .before .before .before .before .before .before .before .before .before .before .before .before .before .before .pre .1 .0) (c .before .before .before .before .before .before .before .before .before .affordable .ensures) (c .before .before .before .before .before .before .before .before .thin .ensures)) _ _ (c .before .before .before .before .before .choice .given .1) (c .before .before .before .before .before .before .before .choose .ensures)
+returns-5 c =
+    let c5 = c .before .before .before .before .before in
+    let c7 = c5 .before .before in
+    let c8 = c7 .before in
+    let c9 = c8 .before in
+    let start = c9 .before .before .before .before .before in
+    branch-next _ _ _ _ _ _ _ (sufficient-thinned _ _ _ _ (start .pre .1 .1) _ _ _ _ (start .pre .1 .0) (c9 .affordable .ensures) (c8 .thin .ensures)) _ _
+    (c5 .choice .given .1) (c7 .choose .ensures)
 
 pub decide-spec : {M : Type 1} → statement M
 decide-spec =

@@ -16,7 +16,10 @@ slice-aggregate-decide : tie.Need-slice-aggregate-decide
 slice-aggregate-decide c = sym (length-take-le _ _ (c .before .before .before .unmet .ensures .few))
 
 decide-requires : tie.Need-decide-requires
-decide-requires c κs = (c .before .before .before .before .before .before .before .before .pre .1 .0, (c .before .before .before .before .before .before .before .before .pre .1 .1, residue-open _ _ _ _ (c .before .before .before .unmet .ensures .residue)))
+decide-requires c κs =
+    let c3 = c .before .before .before in
+    let start = c3 .before .before .before .before .before in
+    (start .pre .1 .0, (start .pre .1 .1, residue-open _ _ _ _ (c3 .unmet .ensures .residue)))
 
 same-length : tie.Need-same-length
 same-length c = search needs

@@ -20,18 +20,18 @@ use Rattle.bits.proofs.Parts.{part-le, members, by-members, part-self, part-tra
 use Rattle.cheapest_bounds.proofs.Costing.{cost-none, cost-join, cost-small}
 use Rattle.rows.proofs.Nodes.{halves, low-node, high-node}
 
-pub reached-cover : (rows : List ℕ) (s free t : ℕ) → CoverBetween rows s free t → Cover rows t
+reached-cover : (rows : List ℕ) (s free t : ℕ) → CoverBetween rows s free t → Cover rows t
 unfolding CoverBetween
 reached-cover rows s free t r = r .0
 
 -- ---- an interval is what lies between s and s with its low bits
 
 module _ (rows : List ℕ) (j s t : ℕ) (z : s % 2 ^ j ≡ 0) where
-  pub reached-inside : Cover rows t → s ≤ t → t < s + 2 ^ j → CoverBetween rows s (2 ^ j - 1) t
+  reached-inside : Cover rows t → s ≤ t → t < s + 2 ^ j → CoverBetween rows s (2 ^ j - 1) t
   unfolding CoverBetween Between
   reached-inside c lo hi = (c, (above j s t z lo hi, within j s t z lo hi))
 
-  pub inside-reached : CoverBetween rows s (2 ^ j - 1) t → (s ≤ t) × (t < s + 2 ^ j)
+  inside-reached : CoverBetween rows s (2 ^ j - 1) t → (s ≤ t) × (t < s + 2 ^ j)
   unfolding CoverBetween Between
   inside-reached r =
       let e : s / 2 ^ j * 2 ^ j + s % 2 ^ j ≡ s = split s j in
@@ -86,7 +86,7 @@ module _ (rows costs : List ℕ) (n free : ℕ) (start best : Incumbent) (e : fr
 -- ---- the members, from the top
 
 -- w is a cover in [s, s + 2^i) that costs best, and none that does is below s
-pub record Pinned (rows costs : List ℕ) (n best i s cost w : ℕ) : Type 0 where
+pub record Witnessed (rows costs : List ℕ) (n best i s cost w : ℕ) : Type 0 where
   pub node : Node i s
   pub inside : s + 2 ^ i ≤ 2 ^ n
   pub cost-is : cost ≡ costOf costs s
@@ -96,8 +96,8 @@ pub record Pinned (rows costs : List ℕ) (n best i s cost w : ℕ) : Type 0 whe
   pub reaches : costOf costs w ≡ best
   pub first : (t : ℕ) → t < 2 ^ n → Cover rows t → costOf costs t ≡ best → s ≤ t
 
-pub pinned-none : (rows costs : List ℕ) (n : ℕ) (best : Incumbent) → n ≤ 64 → LeastCost rows costs n best → Pinned rows costs n (best .cost) n 0 0 (best .set)
-pinned-none rows costs n best le h =
+pub witnessed-none : (rows costs : List ℕ) (n : ℕ) (best : Incumbent) → n ≤ 64 → LeastCost rows costs n best → Witnessed rows costs n (best .cost) n 0 0 (best .set)
+witnessed-none rows costs n best le h =
     let p : 2 ^ n ≤ 2 ^ 64 = pow-mono le in
     record {
       node = record { small = le; aligned = zero-mod (2 ^ n); room = omega arith };
@@ -110,8 +110,9 @@ pinned-none rows costs n best le h =
       first = λ t lt c e. omega arith;
     }
 
-pub pinned-all : (rows costs : List ℕ) (n i s cost w : ℕ) (best : Incumbent) → i ≡ 0 → LeastCost rows costs n best → Pinned rows costs n (best .cost) i s cost w → Cheapest rows costs n (best .cost) s
-pinned-all rows costs n i s cost w best z h p =
+pub witnessed-all : (rows costs : List ℕ) (n i s cost w : ℕ) (best : Incumbent) → i ≡ 0 → LeastCost rows costs n best
+    → Witnessed rows costs n (best .cost) i s cost w → Cheapest rows costs n (best .cost) s
+witnessed-all rows costs n i s cost w best z h p =
     let one : 2 ^ i ≡ 1 = ap (λ (k : ℕ). 2 ^ k) z in
     let e : w ≡ s = omega (arith, p .low, p .high) in
     record {
@@ -122,7 +123,7 @@ pinned-all rows costs n i s cost w best z h p =
       first = p .first;
     }
 
-module _ (rows costs : List ℕ) (n i s cost w m : ℕ) (best : Incumbent) (h : LeastCost rows costs n best) (p : Pinned rows costs n (best .cost) i s cost w)
+module _ (rows costs : List ℕ) (n i s cost w m : ℕ) (best : Incumbent) (h : LeastCost rows costs n best) (p : Witnessed rows costs n (best .cost) i s cost w)
     (pos : 0 < i) (is : m ≡ 2 ^ (i - 1)) where
   low-half : Node (i - 1) s
   low-half = low-node i s (p .node) pos
@@ -149,8 +150,8 @@ module _ (rows costs : List ℕ) (n i s cost w m : ℕ) (best : Incumbent) (h : 
       (ap (digit (i - 1)) is ∙ pow-here (i - 1))
 
   -- the witness lacks the candidate
-  pub pinned-lacks : bitAnd w m ≡ 0 → Pinned rows costs n (best .cost) (i - 1) s cost w
-  pinned-lacks z = record {
+  pub witnessed-lacks : bitAnd w m ≡ 0 → Witnessed rows costs n (best .cost) (i - 1) s cost w
+  witnessed-lacks z = record {
     node = low-half;
     inside = omega (arith, two, p .inside);
     cost-is = p .cost-is;
@@ -181,8 +182,8 @@ module _ (rows costs : List ℕ) (n i s cost w m : ℕ) (best : Incumbent) (h : 
     where-hit a = inside-reached rows (i - 1) s (r .set) (low-half .aligned) (a .cover)
 
     -- a cover that costs best does without the candidate: it is the next witness
-    pub pinned-without : r .cost ≡ best .cost → Pinned rows costs n (best .cost) (i - 1) s cost (r .set)
-    pinned-without q =
+    pub witnessed-without : r .cost ≡ best .cost → Witnessed rows costs n (best .cost) (i - 1) s cost (r .set)
+    witnessed-without q =
         let a : Attained rows costs s (2 ^ (i - 1) - 1) r = hit (λ f. omega arith) in
         record {
           node = low-half;
@@ -210,8 +211,8 @@ module _ (rows costs : List ℕ) (n i s cost w m : ℕ) (best : Incumbent) (h : 
             let b : best .cost ≤ costOf costs (r .set) = h .least (r .set) (omega (arith, where-hit a .1, two, p .inside)) (reached-cover rows s (2 ^ (i - 1) - 1) (r .set) (a .cover)) in
             omega (arith, a .cost-is)
 
-    pub pinned-with : (q : ℕ) → (r .cost ≡ best .cost → ⊥) → Price costs m q → Pinned rows costs n (best .cost) (i - 1) (s + m) (cost + q) w
-    pinned-with q not pr = record {
+    pub witnessed-with : (q : ℕ) → (r .cost ≡ best .cost → ⊥) → Price costs m q → Witnessed rows costs n (best .cost) (i - 1) (s + m) (cost + q) w
+    witnessed-with q not pr = record {
       node = high-half;
       inside = omega (arith, two, p .inside);
       cost-is = ap (λ (x : ℕ). x + q) (p .cost-is) ∙ ap (λ (x : ℕ). costOf costs s + x) (pr .is) ∙ sym (cost-join costs s m apart) ∙ ap (costOf costs) (or-disjoint s m apart);
@@ -235,7 +236,7 @@ best-fits rows costs n best l lt h = omega (arith, h .cost-is, cost-small costs 
 
 -- the search for one that does without a candidate
 pub priced-without : (rows costs : List ℕ) (n i s cost w : ℕ) (best : Incumbent) → length costs ≤ 64 → ((k : ℕ) → getD costs k 0 < 65536) → LeastCost rows costs n best
-    → Pinned rows costs n (best .cost) i s cost w → (bound : ℕ) → bound ≤ best .cost + 1 → Priced costs s cost bound
+    → Witnessed rows costs n (best .cost) i s cost w → (bound : ℕ) → bound ≤ best .cost + 1 → Priced costs s cost bound
 priced-without rows costs n i s cost w best l lt h p bound le =
     record { few = l; is = p .cost-is; near = omega (arith, best-fits rows costs n best l lt h) }
 
