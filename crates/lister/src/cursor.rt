@@ -88,8 +88,8 @@ fn climb(rows: &[u64], n: u64, at: u64) -> FoundSet
 
 // Where the lister stands: the next set is the least at or above at; none is left where it is over.
 struct Cursor {
-    pub at: u64,
-    pub over: bool,
+    at: u64,
+    over: bool,
 }
 
 impl Cursor {
