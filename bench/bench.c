@@ -1,20 +1,26 @@
 /*
- * Times the proved engine (cover_job) against the plain C one (baseline_job), and compares the answers.
+ * Times the proved engine (cover_job) against another one with the same contract (other.h: the plain C engine, or
+ * a former library), and compares the answers.
  *
  *   bench [-t SECONDS] [-r ROUNDS] [-m] [-c FILE] FOLDER
+ *   bench -a [-t SECONDS] FOLDER
  *
- * For every *.job of the folder: the whole job, then each of its L and C commands. A command is timed by
- * a job of its own, the commands before the first query, the one query and E, less the time of that job
- * without the query; so it counts the making of the covering matrix, and has no ratio where it is less than
- * 5 % of that job. Each time is the best of many runs, in ROUNDS rounds that alternate between the engines.
+ * For every *.job of the folder: the whole job, the commands before its first query, then each of its L and C
+ * commands. A command is timed by a job of its own, the commands before the first query, the one query and E, less
+ * the time of that job without the query; so it counts the making of the covering matrix, and has no ratio where it is
+ * less than 5 % of that job. Each time is the best of many runs, in ROUNDS rounds that alternate between the engines.
  * Every measurement is a child process that is ended after SECONDS; what did not end is shown as "-".
  * The search nodes of a page and of C are counted in the plain C engine, which searches as the proved one.
  *
  * Then the stack that a call of cover_job uses, over all jobs, and the time of a job of 32,768 bytes that
  * asks L with count 0 all along. -m prints the jobs as a markdown table, -c writes the times to a file as CSV.
- * The last line sums up.
+ * The last line sums up. -a runs every job once in both engines, compares the answers and measures nothing.
  *
- * The exit status is 1 where answers differ or the stack use reaches 256 KiB, 2 where nothing was run.
+ * A job with a command that the other engine does not know (the plain C engine: one that is not of paper 01) is newer
+ * than that engine, and is left out.
+ *
+ * The exit status is 1 where answers differ or the stack use reaches 256 KiB (with -a also where a job did not end), 2
+ * where nothing was run.
  */
 #define _GNU_SOURCE
 #include <dirent.h>
@@ -29,20 +35,16 @@
 #include <time.h>
 #include <unistd.h>
 
-#include "baseline.h"
 #include "covers.h"
 #include "job.h"
+#include "long_job.h"
+#include "other.h"
 
-enum { LONGEST = 32768, MOST_JOBS = 4096, MOST_QUERIES = 64 };
+enum { MOST_JOBS = 4096, MOST_QUERIES = 64 };
 enum { STACK = 4 << 20, STACK_LIMIT = 256 << 10, PAINT = 0xa5 };
 
 typedef uint64_t (*Engine)(const uint8_t *, size_t, uint8_t *, size_t);
-static const Engine engines[2] = {cover_job, baseline_job};
-
-typedef struct {
-    uint8_t bytes[LONGEST];
-    size_t len;
-} Job;
+static const Engine engines[2] = {cover_job, other_job};
 
 /* What a child leaves: the best time of its runs, that of the job without the query, what the call gave, its nodes. */
 typedef struct {
@@ -57,23 +59,19 @@ typedef struct {
     double time[2];
     uint64_t nodes; /* of the plain C engine, where it ended */
     bool ended[2];
+    bool newer;  /* the other engine does not know a command of it */
     bool differ; /* both ended, with other bytes or another outcome */
     bool faint;  /* a difference of times that is too small for a ratio */
 } Pair;
 
 static int limit = 20, rounds = 3;
-static bool markdown = false;
+static int most_runs = 1000; /* of a job, in each round */
+static bool markdown = false, answers_only = false;
 static FILE *csv = NULL;
 static Run *shared[2];
 static uint8_t *stack;
 
 /* ---- jobs ---- */
-
-static void put(Job *job, const uint8_t *bytes, size_t len)
-{
-    memcpy(job->bytes + job->len, bytes, len);
-    job->len += len;
-}
 
 static void read_job(const char *folder, const char *name, Job *job)
 {
@@ -106,7 +104,7 @@ static bool natural(const char *name)
 static double timed(Engine engine, const Job *job, Run *run)
 {
     memset(run->answers, PAINT, LONGEST);
-    baseline_nodes = (BaselineNodes){0, 0};
+    clear_nodes();
     double start = now();
     run->outcome = engine(job->bytes, job->len, run->answers, LONGEST);
     return now() - start;
@@ -114,23 +112,24 @@ static double timed(Engine engine, const Job *job, Run *run)
 
 static double lesser(double a, double b) { return a < b ? a : b; }
 
-/* Runs in the child: calls the engine until 0.1 s is spent (but at most 1,000 times), and once at least. Where there is
-   a bare job, it is run in turn with the other. */
+/* Runs in the child: calls the engine until 0.1 s is spent or it has most_runs, and once at least. Where there is a
+   bare job, it is run in turn with the other. */
 static void repeat(Engine engine, const Job *job, const Job *bare, Run *run)
 {
     double spent = 0;
-    for (int i = 0; i < 1000 && spent < 0.1; i++) {
+    for (int i = 0; i < most_runs && spent < 0.1; i++) {
         if (bare)
             run->bare = lesser(run->bare, timed(engine, bare, run));
         double took = timed(engine, job, run);
         run->best = lesser(run->best, took);
         spent += took;
     }
-    run->nodes = baseline_nodes.pages + baseline_nodes.cheapest;
+    run->nodes = counted_nodes();
     run->ended = true;
 }
 
-static void measure(int which, const Job *job, const Job *bare)
+/* Starts a child that measures. */
+static pid_t start(int which, const Job *job, const Job *bare)
 {
     Run *run = shared[which];
     run->ended = false;
@@ -142,6 +141,11 @@ static void measure(int which, const Job *job, const Job *bare)
         repeat(engines[which], job, bare, run);
         _exit(0);
     }
+    return child;
+}
+
+static void finish(pid_t child)
+{
     if (child < 0 || waitpid(child, NULL, 0) < 0) {
         perror("bench");
         exit(2);
@@ -150,21 +154,38 @@ static void measure(int which, const Job *job, const Job *bare)
 
 static bool both_ended(const Pair *p) { return p->ended[0] && p->ended[1]; }
 
+/* The other engine stopped at a command that it need not know, and the engine did not. */
+static bool is_newer(const Job *job, uint64_t outcome, uint64_t other)
+{
+    bool stopped = cover_number(other) == COVER_NO_COMMAND && cover_number(outcome) != COVER_NO_COMMAND;
+    return stopped && !must_know(job->bytes[cover_offset(other)]);
+}
+
+/* What the two children say of a job. */
+static void judge(Pair *p, const Job *job)
+{
+    for (int e = 0; e < 2; e++)
+        p->ended[e] = shared[e]->ended;
+    p->nodes = shared[1]->nodes;
+    if (!both_ended(p))
+        return;
+    uint64_t outcome = shared[0]->outcome, other = shared[1]->outcome;
+    p->newer = is_newer(job, outcome, other);
+    p->ended[1] = !p->newer;
+    p->differ |= !p->newer && (outcome != other || memcmp(shared[0]->answers, shared[1]->answers, LONGEST) != 0);
+}
+
 /* One round: takes the better times, of the job without the query too. */
 static void round_of(Pair *p, double least[2], const Job *job, const Job *bare)
 {
     for (int e = 0; e < 2; e++) {
-        measure(e, job, bare);
-        p->ended[e] = shared[e]->ended;
-        if (p->ended[e]) {
+        finish(start(e, job, bare));
+        if (shared[e]->ended) {
             p->time[e] = lesser(p->time[e], shared[e]->best);
             least[e] = lesser(least[e], shared[e]->bare);
         }
     }
-    p->nodes = shared[1]->nodes;
-    if (both_ended(p))
-        p->differ |= shared[0]->outcome != shared[1]->outcome ||
-                     memcmp(shared[0]->answers, shared[1]->answers, LONGEST) != 0;
+    judge(p, job);
 }
 
 static Pair compare(const Job *job, const Job *bare)
@@ -212,13 +233,16 @@ static const char *nodes(const Pair *p)
     static char text[8][32];
     static int next;
     char *s = text[next++ % 8];
-    if (!p->ended[1])
+    if (!p->ended[1] || p->nodes == 0)
         return "-";
     snprintf(s, sizeof text[0], "%llu", (unsigned long long)p->nodes);
     return s;
 }
 
-static const char *agreement(const Pair *p) { return p->differ ? "DIFFER" : both_ended(p) ? "same" : "-"; }
+static const char *agreement(const Pair *p)
+{
+    return p->differ ? "DIFFER" : p->newer ? "newer" : both_ended(p) ? "same" : "-";
+}
 
 /* ---- stack ---- */
 
@@ -262,87 +286,6 @@ static size_t stack_use(Job *job, bool *ended)
     return *stack_top - deepest;
 }
 
-/* ---- a job of 32,768 bytes ---- */
-
-static uint64_t state;
-
-static uint64_t drawn(void)
-{
-    state ^= state << 13;
-    state ^= state >> 7;
-    state ^= state << 17;
-    return state;
-}
-
-static uint8_t may_drive(const uint8_t *may, uint8_t care, uint8_t value)
-{
-    uint8_t acc = 0xff;
-    for (int v = 0; v < 256; v++)
-        if ((v & care) == value)
-            acc &= may[v];
-    return acc;
-}
-
-typedef struct {
-    uint8_t on[256], may[256], held[256];
-    int terms;
-} Table;
-
-/* Adds a widest cube around the cell, with all outputs that it may drive; the inputs are tried from a drawn one on. */
-static void add_term(Job *job, Table *t, uint8_t v, int j)
-{
-    uint8_t care = 0xff;
-    int turn = (int)(drawn() >> 40) % 8;
-    for (int i = 0; i < 8; i++) {
-        uint8_t wider = care & (uint8_t)~(1u << (i + turn) % 8);
-        if (may_drive(t->may, wider, v & wider) >> j & 1)
-            care = wider;
-    }
-    uint8_t outputs = may_drive(t->may, care, v & care);
-    for (int u = 0; u < 256; u++)
-        if ((u & care) == (v & care))
-            t->held[u] |= outputs;
-    put(job, (const uint8_t[]){'T', care, v & care, outputs}, 4);
-    t->terms++;
-}
-
-/* 8 inputs, 8 outputs, 32 rows (the low five inputs run), 64 terms: one around each wanted cell that no term holds
-   yet, the others around wanted cells drawn. Then L with count 0 and a drawn start, until the bytes are used up, and
-   E. Returns how many L it has. */
-static int long_job(Job *job, uint64_t seed)
-{
-    Table t;
-    int lists = 0;
-    memset(&t, 0, sizeof t);
-    state = seed * 0x9e3779b97f4a7c15u + 1;
-    job->len = 0;
-    put(job, (const uint8_t[]){'I', 8, 8}, 3);
-    for (int v = 0xa0; v < 0xc0; v++) {
-        uint8_t dc = (uint8_t)(drawn() >> 32 & drawn() >> 32);
-        t.on[v] = (uint8_t)(drawn() >> 32 & drawn() >> 32 & ~dc);
-        t.may[v] = t.on[v] | dc;
-        put(job, (const uint8_t[]){'R', (uint8_t)v, t.on[v], dc}, 4);
-    }
-    for (int v = 0xa0; v < 0xc0; v++)
-        for (int j = 0; j < 8; j++)
-            if (t.terms < 64 && (t.on[v] & ~t.held[v]) >> j & 1)
-                add_term(job, &t, (uint8_t)v, j);
-    while (t.terms < 64) {
-        int cell = (int)(drawn() >> 40) % 256, v = 0xa0 + cell / 8, j = cell % 8;
-        if (t.on[v] >> j & 1)
-            add_term(job, &t, (uint8_t)v, j);
-    }
-    while (job->len + 10 < LONGEST) {
-        uint8_t list[10] = {'L'};
-        uint64_t start = drawn();
-        memcpy(list + 1, &start, 8);
-        put(job, list, 10);
-        lists++;
-    }
-    put(job, (const uint8_t[]){'E'}, 1);
-    return lists;
-}
-
 /* ---- the run ---- */
 
 static int by_name(const void *a, const void *b) { return strcmp(*(char *const *)a, *(char *const *)b); }
@@ -376,8 +319,15 @@ static void raise_to(Worst *w, double time, const char *name)
     }
 }
 
-static Worst worst[2][2];      /* of the engine: page, C; of natural tables, of the others */
-static int open_queries[2][2]; /* how many of these did not end */
+/* What is timed of a job. */
+enum { PAGE, CHEAPEST, HEAD, PARTS };
+static const char *const part_names[PARTS] = {"page", "C", "before the queries"};
+
+static Worst worst[2][2];        /* of the engine: page, C; of natural tables, of the others */
+static int open_queries[2][2];   /* how many of these did not end */
+static Worst worst_parts[PARTS]; /* by the ratio */
+static int newer = 0;            /* jobs that the other engine does not know */
+static int same = 0;             /* jobs with the same answers, of -a */
 static bool differ = false;
 
 static char *names[MOST_JOBS];
@@ -409,32 +359,52 @@ static bool read_names(const char *folder)
     return count != 0;
 }
 
+/* Counts what was measured of a part of a job. */
+static Pair counted(Pair q, int part, const char *name)
+{
+    int other = !natural(name);
+    differ |= q.differ;
+    if (both_ended(&q) && !q.faint)
+        raise_to(&worst_parts[part], q.time[0] / q.time[1], name);
+    if (part == HEAD)
+        return q;
+    if (q.ended[0])
+        raise_to(&worst[other][part], q.time[0], name);
+    else
+        open_queries[other][part]++;
+    return q;
+}
+
+/* The commands before the first query, which is at `head`. */
+static Pair before_queries(const Job *job, size_t head, const char *name)
+{
+    static Job bare;
+    bare.len = 0;
+    put(&bare, job->bytes, head);
+    put_end(&bare);
+    return counted(compare(&bare, NULL), HEAD, name);
+}
+
 /* The query at `at` of a job whose first query is at `head`. */
 static Pair query(const Job *job, size_t head, size_t at, const char *name)
 {
     static Job one, bare;
     one.len = bare.len = 0;
     put(&bare, job->bytes, head);
-    put(&bare, (const uint8_t[]){'E'}, 1);
+    put_end(&bare);
     put(&one, job->bytes, head);
-    put(&one, job->bytes + at, 1 + width(job->bytes[at]));
-    put(&one, (const uint8_t[]){'E'}, 1);
-    Pair q = compare(&one, &bare);
-    int kind = job->bytes[at] == 'C', other = !natural(name);
-    if (q.ended[0])
-        raise_to(&worst[other][kind], q.time[0], name);
-    else
-        open_queries[other][kind]++;
-    return q;
+    put(&one, job->bytes + at, cover_command_bytes(job->bytes[at]));
+    put_end(&one);
+    return counted(compare(&one, &bare), job->bytes[at] == COVER_LIST ? PAGE : CHEAPEST, name);
 }
 
 static void print_header(void)
 {
     if (markdown)
-        printf("| ratio | job | engine | plain C | longest L, engine | plain C | most nodes | C command, engine | plain C | "
-               "nodes |\n|---:|:---|---:|---:|---:|---:|---:|---:|---:|---:|\n");
+        printf("| ratio | job | engine | " OTHER " | longest L, engine | " OTHER " | most nodes | C command, engine | "
+               OTHER " | nodes |\n|---:|:---|---:|---:|---:|---:|---:|---:|---:|---:|\n");
     else
-        printf("%8s  %-10s  %-10s  %-6s  %10s  %s\n", "ratio", "engine", "baseline", "bytes", "nodes", "job");
+        printf("%8s  %-10s  %-10s  %-6s  %10s  %s\n", "ratio", "engine", OTHER, "bytes", "nodes", "job");
 }
 
 static void print_line(const Pair *p)
@@ -455,12 +425,12 @@ static void print_row(const char *name, const Pair *whole, const Pair *page, con
 /* Two lines of CSV; no seconds where the engine did not end, no nodes where the plain C engine did not. */
 static void write_csv(const char *name, const char *what, const Pair *p)
 {
-    static const char *const programs[2] = {"engine", "plain C"};
+    static const char *const programs[2] = {"engine", OTHER};
     for (int e = 0; e < 2 && csv; e++) {
         fprintf(csv, "%s,%s,%s,", name, what, programs[e]);
         if (p->ended[e])
             fprintf(csv, "%.9f", p->time[e]);
-        fprintf(csv, ",%d,%s\n", limit, p->ended[1] ? nodes(p) : "");
+        fprintf(csv, ",%d,%s\n", limit, p->ended[1] && p->nodes ? nodes(p) : "");
     }
 }
 
@@ -477,28 +447,29 @@ static void keep_most(Pair *most, const Pair *p)
 }
 
 /* Each L and each C of the job; page and least get the most of them. */
-static void run_queries(const Job *job, const char *name, Pair *page, Pair *least)
+static void run_queries(const Job *job, size_t head, const char *name, Pair *page, Pair *least)
 {
     int number = 0;
-    size_t head = head_of(job->bytes, job->len);
-    for (size_t at = head; at < job->len; at += 1 + width(job->bytes[at])) {
-        uint8_t c = job->bytes[at];
-        if ((c != 'L' && c != 'C') || at + 1 + width(c) > job->len || ++number > MOST_QUERIES)
+    for (size_t at = head, next; at < job->len && number < MOST_QUERIES; at = next) {
+        next = behind(job->bytes, job->len, at);
+        if (!is_query(job->bytes[at]) || next - at != cover_command_bytes(job->bytes[at]))
             continue;
         Pair q = query(job, head, at, name);
-        differ |= q.differ;
-        keep_most(c == 'L' ? page : least, &q);
+        keep_most(job->bytes[at] == COVER_LIST ? page : least, &q);
+        number++;
         if (!markdown) {
             print_line(&q);
-            printf("  command %d: %c\n", number, c);
+            printf("  command %d: %c\n", number, job->bytes[at]);
         }
     }
 }
 
 static void run_job(Job *job, const char *name)
 {
+    size_t head = head_of(job->bytes, job->len);
     Pair page = {.ended = {true, true}}, least = page, whole = compare(job, NULL);
     differ |= whole.differ;
+    newer += whole.newer;
     ended += whole.ended[0];
     if (both_ended(&whole)) {
         ratios[both] = whole.time[0] / whole.time[1];
@@ -508,12 +479,32 @@ static void run_job(Job *job, const char *name)
         print_line(&whole);
         printf("%s\n", name);
     }
-    run_queries(job, name, &page, &least);
+    Pair first = before_queries(job, head, name);
+    if (!markdown) {
+        print_line(&first);
+        printf("  %s\n", part_names[HEAD]);
+    }
+    run_queries(job, head, name, &page, &least);
     if (markdown)
         print_row(name, &whole, &page, &least);
     write_csv(name, "job", &whole);
-    write_csv(name, "page", &page);
-    write_csv(name, "C", &least);
+    write_csv(name, part_names[HEAD], &first);
+    write_csv(name, part_names[PAGE], &page);
+    write_csv(name, part_names[CHEAPEST], &least);
+}
+
+/* One run in both engines at the same time; only the answers are looked at. */
+static void run_answers(Job *job, const char *name)
+{
+    Pair p = {.differ = false};
+    pid_t first = start(0, job, NULL), second = start(1, job, NULL);
+    finish(first);
+    finish(second);
+    judge(&p, job);
+    newer += p.newer;
+    same += both_ended(&p) && !p.differ;
+    if (p.differ || (!p.newer && !both_ended(&p)))
+        printf("%s: %s\n", name, p.differ ? "the answers differ" : "it did not end");
 }
 
 static void run_stack(Job *job, const char *name)
@@ -537,8 +528,9 @@ static int run_long_jobs(Pair *slowest)
         Pair p = compare(&job, NULL);
         differ |= p.differ;
         keep_most(slowest, &p);
-        if (p.ended[0] && (job.len != LONGEST || shared[0]->outcome >> 32 != 0))
-            printf("long job %d: %d bytes, refusal %d\n", (int)seed, (int)job.len, (int)(shared[0]->outcome >> 32));
+        if (p.ended[0] && (job.len != LONGEST || cover_number(shared[0]->outcome) != COVER_ACCEPTED))
+            printf("long job %d: %d bytes, refusal %d\n", (int)seed, (int)job.len,
+                   (int)cover_number(shared[0]->outcome));
         run_stack(&job, "the job of 32,768 bytes");
     }
     return lists;
@@ -576,19 +568,27 @@ static void print_details(int lists, const Pair *slowest)
     printf("stack: %d bytes at most (%s), limit %d", (int)deepest, deepest_name, STACK_LIMIT);
     if (cut)
         printf("; %d jobs cut after %d s", cut, limit);
-    printf("\njob of 32,768 bytes, %d L with count 0, the slowest of 8 tables: engine %s, baseline %s\n", lists,
+    printf("\njob of 32,768 bytes, %d L with count 0, the slowest of 8 tables: engine %s, " OTHER " %s\n", lists,
            shown(slowest->time[0], slowest->ended[0]), shown(slowest->time[1], slowest->ended[1]));
+    printf("worst ratio engine/" OTHER ":");
+    for (int part = 0; part < PARTS; part++)
+        printf("%s %s %.2f (%s)", part ? "," : "", part_names[part], worst_parts[part].time,
+               worst_parts[part].name ? worst_parts[part].name : "none");
+    printf("\n");
 }
 
 static void print_summary(void)
 {
-    printf("summary: %d jobs, %d ended within %d s, answers %s; ratio engine/baseline worst %.2f (%s), median %.2f; ",
+    printf("summary: %d jobs, %d ended within %d s, answers %s; ratio engine/" OTHER " worst %.2f (%s), median %.2f; ",
            (int)count, ended, limit, differ ? "DIFFER" : "are the same", worst_ratio.time,
            worst_ratio.name ? worst_ratio.name : "none", median_ratio());
+    if (newer)
+        printf("%d jobs have commands that " OTHER " does not know; ", newer);
     for (int kind = 0; kind < 2; kind++) {
         const Worst *a = &worst[0][kind], *b = &worst[1][kind];
         bool first = b->name == NULL || (a->name != NULL && a->time > b->time);
-        print_worst(kind ? "; slowest C" : "slowest page", first ? a : b, open_queries[0][kind] + open_queries[1][kind]);
+        print_worst(kind ? "; slowest C" : "slowest page", first ? a : b,
+                    open_queries[0][kind] + open_queries[1][kind]);
     }
     printf("\n");
 }
@@ -607,11 +607,12 @@ static bool open_csv(const char *path)
 static bool read_options(int argc, char **argv)
 {
     int option;
-    while ((option = getopt(argc, argv, "t:r:mc:")) != -1)
+    while ((option = getopt(argc, argv, "t:r:mac:")) != -1)
         switch (option) {
         case 't': limit = atoi(optarg); break;
         case 'r': rounds = atoi(optarg); break;
         case 'm': markdown = true; break;
+        case 'a': answers_only = true; break;
         case 'c':
             if (open_csv(optarg))
                 break;
@@ -630,27 +631,51 @@ static void run_folder(const char *folder, void (*run)(Job *, const char *))
     }
 }
 
-int main(int argc, char **argv)
+/* The last line of -a: each job that both ended with the same bytes has passed. */
+static int compare_all(const char *folder)
 {
-    if (!read_options(argc, argv)) {
-        fprintf(stderr, "usage: bench [-t SECONDS] [-r ROUNDS] [-m] [-c FILE] FOLDER\n");
-        return 2;
+    static Job job;
+    most_runs = 1;
+    run_folder(folder, run_answers);
+    for (uint64_t seed = 1; seed <= 8; seed++) {
+        long_job(&job, seed);
+        run_answers(&job, "the job of 32,768 bytes");
     }
-    if (!read_names(argv[optind]))
-        return 2;
-    for (int e = 0; e < 2; e++)
-        shared[e] = lent(sizeof(Run));
+    int all = (int)count + 8 - newer, failed = all - same;
+    if (newer)
+        printf("%d jobs have commands that " OTHER " does not know\n", newer);
+    printf("%d passed, %d failed\n", same, failed);
+    return failed != 0 || same == 0 ? 1 : 0;
+}
+
+static void measure_all(const char *folder)
+{
+    Pair slowest = {.ended = {true, true}};
     stack = lent(STACK);
     stack_top = lent(sizeof *stack_top);
-
-    Pair slowest = {.ended = {true, true}};
     print_header();
-    run_folder(argv[optind], run_job);
-    run_folder(argv[optind], run_stack);
+    run_folder(folder, run_job);
+    run_folder(folder, run_stack);
     int lists = run_long_jobs(&slowest);
     print_details(lists, &slowest);
     print_summary();
     if (csv && fclose(csv) != 0)
         perror("bench");
+}
+
+int main(int argc, char **argv)
+{
+    if (!read_options(argc, argv)) {
+        fprintf(stderr, "usage: bench [-t SECONDS] [-r ROUNDS] [-m] [-a] [-c FILE] FOLDER\n");
+        return 2;
+    }
+    const char *folder = argv[optind];
+    if (!read_names(folder))
+        return 2;
+    for (int e = 0; e < 2; e++)
+        shared[e] = lent(sizeof(Run));
+    if (answers_only)
+        return compare_all(folder);
+    measure_all(folder);
     return differ || deepest >= STACK_LIMIT ? 1 : 0;
 }

@@ -18,8 +18,6 @@
 #include "covers.h"
 #include "job.h"
 
-enum { LONGEST = 32768 };
-
 static uint8_t job[LONGEST], answers[LONGEST];
 static size_t job_len;
 
@@ -37,13 +35,13 @@ static double ask(const uint8_t *query, size_t len, size_t *at)
     double best = 1e30, bare = 1e30, spent = 0;
     size_t head = head_of(job, job_len);
     for (int i = 0; i < 1000 && spent < 0.1; i++) {
-        job[head] = 'E';
-        double took = timed(head + 1, &outcome);
+        size_t end = head + cover_put_command(job + head, COVER_END);
+        double took = timed(end, &outcome);
         bare = took < bare ? took : bare;
-        *at = (outcome & 0xffff) - 1;
+        *at = cover_written(outcome) - COVER_END_ANSWER_BYTES;
         memcpy(job + head, query, len);
-        job[head + len] = 'E';
-        took = timed(head + len + 1, &outcome);
+        end = head + len + cover_put_command(job + head + len, COVER_END);
+        took = timed(end, &outcome);
         best = took < best ? took : best;
         spent += took;
     }
@@ -66,18 +64,21 @@ static int print_matrix(void)
 static int print_page(void)
 {
     size_t at;
-    double time = ask((const uint8_t[10]){'L', [9] = 255}, 10, &at);
-    printf("%.9f\n%d\n", time, answers[at + 2]);
-    for (size_t i = 0; i < answers[at + 1]; i++)
-        printf("%" PRIu64 "\n", number_at(answers + at + 3 + 8 * i, 8));
+    uint8_t query[COVER_LIST_BYTES];
+    double time = ask(query, cover_put_list(query, 0, COVER_MOST_SETS), &at);
+    const uint8_t *page = answers + at;
+    printf("%.9f\n%d\n", time, cover_page_more(page));
+    for (size_t i = 0; i < cover_page_sets(page); i++)
+        printf("%" PRIu64 "\n", cover_page_set(page, i));
     return 0;
 }
 
 static int print_cheapest(void)
 {
     size_t at;
-    double time = ask((const uint8_t[]){'C'}, 1, &at);
-    printf("%.9f\n%" PRIu64 "\n%" PRIu64 "\n", time, number_at(answers + at + 1, 2), number_at(answers + at + 3, 8));
+    uint8_t query[COVER_CHEAPEST_BYTES];
+    double time = ask(query, cover_put_command(query, COVER_CHEAPEST), &at);
+    printf("%.9f\n%u\n%" PRIu64 "\n", time, cover_cheapest_cost(answers + at), cover_cheapest_set(answers + at));
     return 0;
 }
 

@@ -17,8 +17,6 @@
 #include "covers.h"
 #include "job.h"
 
-enum { LONGEST = 32768, FULL = 255 };
-
 static uint8_t job[LONGEST], answers[LONGEST];
 
 typedef struct {
@@ -27,39 +25,26 @@ typedef struct {
     double time;
 } Page;
 
-/* xorshift, from the same seed in each run */
-static uint64_t drawn(void)
-{
-    static uint64_t x = 88172645463325252u;
-    x ^= x << 13;
-    x ^= x >> 7;
-    x ^= x << 17;
-    return x;
-}
-
-/* A number of any size, or one with many high bits. */
+/* A number of any size, or one with many high bits; from the same seed in each run. */
 static uint64_t start_drawn(unsigned turn)
 {
-    uint64_t x = drawn(), low = x >> drawn() % 64;
+    static uint64_t state = 88172645463325252u;
+    uint64_t x = drawn(&state), low = x >> drawn(&state) % 64;
     return turn % 3 == 0 ? x : turn % 3 == 1 ? low : ~low;
 }
 
 /* The page from start, asked for behind the commands before the queries; its answer follows theirs. */
 static Page page(size_t head, uint64_t start)
 {
-    size_t len = head;
-    job[len++] = 'L';
-    for (int b = 0; b < 8; b++)
-        job[len++] = (uint8_t)(start >> 8 * b);
-    job[len++] = FULL;
-    size_t before = (size_t)(cover_job(job, head, answers, LONGEST) & 0xffff);
+    size_t len = head + cover_put_list(job + head, start, COVER_MOST_SETS);
+    size_t before = cover_written(cover_job(job, head, answers, LONGEST));
     double begin = now();
-    uint64_t outcome = cover_job(job, len, answers, LONGEST);
+    size_t written = cover_written(cover_job(job, len, answers, LONGEST));
     Page p = {.time = now() - begin};
-    if ((outcome & 0xffff) >= before + 3)
-        p.count = answers[before + 1];
+    if (written > before)
+        p.count = cover_page_sets(answers + before);
     if (p.count > 0)
-        p.last = number_at(answers + before + 3 + 8 * (p.count - 1), 8);
+        p.last = cover_page_set(answers + before, p.count - 1);
     return p;
 }
 

@@ -39,51 +39,27 @@ struct job {
     size_t length;
 };
 
-static void add_byte(struct job *job, unsigned byte)
+/* Where the next command of so many bytes is to be put. */
+static uint8_t *next_command(struct job *job, size_t bytes)
 {
-    if (job->length == sizeof job->bytes) {
+    if (job->length + bytes > sizeof job->bytes) {
         fprintf(stderr, "the job is longer than its buffer\n");
         exit(EXIT_FAILURE);
     }
-    job->bytes[job->length++] = (uint8_t)byte;
-}
-
-static void add_three(struct job *job, unsigned command, unsigned a, unsigned b, unsigned c)
-{
-    add_byte(job, command);
-    add_byte(job, a);
-    add_byte(job, b);
-    add_byte(job, c);
+    uint8_t *at = job->bytes + job->length;
+    job->length += bytes;
+    return at;
 }
 
 /* The head that every job of this fitter has: the table and the candidates. */
 static void add_problem(struct job *job)
 {
     job->length = 0;
-    add_byte(job, COVER_SIZES);
-    add_byte(job, INPUTS);
-    add_byte(job, OUTPUTS);
+    cover_put_sizes(next_command(job, COVER_SIZES_BYTES), INPUTS, OUTPUTS);
     for (size_t i = 0; i < ROWS; i++)
-        add_three(job, COVER_ROW, rows[i].vertex, rows[i].on, rows[i].dc);
+        cover_put_row(next_command(job, COVER_ROW_BYTES), rows[i].vertex, rows[i].on, rows[i].dc);
     for (size_t i = 0; i < TERMS; i++)
-        add_three(job, COVER_TERM, terms[i].care, terms[i].value, terms[i].outputs);
-}
-
-static void add_page(struct job *job, uint64_t start, unsigned count)
-{
-    add_byte(job, COVER_LIST);
-    for (unsigned shift = 0; shift < 64; shift += 8)
-        add_byte(job, (unsigned)(start >> shift & 0xFF));
-    add_byte(job, count);
-}
-
-/* Numbers lie low byte first. */
-static uint64_t number_at(const uint8_t *bytes, size_t width)
-{
-    uint64_t number = 0;
-    for (size_t i = width; i-- > 0;)
-        number = number << 8 | bytes[i];
-    return number;
+        cover_put_term(next_command(job, COVER_TERM_BYTES), terms[i].care, terms[i].value, terms[i].outputs);
 }
 
 /* Runs the job. A refusal would be this program's own fault. */
@@ -113,16 +89,12 @@ struct place {
 };
 
 /* Prints the sets of one page and moves on behind the last of them. */
-static void take_page(const uint8_t *answer, struct place *place)
+static void take_page(const uint8_t *page, struct place *place)
 {
-    size_t sets = answer[1];
-    for (size_t i = 0; i < sets; i++) {
-        uint64_t set = number_at(answer + COVER_LIST_ANSWER_BYTES(i), 8);
-        print_set(set);
-        /* Nothing stands above 2^64 - 1: where this goes round to 0, more is 0. */
-        place->start = set + 1;
-    }
-    place->more = answer[2];
+    for (size_t i = 0; i < cover_page_sets(page); i++)
+        print_set(cover_page_set(page, i));
+    place->start = cover_page_next(page, place->start);
+    place->more = cover_page_more(page);
 }
 
 /* One job with one page, from the place on. */
@@ -132,8 +104,8 @@ static void page_job(struct place *place)
     uint8_t answers[ROOM];
 
     add_problem(&job);
-    add_page(&job, place->start, PAGE_SETS);
-    add_byte(&job, COVER_END);
+    cover_put_list(next_command(&job, COVER_LIST_BYTES), place->start, PAGE_SETS);
+    cover_put_command(next_command(&job, COVER_END_BYTES), COVER_END);
     run(&job, answers, sizeof answers);
     take_page(answers, place);
 }
@@ -144,11 +116,11 @@ static void print_cheapest(void)
     uint8_t answers[COVER_CHEAPEST_ANSWER_BYTES + COVER_END_ANSWER_BYTES];
 
     add_problem(&job);
-    add_byte(&job, COVER_CHEAPEST);
-    add_byte(&job, COVER_END);
+    cover_put_command(next_command(&job, COVER_CHEAPEST_BYTES), COVER_CHEAPEST);
+    cover_put_command(next_command(&job, COVER_END_BYTES), COVER_END);
     run(&job, answers, sizeof answers);
-    printf("cheapest, cost %" PRIu64 ", is\n", number_at(answers + 1, 2));
-    print_set(number_at(answers + 3, 8));
+    printf("cheapest, cost %u, is\n", cover_cheapest_cost(answers));
+    print_set(cover_cheapest_set(answers));
 }
 
 int main(void)

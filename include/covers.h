@@ -1,5 +1,5 @@
 /*
- * The cover engine, for C programmers.
+ * The cover engine, for C programmers (C99 and later, C++).
  *
  * One call runs one job: the commands lie in the job buffer, the answers are put into the
  * answer buffer, and one number tells how it ended.
@@ -16,6 +16,8 @@
  *   - Nothing is kept between calls: the outcome depends on the job's bytes and on the length
  *     of the answer buffer only. The call is reentrant; threads may call it at the same time
  *     with buffers of their own.
+ * This is proved of cover_job. The inline functions below only read and write the format; they
+ * are tested.
  *
  * What is asked of the caller
  *   - `job` is valid for reading job_len bytes and `answers` for writing answers_len bytes.
@@ -27,8 +29,9 @@
  * The commands, each one byte with operands of fixed width, numbers low byte first:
  *   COVER_SIZES     n, m                   first, once; each 1 to 8
  *   COVER_ROW       vertex, on, dc         before any term, primes, list or cheapest
- *   COVER_TERM      care, value, outputs   adds a candidate
- *   COVER_PRIMES                           the primes become the candidates; no term before it
+ *   COVER_TERM      care, value, outputs   adds a candidate; not after primes, list or cheapest
+ *   COVER_PRIMES                           the primes become the candidates; once, no term before
+ *                                          it, not after list or cheapest
  *   COVER_LIST      start (8 bytes), count (1)
  *   COVER_CHEAPEST
  *   COVER_END                              last
@@ -47,6 +50,15 @@
  * before; a page without sets leaves the start as it was. No page follows one that says no
  * more. Where a job or an answer buffer is too short for all pages, a further job sets the same
  * table and the same candidates in the same order anew and goes on.
+ *
+ * A job is put together by the cover_put functions, and its answers are read one by one:
+ *
+ *     uint64_t outcome = cover_job(job, job_len, answers, sizeof answers);
+ *     size_t written = cover_written(outcome);
+ *     for (size_t at = 0; at < written; at += cover_answer_bytes(answers + at))
+ *         if (answers[at] == COVER_LIST_ANSWER)
+ *             for (size_t i = 0; i < cover_page_sets(answers + at); i++)
+ *                 take(cover_page_set(answers + at, i));
  */
 #ifndef COVERS_H
 #define COVERS_H
@@ -66,21 +78,7 @@ extern "C" {
 #define COVER_MOST_CANDIDATES 64u
 #define COVER_MOST_SETS 255u /* on one page */
 
-/* The bytes of each command, operands included. */
-#define COVER_SIZES_BYTES 3u
-#define COVER_ROW_BYTES 4u
-#define COVER_TERM_BYTES 4u
-#define COVER_PRIMES_BYTES 1u
-#define COVER_LIST_BYTES 10u
-#define COVER_CHEAPEST_BYTES 1u
-#define COVER_END_BYTES 1u
-
-/* The bytes of each answer. */
-#define COVER_PRIMES_ANSWER_BYTES(count) (2u + 3u * (count))
-#define COVER_LIST_ANSWER_BYTES(sets) (3u + 8u * (sets))
-#define COVER_CHEAPEST_ANSWER_BYTES 11u
-#define COVER_END_ANSWER_BYTES 1u
-
+/* The first byte of each command. */
 enum cover_command {
     COVER_SIZES = 0x49,    /* I */
     COVER_ROW = 0x52,      /* R */
@@ -91,6 +89,15 @@ enum cover_command {
     COVER_END = 0x45       /* E */
 };
 
+/* The bytes of each command, operands included. */
+#define COVER_SIZES_BYTES 3u
+#define COVER_ROW_BYTES 4u
+#define COVER_TERM_BYTES 4u
+#define COVER_PRIMES_BYTES 1u
+#define COVER_LIST_BYTES 10u
+#define COVER_CHEAPEST_BYTES 1u
+#define COVER_END_BYTES 1u
+
 /* The first byte of each answer. */
 enum cover_answer {
     COVER_PRIMES_ANSWER = 0x70,
@@ -99,7 +106,13 @@ enum cover_answer {
     COVER_END_ANSWER = 0x65
 };
 
-/* Where several apply at one command, the smallest number is given. */
+/* The bytes of each answer. */
+#define COVER_PRIMES_ANSWER_BYTES(count) (2u + 3u * (count))
+#define COVER_LIST_ANSWER_BYTES(sets) (3u + 8u * (sets))
+#define COVER_CHEAPEST_ANSWER_BYTES 11u
+#define COVER_END_ANSWER_BYTES 1u
+
+/* How a job ended. Where several apply at one command, the smallest number is given. */
 enum cover_refusal {
     COVER_ACCEPTED = 0,
     COVER_TOO_LONG = 1,         /* the job or the answer buffer is longer than 32,768 bytes */
@@ -119,6 +132,8 @@ enum cover_refusal {
     COVER_NO_ROOM = 14          /* the answer is longer than the free part of the buffer */
 };
 
+#define COVER_LAST_REFUSAL 14u /* the largest number */
+
 /* Runs a job. Gives number * 2^32 + offset * 2^16 + written. */
 uint64_t cover_job(const uint8_t *job, size_t job_len, uint8_t *answers, size_t answers_len);
 
@@ -136,6 +151,146 @@ static inline size_t cover_offset(uint64_t outcome)
 static inline size_t cover_written(uint64_t outcome)
 {
     return (size_t)(outcome & 0xFFFFu);
+}
+
+/* A number of `width` bytes, 1 to 8, low byte first, as it stands at `bytes`. */
+static inline uint64_t cover_get_number(const uint8_t *bytes, size_t width)
+{
+    uint64_t number = 0;
+    while (width > 0)
+        number = number << 8 | bytes[--width];
+    return number;
+}
+
+static inline void cover_put_number(uint8_t *bytes, size_t width, uint64_t number)
+{
+    for (size_t i = 0; i < width; i++)
+        bytes[i] = (uint8_t)(number >> 8 * i);
+}
+
+/*
+ * Putting a job together. Each writes one command at `at`, where there must be room for its
+ * bytes, and gives their count: length += cover_put_row(job + length, vertex, on, dc).
+ */
+
+/* A command without operands: COVER_PRIMES, COVER_CHEAPEST, COVER_END. */
+static inline size_t cover_put_command(uint8_t *at, enum cover_command command)
+{
+    at[0] = (uint8_t)command;
+    return 1;
+}
+
+static inline size_t cover_put_sizes(uint8_t *at, unsigned n, unsigned m)
+{
+    at[0] = COVER_SIZES;
+    at[1] = (uint8_t)n;
+    at[2] = (uint8_t)m;
+    return COVER_SIZES_BYTES;
+}
+
+static inline size_t cover_put_row(uint8_t *at, unsigned vertex, unsigned on, unsigned dc)
+{
+    at[0] = COVER_ROW;
+    at[1] = (uint8_t)vertex;
+    at[2] = (uint8_t)on;
+    at[3] = (uint8_t)dc;
+    return COVER_ROW_BYTES;
+}
+
+static inline size_t cover_put_term(uint8_t *at, unsigned care, unsigned value, unsigned outputs)
+{
+    at[0] = COVER_TERM;
+    at[1] = (uint8_t)care;
+    at[2] = (uint8_t)value;
+    at[3] = (uint8_t)outputs;
+    return COVER_TERM_BYTES;
+}
+
+static inline size_t cover_put_list(uint8_t *at, uint64_t start, unsigned count)
+{
+    at[0] = COVER_LIST;
+    cover_put_number(at + 1, 8, start);
+    at[9] = (uint8_t)count;
+    return COVER_LIST_BYTES;
+}
+
+/* The bytes of the command that begins with this byte, operands included; 0 where none does. */
+static inline size_t cover_command_bytes(uint8_t byte)
+{
+    switch (byte) {
+    case COVER_SIZES: return COVER_SIZES_BYTES;
+    case COVER_ROW: return COVER_ROW_BYTES;
+    case COVER_TERM: return COVER_TERM_BYTES;
+    case COVER_PRIMES: return COVER_PRIMES_BYTES;
+    case COVER_LIST: return COVER_LIST_BYTES;
+    case COVER_CHEAPEST: return COVER_CHEAPEST_BYTES;
+    case COVER_END: return COVER_END_BYTES;
+    default: return 0;
+    }
+}
+
+/*
+ * Reading answers. `answer` is the first byte of a finished answer, of the kind that the function
+ * is named after. Up to `written` all answers are finished.
+ */
+
+/* The bytes of any answer, told by its head; 0 where the first byte begins none. */
+static inline size_t cover_answer_bytes(const uint8_t *answer)
+{
+    switch (answer[0]) {
+    case COVER_PRIMES_ANSWER: return COVER_PRIMES_ANSWER_BYTES((size_t)answer[1]);
+    case COVER_LIST_ANSWER: return COVER_LIST_ANSWER_BYTES((size_t)answer[1]);
+    case COVER_CHEAPEST_ANSWER: return COVER_CHEAPEST_ANSWER_BYTES;
+    case COVER_END_ANSWER: return COVER_END_ANSWER_BYTES;
+    default: return 0;
+    }
+}
+
+static inline size_t cover_primes_count(const uint8_t *answer)
+{
+    return answer[1];
+}
+
+/* Care, value and outputs of prime i, three bytes. */
+static inline const uint8_t *cover_prime(const uint8_t *answer, size_t i)
+{
+    return answer + COVER_PRIMES_ANSWER_BYTES(i);
+}
+
+/* A page, the answer to COVER_LIST: how many sets it has, whether more stand above, set i. */
+static inline size_t cover_page_sets(const uint8_t *answer)
+{
+    return answer[1];
+}
+
+static inline int cover_page_more(const uint8_t *answer)
+{
+    return answer[2];
+}
+
+static inline uint64_t cover_page_set(const uint8_t *answer, size_t i)
+{
+    return cover_get_number(answer + COVER_LIST_ANSWER_BYTES(i), 8);
+}
+
+/*
+ * Where the page behind this one starts, which was asked for from `start`. Nothing stands above
+ * 2^64 - 1: where this goes round to 0, the page says no more.
+ */
+static inline uint64_t cover_page_next(const uint8_t *answer, uint64_t start)
+{
+    size_t sets = cover_page_sets(answer);
+    return sets == 0 ? start : cover_page_set(answer, sets - 1) + 1;
+}
+
+static inline unsigned cover_cheapest_cost(const uint8_t *answer)
+{
+    return (unsigned)cover_get_number(answer + 1, 2);
+}
+
+static inline uint64_t cover_cheapest_set(const uint8_t *answer)
+{
+    return cover_get_number(answer + 3, 8);
 }
 
 #ifdef __cplusplus

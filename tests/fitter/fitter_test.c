@@ -34,43 +34,41 @@ struct job {
     size_t length;
 };
 
-static void add_byte(struct job *job, unsigned byte)
+/* Where the next command of so many bytes is to be put. */
+static uint8_t *next_command(struct job *job, size_t bytes)
 {
-    if (job->length == sizeof job->bytes)
+    if (job->length + bytes > sizeof job->bytes)
         abort();
-    job->bytes[job->length++] = (uint8_t)byte;
+    uint8_t *at = job->bytes + job->length;
+    job->length += bytes;
+    return at;
+}
+
+/* A command without operands. */
+static void add(struct job *job, enum cover_command command)
+{
+    cover_put_command(next_command(job, 1), command);
 }
 
 static void add_sizes(struct job *job, unsigned n, unsigned m)
 {
     job->length = 0;
-    add_byte(job, COVER_SIZES);
-    add_byte(job, n);
-    add_byte(job, m);
+    cover_put_sizes(next_command(job, COVER_SIZES_BYTES), n, m);
 }
 
-static void add_three(struct job *job, unsigned command, unsigned a, unsigned b, unsigned c)
+static void add_row(struct job *job, unsigned vertex, unsigned on, unsigned dc)
 {
-    add_byte(job, command);
-    add_byte(job, a);
-    add_byte(job, b);
-    add_byte(job, c);
+    cover_put_row(next_command(job, COVER_ROW_BYTES), vertex, on, dc);
 }
 
-static void add_page(struct job *job, uint64_t start, unsigned count)
+static void add_term(struct job *job, unsigned care, unsigned value, unsigned outputs)
 {
-    add_byte(job, COVER_LIST);
-    for (unsigned shift = 0; shift < 64; shift += 8)
-        add_byte(job, (unsigned)(start >> shift & 0xFF));
-    add_byte(job, count);
+    cover_put_term(next_command(job, COVER_TERM_BYTES), care, value, outputs);
 }
 
-static uint64_t number_at(const uint8_t *bytes, size_t width)
+static void add_list(struct job *job, uint64_t start, unsigned count)
 {
-    uint64_t number = 0;
-    for (size_t i = width; i-- > 0;)
-        number = number << 8 | bytes[i];
-    return number;
+    cover_put_list(next_command(job, COVER_LIST_BYTES), start, count);
 }
 
 /* Calls. */
@@ -112,7 +110,7 @@ static uint64_t call(const struct job *job, size_t room)
     CHECK(cover_written(outcome) <= room);
     CHECK(all_guards(memory) && all_guards(answers + room));
     CHECK(memcmp(&copy, job, sizeof copy) == 0);
-    CHECK(outcome >> 32 <= COVER_NO_ROOM);
+    CHECK(outcome >> 32 <= COVER_LAST_REFUSAL);
     return outcome;
 }
 
@@ -128,34 +126,34 @@ static const uint8_t terms[6][3] = {
     {1, 0, 1}, {3, 1, 3}, {1, 1, 2}, {2, 2, 2}, {3, 2, 3}, {2, 0, 1},
 };
 
-static void add_term(struct job *job, const uint8_t term[3])
+static void add_example_term(struct job *job, size_t i)
 {
-    add_three(job, COVER_TERM, term[0], term[1], term[2]);
+    add_term(job, terms[i][0], terms[i][1], terms[i][2]);
 }
 
 static void example_rows(struct job *job)
 {
     add_sizes(job, 2, 2);
-    add_three(job, COVER_ROW, 0, 0, 1);
-    add_three(job, COVER_ROW, 1, 1, 2);
-    add_three(job, COVER_ROW, 2, 3, 0);
-    add_three(job, COVER_ROW, 3, 2, 0);
+    add_row(job, 0, 0, 1);
+    add_row(job, 1, 1, 2);
+    add_row(job, 2, 3, 0);
+    add_row(job, 3, 2, 0);
 }
 
 /* The table as crawled: the two free cells are wanted. */
 static void crawled_rows(struct job *job)
 {
     add_sizes(job, 2, 2);
-    add_three(job, COVER_ROW, 0, 1, 0);
-    add_three(job, COVER_ROW, 1, 3, 0);
-    add_three(job, COVER_ROW, 2, 3, 0);
-    add_three(job, COVER_ROW, 3, 2, 0);
+    add_row(job, 0, 1, 0);
+    add_row(job, 1, 3, 0);
+    add_row(job, 2, 3, 0);
+    add_row(job, 3, 2, 0);
 }
 
 static void example_terms(struct job *job)
 {
     for (size_t i = 0; i < 6; i++)
-        add_term(job, terms[i]);
+        add_example_term(job, i);
 }
 
 static void example(struct job *job)
@@ -173,17 +171,17 @@ static void crawled(struct job *job)
 static void example_primes(struct job *job)
 {
     example_rows(job);
-    add_byte(job, COVER_PRIMES);
+    add(job, COVER_PRIMES);
 }
 
 /* One input, one output, both cells wanted, the term without literals so many times. */
 static void constant(struct job *job, unsigned times)
 {
     add_sizes(job, 1, 1);
-    add_three(job, COVER_ROW, 0, 1, 0);
-    add_three(job, COVER_ROW, 1, 1, 0);
+    add_row(job, 0, 1, 0);
+    add_row(job, 1, 1, 0);
     for (unsigned i = 0; i < times; i++)
-        add_three(job, COVER_TERM, 0, 0, 1);
+        add_term(job, 0, 0, 1);
 }
 
 static void nothing(struct job *job)
@@ -206,9 +204,9 @@ static void pairs(struct job *job)
 {
     add_sizes(job, 3, 1);
     for (unsigned v = 0; v < 8; v++)
-        add_three(job, COVER_ROW, v, 1, 0);
+        add_row(job, v, 1, 0);
     for (unsigned i = 0; i < 16; i++)
-        add_three(job, COVER_TERM, 7, i / 2, 1);
+        add_term(job, 7, i / 2, 1);
 }
 
 static int odd(unsigned v)
@@ -224,13 +222,96 @@ static void parity(struct job *job, unsigned n)
     add_sizes(job, n, 1);
     for (unsigned v = 0; v < 1u << n; v++)
         if (odd(v))
-            add_three(job, COVER_ROW, v, 1, 0);
-    add_byte(job, COVER_PRIMES);
+            add_row(job, v, 1, 0);
+    add(job, COVER_PRIMES);
 }
 
 static void parity_of_7(struct job *job)
 {
     parity(job, 7);
+}
+
+/* The inline functions of covers.h, against bytes written out by hand. */
+
+static const uint8_t paper_job[] = {
+    0x49, 2, 2, 0x52, 0, 0, 1, 0x52, 1, 1, 2, 0x52, 2, 3, 0, 0x52, 3, 2, 0,
+    0x54, 1, 0, 1, 0x54, 3, 1, 3, 0x54, 1, 1, 2, 0x54, 2, 2, 2, 0x54, 3, 2, 3, 0x54, 2, 0, 1,
+    0x4C, 0, 0, 0, 0, 0, 0, 0, 0, 6, 0x43, 0x45,
+};
+
+static const uint8_t paper_answers[] = {
+    0x6C, 6, 0, 11, 0, 0, 0, 0, 0, 0, 0, 22, 0, 0, 0, 0, 0, 0, 0, 26, 0, 0, 0, 0, 0, 0, 0,
+    41, 0, 0, 0, 0, 0, 0, 0, 52, 0, 0, 0, 0, 0, 0, 0, 56, 0, 0, 0, 0, 0, 0, 0,
+    0x63, 6, 0, 41, 0, 0, 0, 0, 0, 0, 0, 0x65,
+};
+
+static void test_putting(void)
+{
+    static struct job job;
+    example(&job);
+    add_list(&job, 0, 6);
+    add(&job, COVER_CHEAPEST);
+    add(&job, COVER_END);
+    CHECK(job.length == sizeof paper_job && memcmp(job.bytes, paper_job, sizeof paper_job) == 0);
+    CHECK(is(call(&job, sizeof paper_answers), COVER_ACCEPTED, sizeof paper_job, sizeof paper_answers));
+    CHECK(memcmp(answers, paper_answers, sizeof paper_answers) == 0);
+
+    uint8_t list[COVER_LIST_BYTES];
+    static const uint8_t expected[] = {0x4C, 0x88, 0x77, 0x66, 0x55, 0x44, 0x33, 0x22, 0x11, 255};
+    CHECK(cover_put_list(list, UINT64_C(0x1122334455667788), 255) == sizeof expected);
+    CHECK(memcmp(list, expected, sizeof expected) == 0);
+    CHECK(cover_get_number(list + 1, 8) == UINT64_C(0x1122334455667788));
+    CHECK(cover_get_number(list + 1, 2) == 0x7788 && cover_get_number(list + 9, 1) == 255);
+}
+
+/* Each put function gives the bytes of its command, which its first byte tells too. */
+static void test_widths(void)
+{
+    uint8_t at[COVER_LIST_BYTES];
+    CHECK(cover_put_sizes(at, 1, 1) == 3 && cover_command_bytes(at[0]) == 3);
+    CHECK(cover_put_row(at, 0, 1, 0) == 4 && cover_command_bytes(at[0]) == 4);
+    CHECK(cover_put_term(at, 0, 0, 1) == 4 && cover_command_bytes(at[0]) == 4);
+    CHECK(cover_put_command(at, COVER_PRIMES) == 1 && cover_command_bytes(at[0]) == 1);
+    CHECK(cover_put_list(at, 0, 1) == 10 && cover_command_bytes(at[0]) == 10);
+    CHECK(cover_put_command(at, COVER_CHEAPEST) == 1 && cover_command_bytes(at[0]) == 1);
+    CHECK(cover_put_command(at, COVER_END) == 1 && cover_command_bytes(at[0]) == 1);
+
+    /* A byte has a width exactly when the engine takes it for a command. */
+    static struct job job;
+    for (unsigned byte = 0; byte < 256; byte++) {
+        job.length = 0;
+        *next_command(&job, 1) = (uint8_t)byte;
+        int known = cover_number(call(&job, 0)) != COVER_NO_COMMAND;
+        CHECK((cover_command_bytes((uint8_t)byte) != 0) == known);
+    }
+}
+
+static void test_reading(void)
+{
+    static const size_t places[] = {0, 51, 62, 63};
+    static const uint64_t sets[] = {11, 22, 26, 41, 52, 56};
+    size_t at = 0;
+    for (size_t i = 0; i < 4; i++) {
+        CHECK(at == places[i]);
+        at += i < 3 ? cover_answer_bytes(paper_answers + at) : 0;
+    }
+    CHECK(cover_page_sets(paper_answers) == 6 && cover_page_more(paper_answers) == 0);
+    for (size_t i = 0; i < 6; i++)
+        CHECK(cover_page_set(paper_answers, i) == sets[i]);
+    CHECK(cover_page_next(paper_answers, 0) == 57);
+    CHECK(cover_cheapest_cost(paper_answers + 51) == 6 && cover_cheapest_set(paper_answers + 51) == 41);
+
+    static const uint8_t two_primes[] = {0x70, 2, 1, 0, 1, 255, 254, 253};
+    CHECK(cover_answer_bytes(two_primes) == sizeof two_primes && cover_primes_count(two_primes) == 2);
+    CHECK(memcmp(cover_prime(two_primes, 1), "\377\376\375", 3) == 0);
+    static const uint8_t no_sets[] = {0x6C, 0, 1};
+    CHECK(cover_answer_bytes(no_sets) == 3 && cover_page_more(no_sets) == 1 && cover_page_next(no_sets, 7) == 7);
+    static const uint8_t dear[] = {0x63, 0, 2, 1, 2, 3, 4, 5, 6, 7, 8};
+    CHECK(cover_cheapest_cost(dear) == 512 && cover_cheapest_set(dear) == UINT64_C(0x0807060504030201));
+    CHECK(cover_answer_bytes((const uint8_t[]){0x6D, 1, 1}) == 0);
+
+    uint64_t outcome = UINT64_C(14) << 32 | UINT64_C(0x8000) << 16 | 0x7FFF;
+    CHECK(is(outcome, COVER_NO_ROOM, 32768, 32767));
 }
 
 /* Paging. */
@@ -250,19 +331,22 @@ struct paging {
     unsigned jobs;
 };
 
-/* Joins the page at `answer`; gives the bytes of it. */
-static size_t join(struct paging *paging, const uint8_t *answer, unsigned count)
+/* Joins a page; gives the bytes of it. */
+static size_t join(struct paging *paging, const uint8_t *page, unsigned count)
 {
-    size_t sets = answer[1];
-    CHECK(answer[0] == COVER_LIST_ANSWER && answer[2] <= 1 && sets <= count);
+    size_t sets = cover_page_sets(page);
+    uint64_t least = paging->start;
+    CHECK(page[0] == COVER_LIST_ANSWER && page[2] <= 1 && sets <= count);
     for (size_t i = 0; i < sets && paging->joined.count < MOST_LISTED; i++) {
-        uint64_t set = number_at(answer + COVER_LIST_ANSWER_BYTES(i), 8);
-        CHECK(set >= paging->start);
+        uint64_t set = cover_page_set(page, i);
+        CHECK(set >= least);
         paging->joined.sets[paging->joined.count++] = set;
-        paging->start = set + 1;
+        least = set + 1;
     }
-    paging->more = answer[2];
-    return COVER_LIST_ANSWER_BYTES(sets);
+    paging->start = cover_page_next(page, paging->start);
+    CHECK(paging->start == least);
+    paging->more = cover_page_more(page);
+    return cover_answer_bytes(page);
 }
 
 /*
@@ -287,7 +371,7 @@ static unsigned page_job(struct paging *paging, void (*problem)(struct job *), u
     unsigned pages = 0;
     while (paging->more && job.length + COVER_LIST_BYTES <= COVER_MOST_JOB_BYTES) {
         size_t at = job.length;
-        add_page(&job, paging->start, count);
+        add_list(&job, paging->start, count);
         uint64_t outcome = call(&job, room);
         if (cover_number(outcome) == COVER_NO_ROOM) {
             CHECK(is(outcome, COVER_NO_ROOM, at, taken));
@@ -396,18 +480,18 @@ static void check_answers(void (*problem)(struct job *), const struct list *sets
     static struct job job;
     problem(&job);
     size_t page = cover_written(call(&job, COVER_MOST_ANSWER_BYTES));
-    add_page(&job, 0, 255);
-    add_byte(&job, COVER_CHEAPEST);
-    add_byte(&job, COVER_END);
+    add_list(&job, 0, 255);
+    add(&job, COVER_CHEAPEST);
+    add(&job, COVER_END);
     size_t last = page + COVER_LIST_ANSWER_BYTES(sets->count);
     size_t need = last + COVER_CHEAPEST_ANSWER_BYTES + COVER_END_ANSWER_BYTES;
 
     CHECK(is(call(&job, need), COVER_ACCEPTED, job.length, need));
     CHECK(answers[page] == COVER_LIST_ANSWER && answers[page + 1] == sets->count && answers[page + 2] == 0);
     for (size_t i = 0; i < sets->count; i++)
-        CHECK(number_at(answers + page + COVER_LIST_ANSWER_BYTES(i), 8) == sets->sets[i]);
+        CHECK(cover_page_set(answers + page, i) == sets->sets[i]);
     CHECK(answers[last] == COVER_CHEAPEST_ANSWER);
-    CHECK(number_at(answers + last + 1, 2) == cost && number_at(answers + last + 3, 8) == cheapest);
+    CHECK(cover_cheapest_cost(answers + last) == cost && cover_cheapest_set(answers + last) == cheapest);
     CHECK(answers[need - 1] == COVER_END_ANSWER);
 
     /* With one byte less the end finds no room; what was finished before it stands. */
@@ -441,14 +525,14 @@ static void test_costs(void)
         example_rows(&job);
         for (size_t i = 0; i < 6; i++) {
             if (sets[k] >> i & 1) {
-                add_term(&job, terms[i]);
+                add_example_term(&job, i);
                 members = members << 1 | 1;
             }
         }
-        add_byte(&job, COVER_CHEAPEST);
-        add_byte(&job, COVER_END);
+        add(&job, COVER_CHEAPEST);
+        add(&job, COVER_END);
         CHECK(is(call(&job, 12), COVER_ACCEPTED, job.length, 12));
-        CHECK(number_at(answers + 1, 2) == costs[k] && number_at(answers + 3, 8) == members);
+        CHECK(cover_cheapest_cost(answers) == costs[k] && cover_cheapest_set(answers) == members);
     }
 }
 
@@ -461,7 +545,7 @@ static void test_primes(void)
     CHECK(is(call(&job, 20), COVER_NO_END, job.length, 20));
     CHECK(answers[0] == COVER_PRIMES_ANSWER && answers[1] == 6);
     for (size_t i = 0; i < 6; i++)
-        CHECK(memcmp(answers + COVER_PRIMES_ANSWER_BYTES(i), terms[order[i] - 1], 3) == 0);
+        CHECK(memcmp(cover_prime(answers, i), terms[order[i] - 1], 3) == 0);
     CHECK(is(call(&job, 19), COVER_NO_ROOM, job.length - 1, 0));
 }
 
@@ -472,12 +556,12 @@ static void test_unheld(void)
     for (unsigned count = 0; count < 3; count++) {
         constant(&job, 0);
         size_t at = job.length;
-        add_page(&job, 0, count);
+        add_list(&job, 0, count);
         CHECK(is(call(&job, 100), COVER_UNHELD_CELL, at, 0));
         CHECK(is(call(&job, 0), COVER_UNHELD_CELL, at, 0));
     }
     constant(&job, 0);
-    add_byte(&job, COVER_CHEAPEST);
+    add(&job, COVER_CHEAPEST);
     CHECK(is(call(&job, 100), COVER_UNHELD_CELL, job.length - 1, 0));
 }
 
@@ -495,7 +579,7 @@ static void test_parity(void)
     size_t i = 0;
     for (unsigned v = 0; v < 128; v++) {
         if (odd(v)) {
-            const uint8_t *prime = answers + COVER_PRIMES_ANSWER_BYTES(i++);
+            const uint8_t *prime = cover_prime(answers, i++);
             CHECK(prime[0] == 127 && prime[1] == v && prime[2] == 1);
         }
     }
@@ -510,11 +594,11 @@ static void check_page(void (*problem)(struct job *), uint64_t start, unsigned c
     static struct job job;
     problem(&job);
     size_t page = cover_written(call(&job, COVER_MOST_ANSWER_BYTES));
-    add_page(&job, start, count);
+    add_list(&job, start, count);
     size_t need = page + COVER_LIST_ANSWER_BYTES(expected[0]);
     CHECK(is(call(&job, COVER_MOST_ANSWER_BYTES), COVER_NO_END, job.length, need));
     CHECK(answers[page + 1] == expected[0] && answers[page + 2] == expected[1]);
-    CHECK(expected[0] == 0 || number_at(answers + page + 3, 8) == expected[2]);
+    CHECK(expected[0] == 0 || cover_page_set(answers + page, 0) == expected[2]);
 }
 
 #define PAGE(...) ((const uint64_t[3]){__VA_ARGS__})
@@ -594,10 +678,10 @@ static size_t long_job(struct job *job, size_t length)
     size_t need = COVER_END_ANSWER_BYTES;
     nothing(job);
     for (; job->length + COVER_LIST_BYTES < length; need += COVER_LIST_ANSWER_BYTES(0))
-        add_page(job, 0, 0);
+        add_list(job, 0, 0);
     for (; job->length + 1 < length; need += COVER_CHEAPEST_ANSWER_BYTES)
-        add_byte(job, COVER_CHEAPEST);
-    add_byte(job, COVER_END);
+        add(job, COVER_CHEAPEST);
+    add(job, COVER_END);
     return need;
 }
 
@@ -625,7 +709,7 @@ static void test_null(void)
     CHECK(is(cover_job(NULL, 0, &byte, 1), COVER_NO_END, 0, 0));
     CHECK(byte == 7);
     nothing(&job);
-    add_byte(&job, COVER_END);
+    add(&job, COVER_END);
     CHECK(is(cover_job(job.bytes, job.length, NULL, 0), COVER_NO_ROOM, 3, 0));
 }
 
@@ -643,6 +727,9 @@ static void test_nothing_kept(void)
 
 int main(void)
 {
+    test_putting();
+    test_widths();
+    test_reading();
     test_marked_cases();
     test_costs();
     test_primes();

@@ -10,7 +10,14 @@ use lib.ListN.{getD, length, take, drop}
 use lib.Seq.{drop-cons}
 use Rattle.model.specs.Commands as model
 use Rattle.model.specs.Commands.{number, is, width, allowed}
-use Rattle.codec.specs.Kinds.{earlyRefusal}
+use Rattle.codec.specs.declared.kinds.Form.{Form}
+use Rattle.codec.specs.declared.kinds.Kind.{Kind}
+use Rattle.codec.specs.Kinds.{kindIs, formed, Describes, earlyRefusal}
+
+-- ---- what describes a command
+
+pub described-as : (k e : Kind) (f : Form) → k ≡ e → let c = kindIs e in f ≡ formed (model.formOf c .code) (width c) (model.formOf c .last) (model.isQueryKind c) → Describes (kindIs k) f
+described-as k e f i d = rw (i, d) record { code = refl; width = refl; last = refl; query = refl }
 
 -- ---- 3, 4 and 5
 

@@ -1,10 +1,12 @@
 -- The engine's commands are those of the paper.
 use Prim.Native.Nat.{ℕ}
-use mathlib.Core.Bool.{Bool, not, _||_}
+use mathlib.Core.Path.{_≡_}
+use mathlib.Core.Bool.{Bool, not}
 use mathlib.Core.List.{[], _∷_}
 use lib.Dec.{ltb}
 use Rattle.model.specs.Commands as model
 use Rattle.model.specs.Refusals.{refuse, firstOf}
+use Rattle.codec.specs.declared.kinds.Form.{Form}
 use Rattle.codec.specs.declared.kinds.Kind.{Kind}
 use Rattle.codec.specs.declared.kinds.Kind.the-variants.{I, R, T, P, L, C, E, None}
 
@@ -18,9 +20,15 @@ kindIs C = model.Kind.C
 kindIs E = model.Kind.E
 kindIs None = model.Kind.none
 
--- L or C
-abbrev pub isQueryKind : model.Kind → Bool
-isQueryKind k = model.is k model.Kind.L || model.is k model.Kind.C
+-- f says of command k what the definitions say of it
+pub record Describes (k : model.Kind) (f : Form) : Type 0 where
+  pub code : f .code ≡ model.formOf k .code
+  pub width : f .width ≡ model.width k
+  pub last : f .last ≡ model.formOf k .last
+  pub query : f .query ≡ model.isQueryKind k
+
+abbrev pub formed : ℕ → ℕ → ℕ → Bool → Form
+formed code width last query = record { code = code; width = width; last = last; query = query }
 
 -- 3, 4 and 5 for a command at this place with so many bytes behind its own: the first that applies, 0 where none does
 abbrev pub earlyRefusal : model.Kind → ℕ → ℕ → ℕ

@@ -1,10 +1,9 @@
 // The commands: their bytes, their operands, their places in a job.
 ghost use mathlib.Core.Path.{_≡_};
-ghost use mathlib.Core.Bool.{_&&_};
-ghost use lib.Dec.{leb};
+ghost use mathlib.Core.Bool.{cond};
 ghost use Rattle.model.specs.Commands as model;
-ghost use Rattle.model.specs.Commands.{kindOf, is, width, allowed};
-ghost use Rattle.codec.specs.Kinds.{kindIs, isQueryKind, earlyRefusal};
+ghost use Rattle.model.specs.Commands.{kindOf, is, width, isQueryKind, allowed};
+ghost use Rattle.codec.specs.Kinds.{kindIs, formed, Describes, earlyRefusal};
 
 // The commands by their letters; None is a byte that is no command.
 pub enum Kind {
@@ -34,94 +33,87 @@ pub fn kind_of(b: u8) -> Kind
     }
 }
 
+// What describes a command: its byte (0 for none), the width of its operands, the last place at which it may stand, and whether it is a query.
+pub struct Form {
+    pub code: u8,
+    pub width: usize,
+    pub last: u8,
+    pub query: bool,
+}
+
+fn described(code: u8, width: usize, last: u8, query: bool) -> Form
+    ensures { λ r. ⌜ r ≡ formed code width last query ⌝ }
+{
+    Form {
+        code: code,
+        width: width,
+        last: last,
+        query: query,
+    }
+}
+
+// The one place that describes each command. Places: 0 nothing, 1 I, 2 rows, 3 terms, 4 a query came.
+pub fn form_of(k: Kind) -> Form
+    ensures { λ r. ⌜ Describes (kindIs k) r ⌝ }
+{
+    match k {
+        Kind::I => described(0x49, 2, 0, false),
+        Kind::R => described(0x52, 3, 2, false),
+        Kind::T => described(0x54, 3, 3, false),
+        Kind::P => described(0x50, 0, 2, false),
+        Kind::L => described(0x4c, 9, 4, true),
+        Kind::C => described(0x43, 0, 4, true),
+        Kind::E => described(0x45, 0, 4, false),
+        Kind::None => described(0, 0, 0, false),
+    }
+}
+
 // How many operand bytes it has.
 pub fn width_of(k: Kind) -> usize
     ensures { λ r. ⌜ r ≡ width (kindIs k) ⌝ }
 {
-    match k {
-        Kind::I => 2,
-        Kind::R => 3,
-        Kind::T => 3,
-        Kind::P => 0,
-        Kind::L => 9,
-        Kind::C => 0,
-        Kind::E => 0,
-        Kind::None => 0,
-    }
+    form_of(k).width
 }
 
-// Whether place lies between first and last.
-fn between(first: u8, place: u8, last: u8) -> bool
-    ensures { λ r. ⌜ r ≡ (leb first place && leb place last) ⌝ }
-{
-    if first <= place {
-        return place <= last;
-    }
-    false
-}
-
-// Whether it may stand at this place of a job.
-pub fn is_allowed(k: Kind, place: u8) -> bool
-    ensures { λ r. ⌜ r ≡ allowed (kindIs k) place ⌝ }
-{
-    match k {
-        Kind::I => between(0, place, 0),
-        Kind::R => between(1, place, 2),
-        Kind::T => between(1, place, 3),
-        Kind::P => between(1, place, 2),
-        Kind::L => between(1, place, 4),
-        Kind::C => between(1, place, 4),
-        Kind::E => between(1, place, 4),
-        Kind::None => between(1, place, 0),
-    }
-}
-
-// Whether it is an L or a C.
+// Whether it is a query.
 pub fn is_query(k: Kind) -> bool
     ensures { λ r. ⌜ r ≡ isQueryKind (kindIs k) ⌝ }
 {
-    match k {
-        Kind::I => false,
-        Kind::R => false,
-        Kind::T => false,
-        Kind::P => false,
-        Kind::L => true,
-        Kind::C => true,
-        Kind::E => false,
-        Kind::None => false,
-    }
+    form_of(k).query
 }
 
 // Whether it is the E that ends a job.
 pub fn is_end(k: Kind) -> bool
     ensures { λ r. ⌜ r ≡ is (kindIs k) model.Kind.E ⌝ }
 {
-    match k {
-        Kind::I => false,
-        Kind::R => false,
-        Kind::T => false,
-        Kind::P => false,
-        Kind::L => false,
-        Kind::C => false,
-        Kind::E => true,
-        Kind::None => false,
-    }
+    form_of(k).code == 0x45
 }
 
 // Whether its byte is no command.
 fn is_none(k: Kind) -> bool
     ensures { λ r. ⌜ r ≡ is (kindIs k) model.Kind.none ⌝ }
 {
-    match k {
-        Kind::I => false,
-        Kind::R => false,
-        Kind::T => false,
-        Kind::P => false,
-        Kind::L => false,
-        Kind::C => false,
-        Kind::E => false,
-        Kind::None => true,
+    form_of(k).code == 0
+}
+
+// The first place at which it may stand: I at the start, all others behind it.
+fn first_place(k: Kind) -> u8
+    ensures { λ r. ⌜ r ≡ cond (is (kindIs k) model.Kind.I) model.atStart model.begun ⌝ }
+{
+    if form_of(k).code == 0x49 {
+        return 0;
     }
+    1
+}
+
+// Whether it may stand at this place of a job.
+pub fn is_allowed(k: Kind, place: u8) -> bool
+    ensures { λ r. ⌜ r ≡ allowed (kindIs k) place ⌝ }
+{
+    if first_place(k) <= place {
+        return place <= form_of(k).last;
+    }
+    false
 }
 
 // 3, 4 or 5 for a command at this place with `rest` bytes behind its own, 0 where none applies.

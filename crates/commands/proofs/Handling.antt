@@ -4,14 +4,14 @@ use native.Mathlib.Omega.{arith}
 use mathlib.Core.Path.{_≡_, refl, sym, ap, _∙_, subst, subst⁻¹}
 use mathlib.Core.Bool.{Bool, true, false, not, cond, _&&_, _||_}
 use mathlib.Core.List.{List, [], _∷_, _++_}
-use borrow.Author.Tests.{lt-ltb, le-ltb, leb-false}
+use borrow.Author.Tests.{lt-ltb, le-ltb, le-leb, lt-leb, leb-false}
 use lib.Dec.{T, ltb, leb, eqb}
 use lib.ListN.{length, drop, take, length-take}
 use Rattle.model.specs.Base.{some}
 use Rattle.model.specs.declared.Term.{Term}
 use Rattle.model.specs.Primes.{primes}
 use Rattle.model.specs.Commands as model
-use Rattle.model.specs.Commands.{Context, operand, problemAfter}
+use Rattle.model.specs.Commands.{Context, tableOf, operand, operandTerm, problemAfter}
 use Rattle.model.specs.Answers.{Answer, bytesOf, answerFor}
 use Rattle.model.specs.Refusals.{refuse, firstOf, refusalsOf, size, badRow}
 use Rattle.model.proofs.Runs.{first-before, first-behind}
@@ -25,12 +25,12 @@ use Rattle.answers.specs.declared.writers.Reply.{Reply}
 use Rattle.answers.specs.declared.writers.Reply.the-variants.{Written, TooLong}
 use Rattle.answers.specs.Writers.{Replied}
 use Rattle.problem.specs.declared.Problem.{Problem}
-use Rattle.problem.specs.Problems.{startedWith, rowPut, termPut, candidatesPut, Sized, Holds, Reached}
-use Rattle.problem.specs.Tests.{RowRefusal, TermRefusal}
-use Rattle.problem.proofs.Testing.{held-bytes}
+use Rattle.problem.specs.Problems.{listed, startedWith, atPlace, withRows, withCandidates, rowPut, termPut, Sized, Holds, Reached}
+use Rattle.problem.specs.Refusing.{rowRefusals, termRefusals, TermRefusal}
+use Rattle.problem.proofs.Refusing.{row-refusal, held-bytes, term-here}
 use Rattle.problem.proofs.Keeping.{after-I, after-R, after-T, after-P}
 use Rattle.commands.specs.declared.Effect.{Effect}
-use Rattle.commands.specs.Effects.{refusedAs, answerBytes, lateRefusal, Handled, Found, HandlesI, HandlesR, HandlesT, HandlesP, HandlesE}
+use Rattle.commands.specs.Effects.{refusedAs, answerBytes, lateRefusal, Handled, Found, HandlesI, HandlesR, RefusesTerm, HandlesT, HandlesP, HandlesE}
 
 -- ---- 14 stands behind the command's own refusals
 
@@ -80,52 +80,74 @@ pub init-refused : (p : Problem) (n m r : ℕ) (e : Effect) → r ≡ firstOf (r
 unfolding refusalsOf
 init-refused p n m r e o d q x free a b = handled-refused x model.Kind.I free p r e q (late-own x model.Kind.I r (rw (a, b) o) d) d
 
-pub init-good : (n m r : ℕ) (q : Problem) → r ≡ firstOf (refuse 6 (not (size n && size m)) ∷ []) → r ≡ 0 → q ≡ startedWith n m 1 → HandlesI n m (record { number = 0; written = 0; problem = q })
+pub init-good : (n m r : ℕ) (q : Problem) → r ≡ firstOf (refuse 6 (not (size n && size m)) ∷ []) → r ≡ 0 → q ≡ startedWith n m model.begun → HandlesI n m (record { number = 0; written = 0; problem = q })
 unfolding refusalsOf answerFor
 init-good n m r q o z s x free a b = handled-silent x model.Kind.I free q refl (rw (a, b) (sym z ∙ o)) (subst⁻¹ (λ (y : Problem). Holds y (problemAfter x model.Kind.I)) s (after-I x n m a b))
 
-row-vertex : (x : Context) → 0 ≡ firstOf (refusalsOf x model.Kind.R) → operand x 0 < 2 ^ x .problem .table .n
+row-vertex : (x : Context) → 0 ≡ firstOf (refusalsOf x model.Kind.R) → operand x 0 < 2 ^ x .problem .settings .n
 unfolding refusalsOf
-row-vertex x e = go (leb (2 ^ x .problem .table .n) (operand x 0)) refl e
+row-vertex x e = go (leb (2 ^ x .problem .settings .n) (operand x 0)) refl e
   where
     rest : ℕ
-    rest = firstOf (refuse 8 (badRow (x .problem .table .m) (operand x 1) (operand x 2)) ∷ [])
+    rest = firstOf (refuse 8 (badRow (x .problem .settings .m) (operand x 1) (operand x 2)) ∷ [])
 
-    go : (b : Bool) → leb (2 ^ x .problem .table .n) (operand x 0) ≡ b → 0 ≡ cond (b || some (eqb (operand x 0)) (x .problem .rowsAt)) 7 rest → operand x 0 < 2 ^ x .problem .table .n
+    go : (b : Bool) → leb (2 ^ x .problem .settings .n) (operand x 0) ≡ b → 0 ≡ cond (b || some (eqb (operand x 0)) (x .problem .rows .given)) 7 rest → operand x 0 < 2 ^ x .problem .settings .n
     go true q z = absurd (omega arith)
-    go false q z = leb-false (2 ^ x .problem .table .n) (operand x 0) q
+    go false q z = leb-false (2 ^ x .problem .settings .n) (operand x 0) q
 
-module _ (p : Problem) (v on dc r : ℕ) (o : RowRefusal p v on dc r) where
+module _ (p : Problem) (sizes : Sized p) (v on dc r : ℕ) (o : r ≡ firstOf (rowRefusals (p .settings .n) (p .settings .m) (p .rows .given) v on dc)) where
+  row-here : (x : Context) → Found p x → operand x 0 ≡ v → operand x 1 ≡ on → operand x 2 ≡ dc → r ≡ firstOf (refusalsOf x model.Kind.R)
+  row-here x f a b c = o ∙ row-refusal p x v on dc sizes (f .holds) a b c
+
   pub row-refused : (e : Effect) → (r ≡ 0 → ⊥) → e ≡ refusedAs p r → HandlesR p v on dc e
-  row-refused e d q x free f a b c = handled-refused x model.Kind.R free p r e q (late-own x model.Kind.R r (o x (f .holds) a b c) d) d
+  row-refused e d q x free f a b c = handled-refused x model.Kind.R free p r e q (late-own x model.Kind.R r (row-here x f a b c) d) d
 
-  pub row-kept : (q : Problem) → r ≡ 0 → q ≡ rowPut p v on dc → HandlesR p v on dc (record { number = 0; written = 0; problem = q })
+  pub row-kept : (q : Problem) → r ≡ 0 → q ≡ atPlace model.inRows (withRows (rowPut (p .rows) v on dc) p) → HandlesR p v on dc (record { number = 0; written = 0; problem = q })
   unfolding answerFor
   row-kept q z s x free f a b c =
-      let own : 0 ≡ firstOf (refusalsOf x model.Kind.R) = sym z ∙ o x (f .holds) a b c in
+      let own : 0 ≡ firstOf (refusalsOf x model.Kind.R) = sym z ∙ row-here x f a b c in
       handled-silent x model.Kind.R free q refl own
-      (subst⁻¹ (λ (y : Problem). Holds y (problemAfter x model.Kind.R)) s (after-R x p v on dc (f .holds) (f .valid) (f .begun) a b c (subst (λ (w : ℕ). w < 2 ^ x .problem .table .n) a (row-vertex x own))))
+      (subst⁻¹ (λ (y : Problem). Holds y (problemAfter x model.Kind.R)) s (after-R x p v on dc (f .holds) (f .valid) (f .begun) a b c (subst (λ (w : ℕ). w < 2 ^ x .problem .settings .n) a (row-vertex x own))))
 
-module _ (p : Problem) (t : Term) (r : ℕ) (o : TermRefusal p t r) where
+pub refuses-term : (p : Problem) (may : List ℕ) (t : Term) (r : ℕ) → Sized p → MayOf (p .rows .on) (p .rows .dc) may → TermRefusal may (p .settings .n) (p .settings .m) t r → RefusesTerm p t r
+refuses-term p may t r z of f x d = term-here p x may t r z (d .holds) (d .valid) of f
+
+-- 11 stands behind 9 and 10
+term-own : (x : Context) (t : Term) → operandTerm x ≡ t → refusalsOf x model.Kind.T ≡ termRefusals (tableOf (x .problem)) t ++ (refuse 11 (leb 64 (length (x .problem .cands))) ∷ [])
+unfolding refusalsOf
+term-own x t e = rw e
+
+module _ (p : Problem) (t : Term) (r : ℕ) (o : RefusesTerm p t r) where
   pub term-refused : (e : Effect) → (r ≡ 0 → ⊥) → e ≡ refusedAs p r → HandlesT p t e
-  term-refused e d q x free f a = handled-refused x model.Kind.T free p r e q (late-own x model.Kind.T r (o .refusal x (f .holds) (f .valid) a) d) d
+  term-refused e d q x free f a =
+      let own : r ≡ firstOf (refusalsOf x model.Kind.T) = sym (ap firstOf (term-own x t a) ∙ first-before (termRefusals (tableOf (x .problem)) t) (refuse 11 (leb 64 (length (x .problem .cands))) ∷ []) (λ z. d (o x f ∙ z)) ∙ sym (o x f)) in
+      handled-refused x model.Kind.T free p r e q (late-own x model.Kind.T r own d) d
 
-  pub term-kept : (q : Problem) → r ≡ 0 → q ≡ termPut p t → HandlesT p t (record { number = 0; written = 0; problem = q })
+  behind : (x : Context) → Found p x → operandTerm x ≡ t → r ≡ 0 → firstOf (refusalsOf x model.Kind.T) ≡ firstOf (refuse 11 (leb 64 (length (x .problem .cands))) ∷ [])
+  behind x f a z = ap firstOf (term-own x t a) ∙ first-behind (termRefusals (tableOf (x .problem)) t) (refuse 11 (leb 64 (length (x .problem .cands))) ∷ []) (omega arith, (omega arith, tt)) (sym (o x f) ∙ z)
+
+  pub term-many : (e : Effect) → r ≡ 0 → 64 ≤ p .candidates .count → e ≡ refusedAs p 11 → HandlesT p t e
+  term-many e z l q x free f a =
+      let own : 11 ≡ firstOf (refusalsOf x model.Kind.T) = sym (behind x f a z ∙ rw (le-leb 64 (length (x .problem .cands)) (omega (arith, f .holds .cands .counted)))) in
+      handled-refused x model.Kind.T free p 11 e q (late-own x model.Kind.T 11 own (λ n. omega (arith, n))) (λ n. omega (arith, n))
+
+  pub term-kept : (q : Problem) → r ≡ 0 → p .candidates .count < 64 → q ≡ atPlace model.inTerms (withCandidates (termPut (p .candidates) t) p) → HandlesT p t (record { number = 0; written = 0; problem = q })
   unfolding answerFor
-  term-kept q z s x free f a =
-      handled-silent x model.Kind.T free q refl (sym z ∙ o .refusal x (f .holds) (f .valid) a)
-      (subst⁻¹ (λ (y : Problem). Holds y (problemAfter x model.Kind.T)) s (after-T x p t (f .holds) a (o .room z)))
+  term-kept q z l s x free f a =
+      let own : 0 ≡ firstOf (refusalsOf x model.Kind.T) = sym (behind x f a z ∙ rw (lt-leb 64 (length (x .problem .cands)) (omega (arith, f .holds .cands .counted)))) in
+      handled-silent x model.Kind.T free q refl own
+      (subst⁻¹ (λ (y : Problem). Holds y (problemAfter x model.Kind.T)) s (after-T x p t (f .holds) a l))
 
 -- ---- P
 
-module _ (p : Problem) (z : Sized p) (may : List ℕ) (of : MayOf (p .on) (p .dc) may) (list : PrimeList) (all : AllPrimes may (p .n) list) where
-  primes-here : (x : Context) → Found p x → Listed (primes (x .problem .table)) list
-  primes-here x f = all (x .problem .table) (of (x .problem .table) (p .n) (z .inputs) (held-bytes p (x .problem) z (f .holds) (f .valid)))
+module _ (p : Problem) (z : Sized p) (may : List ℕ) (of : MayOf (p .rows .on) (p .rows .dc) may) (list : PrimeList) (all : AllPrimes may (p .settings .n) list) where
+  primes-here : (x : Context) → Found p x → Listed (primes (tableOf (x .problem))) list
+  primes-here x f = all (tableOf (x .problem)) (of (tableOf (x .problem)) (p .settings .n) (z .inputs) (held-bytes p (x .problem) z (f .holds) (f .valid)))
 
   pub few-primes : Reached p → list .count ≤ 64
   few-primes r =
-      let l = all (r .problem .table) (of (r .problem .table) (p .n) (z .inputs) (held-bytes p (r .problem) z (r .holds) (r .valid))) in
-      omega (arith, l .stored .counted, length-take 64 (primes (r .problem .table)))
+      let l = all (tableOf (r .problem)) (of (tableOf (r .problem)) (p .settings .n) (z .inputs) (held-bytes p (r .problem) z (r .holds) (r .valid))) in
+      omega (arith, l .stored .counted, length-take 64 (primes (tableOf (r .problem))))
 
   pub primes-many : (old : List ℕ) (e : Effect) → list .full ≡ true → e ≡ refusedAs p 11 → HandlesP p old old e
   unfolding refusalsOf
@@ -138,8 +160,8 @@ module _ (p : Problem) (z : Sized p) (may : List ℕ) (of : MayOf (p .on) (p .dc
     unfolding refusalsOf
     own-none x f = rw (← primes-here x f .more, g)
 
-    whole : (x : Context) → Found p x → Filled 64 (primes (x .problem .table)) (list .terms) (list .count)
-    whole x f = whole-list (primes (x .problem .table)) list (primes-here x f) g
+    whole : (x : Context) → Found p x → Filled 64 (primes (tableOf (x .problem))) (list .terms) (list .count)
+    whole x f = whole-list (primes (tableOf (x .problem))) list (primes-here x f) g
 
     replied : (x : Context) → Found p x → Replied (answerBytes x model.Kind.P) old new r
     unfolding answerFor
@@ -148,7 +170,7 @@ module _ (p : Problem) (z : Sized p) (may : List ℕ) (of : MayOf (p .on) (p .dc
     pub primes-long : (e : Effect) → r ≡ TooLong → e ≡ refusedAs p 14 → HandlesP p old new e
     primes-long e s q x f l = handled-long x model.Kind.P old new p r e s q l (replied x f) (own-none x f)
 
-    pub primes-kept : (q : Problem) (n : ℕ) → r ≡ Written n → q ≡ candidatesPut p (list .terms) (list .count) → HandlesP p old new (record { number = 0; written = n; problem = q })
+    pub primes-kept : (q : Problem) (n : ℕ) → r ≡ Written n → q ≡ atPlace model.queried (withCandidates (listed (list .terms) (list .count)) p) → HandlesP p old new (record { number = 0; written = n; problem = q })
     primes-kept q n s e x f l =
         handled-written x model.Kind.P old new q r n s l (replied x f) (own-none x f)
         (subst⁻¹ (λ (y : Problem). Holds y (problemAfter x model.Kind.P)) e (after-P x p (list .terms) (list .count) (f .holds) (whole x f)))

@@ -4,7 +4,7 @@ use native.Mathlib.Omega.{arith}
 use mathlib.Core.Path.{_≡_, refl, sym, ap, ap₂, _∙_, subst, subst⁻¹}
 use mathlib.Core.Bool.{Bool, true, false, not, cond}
 use mathlib.Core.List.{List, [], _∷_, map, List·Memᴰ, List·Memᴰ·head, List·Memᴰ·tail}
-use lib.Dec.{T}
+use lib.Dec.{T, T-not}
 use lib.ListN.{length, take, drop, length-take, length-append}
 use lib.Seq.{take-at}
 use Rattle.model.specs.Base.{bit}
@@ -12,10 +12,10 @@ use Rattle.model.specs.Sets.{Covering, members, Best, cover, coverable, cheapes
 use Rattle.model.specs.Pages.{page, more, atOrAbove}
 use Rattle.model.specs.Candidates.{termCost, covering}
 use Rattle.model.specs.Commands as model
-use Rattle.model.specs.Commands.{Context, coveringOf, start, count, problemAfter}
+use Rattle.model.specs.Commands.{Context, isQueryKind, basisOf, coveringOf, start, count, problemAfter}
 use Rattle.model.specs.Answers.{Answer, bytesOf, answerFor}
 use Rattle.model.specs.Refusals.{firstOf, refusalsOf}
-use Rattle.model.proofs.Lists.{T-true, T-false}
+use Rattle.model.proofs.Demand3.{refusalsOf-query}
 use Rattle.model.proofs.Sets.{covers-more}
 use Rattle.model.proofs.Cheapest.{best-cheapest}
 use Rattle.model.proofs.Matrix.{rows-cost}
@@ -29,9 +29,9 @@ use Rattle.answers.specs.declared.writers.Reply.{Reply}
 use Rattle.answers.specs.declared.writers.Reply.the-variants.{Written, TooLong}
 use Rattle.answers.specs.Writers.{Replied}
 use Rattle.problem.specs.declared.Problem.{Problem}
-use Rattle.problem.specs.Problems.{queried, Holds}
-use Rattle.problem.specs.Matrix.{TellsCovered}
-use Rattle.problem.proofs.Keeping.{after-L, after-C}
+use Rattle.problem.specs.Problems.{atPlace, Holds}
+use Rattle.problem.specs.Matrix.{MatrixOf}
+use Rattle.problem.proofs.Keeping.{after-query}
 use Rattle.problem.proofs.Preparing.{rows-listed}
 use Rattle.commands.specs.declared.Effect.{Effect}
 use Rattle.commands.specs.Effects.{refusedAs, repliedAs, answerBytes, pageBytes, Handled, Found, HandlesL, HandlesC}
@@ -76,48 +76,52 @@ module _ (all : List ℕ) (s : ℕ) (old new : List ℕ) (f : PageFill) (p : Pag
 
 -- ---- L and C by their replies
 
-module _ (x : Context) (k : model.Kind) (p : Problem) (old new : List ℕ) (r : Reply) (w : Replied (answerBytes x k) old new r) (f : x .free ≡ length old) (o : 0 ≡ firstOf (refusalsOf x k)) (h : Holds (queried p) (problemAfter x k)) where
+module _ (x : Context) (k : model.Kind) (p : Problem) (old new : List ℕ) (r : Reply) (w : Replied (answerBytes x k) old new r) (f : x .free ≡ length old) (o : 0 ≡ firstOf (refusalsOf x k)) (h : Holds (atPlace model.queried p) (problemAfter x k)) where
   pub handled-reply : (e : Effect) → e ≡ repliedAs p r → Handled x k old new e
   handled-reply e q = subst⁻¹ (Handled x k old new) q (go r refl)
     where
       go : (s : Reply) → r ≡ s → Handled x k old new (repliedAs p s)
-      go (Written n) i = handled-written x k old new (queried p) r n i f w o h
+      go (Written n) i = handled-written x k old new (atPlace model.queried p) r n i f w o h
       go TooLong i = handled-long x k old new p r (refusedAs p 14) i refl f w o
+
+-- ---- 12, of any query
+
+module _ (p : Problem) (rows : List ℕ) (b : Bool) (x : Context) (k : model.Kind) (q : T (isQueryKind k)) (f : Found p x) (d : MatrixOf (basisOf (x .problem)) rows b) where
+  pub query-uncovered : (old : List ℕ) (e : Effect) → b ≡ false → e ≡ refusedAs p 12 → Handled x k old old e
+  query-uncovered old e z w =
+      let own : 12 ≡ firstOf (refusalsOf x k) = rw (refusalsOf-query x k q, ← d .told, z) in
+      handled-refused x k old p 12 e w (late-own x k 12 own (λ n. omega (arith, n))) (λ n. omega (arith, n))
+
+  pub query-covered : b ≡ true → 0 ≡ firstOf (refusalsOf x k)
+  query-covered z = rw (refusalsOf-query x k q, ← d .told, z)
 
 -- ---- L
 
-module _ (p : Problem) (b : Bool) (told : TellsCovered p b) where
-  pub list-uncovered : (rows : List ℕ) (s k : ℕ) (old : List ℕ) (e : Effect) → b ≡ false → e ≡ refusedAs p 12 → HandlesL p rows s k old old e
-  unfolding refusalsOf
-  list-uncovered rows s k old e z q x f d i j l = handled-refused x model.Kind.L old p 12 e q (late-own x model.Kind.L 12 (rw (← told (x .problem) (f .holds), z)) (λ n. omega (arith, n))) (λ n. omega (arith, n))
+module _ (p : Problem) (rows : List ℕ) (b : Bool) (s k : ℕ) where
+  pub list-uncovered : (old : List ℕ) (e : Effect) → b ≡ false → e ≡ refusedAs p 12 → HandlesL p rows b s k old old e
+  list-uncovered old e z q x f d i j l = query-uncovered p rows b x model.Kind.L tt f d old e z q
 
-  own-none : (x : Context) → b ≡ true → Found p x → 0 ≡ firstOf (refusalsOf x model.Kind.L)
-  unfolding refusalsOf
-  own-none x z f = rw (← told (x .problem) (f .holds), z)
-
-  pub list-answered : (rows : List ℕ) (s k n c : ℕ) (old new : List ℕ) (r : Reply) (e : Effect) → b ≡ true → n ≡ p .count → c ≡ k → Replied (pageBytes (rowCovers n rows) s c) old new r → e ≡ repliedAs p r → HandlesL p rows s k old new e
+  pub list-answered : (n c : ℕ) (old new : List ℕ) (r : Reply) (e : Effect) → b ≡ true → n ≡ p .candidates .count → c ≡ k → Replied (pageBytes (rowCovers n rows) s c) old new r → e ≡ repliedAs p r
+      → HandlesL p rows b s k old new e
   unfolding answerFor
-  list-answered rows s k n c old new r e z m v w q x f d i j l =
+  list-answered n c old new r e z m v w q x f d i j l =
       handled-reply x model.Kind.L p old new r
-      (subst (λ (all : List ℕ). Replied (pageBytes all (start x) (count x)) old new r) (rows-listed p (x .problem) rows n (f .holds) d m) (rw (i, j, ← v) w))
-      l (own-none x z f) (after-L x p (f .holds)) e q
+      (subst (λ (all : List ℕ). Replied (pageBytes all (start x) (count x)) old new r) (rows-listed p (x .problem) rows n (f .holds) (d .rows-of) m) (rw (i, j, ← v) w))
+      l (query-covered p rows b x model.Kind.L tt f d z) (after-query x p model.Kind.L tt (f .holds)) e q
 
 -- ---- C
 
-module _ (p : Problem) (rows costs : List ℕ) (count-is : costs ≡ map termCost (take (p .count) (p .terms))) where
+module _ (p : Problem) (rows costs : List ℕ) (b : Bool) (count-is : costs ≡ map termCost (take (p .candidates .count) (p .candidates .terms))) where
   costs-here : (x : Context) → Found p x → costs ≡ map termCost (x .problem .cands)
   costs-here x f = count-is ∙ ap (map termCost) (f .holds .cands .same)
 
-  pub cheapest-none : (old : List ℕ) (o : Optimum) (e : Effect) → o ≡ Nothing → Optimal rows costs o → e ≡ refusedAs p 12 → HandlesC p rows old old e
-  unfolding Optimal refusalsOf
-  cheapest-none old o e z h q x f d l =
-      handled-refused x model.Kind.C old p 12 e q (late-own x model.Kind.C 12 (rw (d .covered, ← costs-here x f, no) refl) (λ n. omega (arith, n))) (λ n. omega (arith, n))
+  -- where each on cell is held there is a cover
+  pub cheapest-none : (old : List ℕ) (o : Optimum) (e : Effect) → b ≡ true → o ≡ Nothing → Optimal rows costs o → HandlesC p rows b old old e
+  unfolding Optimal
+  cheapest-none old o e z i h x f d l = absurd (T-not (coverable (ofRows costs rows)) (subst (Optimal rows costs) i h) yes)
     where
-      none : T (not (coverable (ofRows costs rows)))
-      none = subst (Optimal rows costs) z h
-
-      no : coverable (ofRows costs rows) ≡ false
-      no = T-false {b = coverable (ofRows costs rows)} none
+      yes : T (coverable (ofRows costs rows))
+      yes = subst (λ (v : Bool). T v) (sym z ∙ d .told ∙ d .rows-of .covered ∙ ap (λ (cs : List ℕ). coverable (ofRows cs rows)) (sym (costs-here x f))) tt
 
   module _ (s c : ℕ) (o : Optimum) (z : o ≡ AtCover s c) (h : Optimal rows costs o) where
     best : Best (ofRows costs rows) c s
@@ -127,19 +131,20 @@ module _ (p : Problem) (rows costs : List ℕ) (count-is : costs ≡ map termCos
     covered : T (coverable (ofRows costs rows))
     covered = cover-coverable (ofRows costs rows) s (best .tight .covering)
 
-    pub cheapest-answered : (old new : List ℕ) (r : Reply) (e : Effect) → Replied (bytesOf (Answer.cheapestIs c s)) old new r → e ≡ repliedAs p r → HandlesC p rows old new e
-    unfolding answerFor refusalsOf
-    cheapest-answered old new r e w q x f d l =
-        handled-reply x model.Kind.C p old new r (subst (λ (a : Answer). Replied (bytesOf a) old new r) (ap₂ Answer.cheapestIs cost-same set-same) w) l own (after-C x p (f .holds)) e q
+    pub cheapest-answered : (old new : List ℕ) (r : Reply) (e : Effect) → b ≡ true → Replied (bytesOf (Answer.cheapestIs c s)) old new r → e ≡ repliedAs p r → HandlesC p rows b old new e
+    unfolding answerFor
+    cheapest-answered old new r e y w q x f d l =
+        handled-reply x model.Kind.C p old new r (subst (λ (a : Answer). Replied (bytesOf a) old new r) (ap₂ Answer.cheapestIs cost-same set-same) w) l
+        (query-covered p rows b x model.Kind.C tt f d y) (after-query x p model.Kind.C tt (f .holds)) e q
       where
         pair : (c ≡ cost (ofRows costs rows) (cheapest (ofRows costs rows))) × (s ≡ cheapest (ofRows costs rows))
         pair = best-cheapest (ofRows costs rows) c s covered best
 
         set-same : s ≡ cheapest (coveringOf x)
-        set-same = pair .1 ∙ ap (λ (cs : List ℕ). cheapest (ofRows cs rows)) (costs-here x f) ∙ sym (d .cheapest)
+        set-same = pair .1 ∙ ap (λ (cs : List ℕ). cheapest (ofRows cs rows)) (costs-here x f) ∙ sym (d .rows-of .cheapest)
 
         cost-same : c ≡ cost (coveringOf x) (cheapest (coveringOf x))
         cost-same = pair .0 ∙ ap (cost (ofRows costs rows)) (sym (pair .1) ∙ set-same) ∙ ap (λ (cs : List ℕ). cost (ofRows cs rows) (cheapest (coveringOf x))) (costs-here x f) ∙ rows-cost-any (coveringOf x) rows (cheapest (coveringOf x))
 
-        own : 0 ≡ firstOf (refusalsOf x model.Kind.C)
-        own = rw (d .covered, ← costs-here x f, T-true {b = coverable (ofRows costs rows)} covered)
+pub cheapest-uncovered : (p : Problem) (rows : List ℕ) (b : Bool) (old : List ℕ) (e : Effect) → b ≡ false → e ≡ refusedAs p 12 → HandlesC p rows b old old e
+cheapest-uncovered p rows b old e z q x f d l = query-uncovered p rows b x model.Kind.C tt f d old e z q

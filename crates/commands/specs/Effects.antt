@@ -1,21 +1,23 @@
 -- What the contracts of the commands cite: the effect of a command, in the context that the definitions give it.
 use Prim.Native.Nat.{ℕ, _≤_}
 use mathlib.Core.Path.{_≡_}
+use mathlib.Core.Bool.{Bool}
 use mathlib.Core.List.{List, [], _∷_, _++_}
 use lib.Dec.{ltb}
 use lib.ListN.{length, drop}
 use Rattle.model.specs.declared.Term.{Term}
 use Rattle.model.specs.Pages.{page, more}
 use Rattle.model.specs.Commands as model
-use Rattle.model.specs.Commands.{Context, basisOf, operand, operandTerm, start, count, problemAfter}
+use Rattle.model.specs.Commands.{Context, tableOf, basisOf, operand, operandTerm, start, count, problemAfter}
 use Rattle.model.specs.Answers.{Answer, bytesOf, answerFor}
 use Rattle.model.specs.Refusals.{refuse, firstOf, refusalsOf}
 use Rattle.model.specs.Invariants.{Valid}
 use Rattle.answers.specs.declared.writers.Reply.{Reply}
 use Rattle.answers.specs.declared.writers.Reply.the-variants.{Written, TooLong}
 use Rattle.problem.specs.declared.Problem.{Problem}
-use Rattle.problem.specs.Problems.{queried, Holds}
-use Rattle.problem.specs.Matrix.{RowsOf}
+use Rattle.problem.specs.Problems.{atPlace, Holds}
+use Rattle.problem.specs.Refusing.{termRefusals}
+use Rattle.problem.specs.Matrix.{MatrixOf}
 use Rattle.commands.specs.declared.Effect.{Effect}
 
 abbrev pub refusedAs : Problem → ℕ → Effect
@@ -23,7 +25,7 @@ refusedAs p n = record { number = n; written = 0; problem = p }
 
 -- what a query comes to, by its reply
 abbrev pub repliedAs : Problem → Reply → Effect
-repliedAs p (Written n) = record { number = 0; written = n; problem = queried p }
+repliedAs p (Written n) = record { number = 0; written = n; problem = atPlace model.queried p }
 repliedAs p TooLong = refusedAs p 14
 
 -- the bytes that a command of this kind answers
@@ -54,7 +56,7 @@ pub record Handled (x : Context) (k : model.Kind) (old new : List ℕ) (e : Effe
 pub record Found (p : Problem) (x : Context) : Type 0 where
   pub holds : Holds p (x .problem)
   pub valid : Valid (x .problem)
-  pub begun : 1 ≤ x .problem .place
+  pub begun : model.begun ≤ x .problem .place
 
 -- ---- each kind, in every context that has these operands
 
@@ -63,6 +65,10 @@ HandlesI n m e = (x : Context) (free : List ℕ) → operand x 0 ≡ n → opera
 
 abbrev pub HandlesR : Problem → ℕ → ℕ → ℕ → Effect → Type 0
 HandlesR p v on dc e = (x : Context) (free : List ℕ) → Found p x → operand x 0 ≡ v → operand x 1 ≡ on → operand x 2 ≡ dc → Handled x model.Kind.R free free e
+
+-- r is 9 or 10 of the term t, 0 where neither applies
+abbrev pub RefusesTerm : Problem → Term → ℕ → Type 0
+RefusesTerm p t r = (x : Context) → Found p x → r ≡ firstOf (termRefusals (tableOf (x .problem)) t)
 
 abbrev pub HandlesT : Problem → Term → Effect → Type 0
 HandlesT p t e = (x : Context) (free : List ℕ) → Found p x → operandTerm x ≡ t → Handled x model.Kind.T free free e
@@ -73,9 +79,10 @@ HandlesP p old new e = (x : Context) → Found p x → x .free ≡ length old �
 abbrev pub HandlesE : Problem → ℕ → List ℕ → List ℕ → Effect → Type 0
 HandlesE p rest old new e = (x : Context) → Holds p (x .problem) → length (x .rest) ≡ rest → x .free ≡ length old → Handled x model.Kind.E old new e
 
--- L and C, with the rows of the problem
-abbrev pub HandlesL : Problem → List ℕ → ℕ → ℕ → List ℕ → List ℕ → Effect → Type 0
-HandlesL p rows s k old new e = (x : Context) → Found p x → RowsOf (basisOf (x .problem)) rows → start x ≡ s → count x ≡ k → x .free ≡ length old → Handled x model.Kind.L old new e
+-- L and C, with the covering matrix of the problem
+abbrev pub HandlesL : Problem → List ℕ → Bool → ℕ → ℕ → List ℕ → List ℕ → Effect → Type 0
+HandlesL p rows covered s k old new e =
+    (x : Context) → Found p x → MatrixOf (basisOf (x .problem)) rows covered → start x ≡ s → count x ≡ k → x .free ≡ length old → Handled x model.Kind.L old new e
 
-abbrev pub HandlesC : Problem → List ℕ → List ℕ → List ℕ → Effect → Type 0
-HandlesC p rows old new e = (x : Context) → Found p x → RowsOf (basisOf (x .problem)) rows → x .free ≡ length old → Handled x model.Kind.C old new e
+abbrev pub HandlesC : Problem → List ℕ → Bool → List ℕ → List ℕ → Effect → Type 0
+HandlesC p rows covered old new e = (x : Context) → Found p x → MatrixOf (basisOf (x .problem)) rows covered → x .free ≡ length old → Handled x model.Kind.C old new e

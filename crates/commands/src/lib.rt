@@ -6,12 +6,12 @@ ghost use mathlib.Core.Path.{_≡_};
 ghost use Prim.Native.Nat.{_<_, _≤_};
 ghost use lib.ListN.{length};
 ghost use Rattle.problem.specs.Problems.{Sized, Reached};
-ghost use Rattle.commands.specs.Effects.{refusedAs, HandlesI, HandlesR, HandlesT, HandlesP, HandlesE};
+ghost use Rattle.commands.specs.Effects.{refusedAs, RefusesTerm, HandlesI, HandlesR, HandlesT, HandlesP, HandlesE};
 use answers::writers;
 use answers::writers::Reply;
 use model::Term;
 use problem::Problem;
-use problem::tests;
+use problem::refusals;
 use table::cells;
 use table::prime_list;
 
@@ -39,7 +39,7 @@ pub fn refused(p: Problem, number: u8) -> Effect
 pub fn init(p: Problem, n: u8, m: u8) -> Effect
     ensures { λ r. ⌜ HandlesI n m r ⌝ }
 {
-    let number = tests::init_refusal(n, m);
+    let number = refusals::init_refusal(n, m);
     if number != 0 {
         return refused(p, number);
     }
@@ -55,7 +55,9 @@ pub fn row(p: Problem, v: u8, on: u8, dc: u8) -> Effect
     requires { ⌜ Sized p ⌝ }
     ensures { λ r. ⌜ HandlesR p v on dc r ⌝ }
 {
-    let number = tests::row_refusal(p, v, on, dc);
+    let s = p.settings;
+    let rows = p.rows;
+    let number = refusals::row_refusal(s, &rows.given, v, on, dc);
     if number != 0 {
         return refused(p, number);
     }
@@ -66,14 +68,28 @@ pub fn row(p: Problem, v: u8, on: u8, dc: u8) -> Effect
     }
 }
 
-// T with its term.
+// 9 or 10 of a term, 0 where neither applies.
+fn term_refusal(p: Problem, t: Term) -> u8
+    requires { ⌜ Sized p ⌝ }
+    ensures { λ r. ⌜ RefusesTerm p t r ⌝ }
+{
+    let on = p.rows.on;
+    let dc = p.rows.dc;
+    let may = cells::allowed(&on, &dc);
+    refusals::term_refusal(&may, p.settings.n, p.settings.m, t)
+}
+
+// T with its term: 11 comes behind 9 and 10.
 pub fn term(p: Problem, t: Term) -> Effect
     requires { ⌜ Sized p ⌝ }
     ensures { λ r. ⌜ HandlesT p t r ⌝ }
 {
-    let number = tests::term_refusal(p, t);
+    let number = term_refusal(p, t);
     if number != 0 {
         return refused(p, number);
+    }
+    if 64 <= p.candidates.count {
+        return refused(p, 11);
     }
     Effect {
         number: 0,
@@ -87,10 +103,10 @@ pub fn primes(p: Problem, free: &mut [u8]) -> Effect
     requires { ⌜ Reached p ⌝ }
     ensures { λ r. ⌜ HandlesP p (now (free .entry)) (now (free .exit)) r ⌝ }
 {
-    let on = p.on;
-    let dc = p.dc;
+    let on = p.rows.on;
+    let dc = p.rows.dc;
     let may = cells::allowed(&on, &dc);
-    let list = prime_list::primes(&may, p.n);
+    let list = prime_list::primes(&may, p.settings.n);
     if list.full {
         return refused(p, 11);
     }

@@ -41,13 +41,20 @@ fn page_into(rows: &[u64], n: u64, start: u64, row: &mut [u64], free: &mut [u8])
     writers::put_page(free, row, filled, page.more)
 }
 
-// L: the sets for a row of `count` entries from `start` on.
-pub fn list(p: Problem, rows: &[u64], start: u64, count: u8, free: &mut [u8]) -> Effect
+// L: the sets for a row of `count` entries from `start` on. `rows` and `covered` are the covering matrix.
+pub fn list(
+    p: Problem,
+    rows: &[u64],
+    covered: bool,
+    start: u64,
+    count: u8,
+    free: &mut [u8],
+) -> Effect
     requires { ⌜ Reached p ⌝ }
-    ensures { λ r. ⌜ HandlesL p (now (rows .entry)) start count (now (free .entry)) (now (free .exit)) r ⌝ }
+    ensures { λ r. ⌜ HandlesL p (now (rows .entry)) covered start count (now (free .entry)) (now (free .exit)) r ⌝ }
 {
-    if matrix::is_covered(p) {
-        let n = p.count as u64;
+    if covered {
+        let n = p.candidates.count as u64;
         let k = byte::wide(count);
         let mut row = [0u64; 255];
         return replied(p, page_into(rows, n, start, &mut row[..k], free));
@@ -55,17 +62,20 @@ pub fn list(p: Problem, rows: &[u64], start: u64, count: u8, free: &mut [u8]) ->
     refused(p, 12)
 }
 
-// C: the cheapest cover; there is none where a cell is held by no candidate.
-pub fn least_cost(p: Problem, rows: &[u64], free: &mut [u8]) -> Effect
+// C: the cheapest cover. `rows` and `covered` are the covering matrix.
+pub fn least_cost(p: Problem, rows: &[u64], covered: bool, free: &mut [u8]) -> Effect
     requires { ⌜ Reached p ⌝ }
     requires { ⌜ length (now rows) ≤ 2048 ⌝ }
-    ensures { λ r. ⌜ HandlesC p (now (rows .entry)) (now (free .entry)) (now (free .exit)) r ⌝ }
+    ensures { λ r. ⌜ HandlesC p (now (rows .entry)) covered (now (free .entry)) (now (free .exit)) r ⌝ }
 {
-    let terms = p.terms;
-    let count = p.count;
+    if !covered {
+        return refused(p, 12);
+    }
+    let terms = p.candidates.terms;
+    let count = p.candidates.count;
     let costs = matrix::costs(terms, count);
     match search::cheapest(rows, &costs[..count]) {
-        Optimum::Nothing => refused(p, 12),
+        Optimum::Nothing => refused(p, 12), // not met: each cell is held
         Optimum::Cover(set, cost) => replied(p, writers::put_cheapest(free, cost, set)),
     }
 }

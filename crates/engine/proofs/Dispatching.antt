@@ -12,7 +12,7 @@ use Rattle.model.specs.Base.{All}
 use Rattle.model.specs.declared.Term.{Term}
 use Rattle.model.specs.Table.{term}
 use Rattle.model.specs.Commands as model
-use Rattle.model.specs.Commands.{Context, kindOf, is, width, allowed, number}
+use Rattle.model.specs.Commands.{Context, basisOf, kindOf, is, isQueryKind, width, allowed, operand, number}
 use Rattle.model.specs.Answers.{bytesOf, answer}
 use Rattle.model.specs.Refusals.{Refusal, refuse, firstOf, refusalsOf}
 use Rattle.model.specs.Rules.{refusalsBy, refusalBy, refusal}
@@ -20,9 +20,10 @@ use Rattle.model.specs.Invariants.{Valid}
 use Rattle.model.proofs.Runs.{Numbered, first-before, first-behind}
 use Rattle.model.proofs.Valid.{place-one}
 use Rattle.codec.specs.declared.kinds.Kind.{Kind}
-use Rattle.codec.specs.Kinds.{kindIs, isQueryKind, earlyRefusal}
+use Rattle.codec.specs.Kinds.{kindIs, earlyRefusal}
 use Rattle.problem.specs.declared.Problem.{Problem}
 use Rattle.problem.specs.Problems.{Holds}
+use Rattle.problem.specs.Matrix.{MatrixOf}
 use Rattle.commands.specs.declared.Effect.{Effect}
 use Rattle.commands.specs.Effects.{refusedAs, lateRefusal, Handled, Found, HandlesI, HandlesR, HandlesT, HandlesP, HandlesL, HandlesC, HandlesE}
 use Rattle.engine.specs.Steps.{Stepped, Steps, contextAt}
@@ -40,88 +41,99 @@ early-e k place rest e = go (is k model.Kind.none) (allowed k place) (ltb rest (
 
 -- ---- the context
 
-module _ (p : Problem) (rows job : List ℕ) (at : ℕ) (old : List ℕ) (k : Kind) (n rest : ℕ)
-    (here : at < length job) (kind : kindIs k ≡ kindOf (getD job at 0)) (left : rest ≡ length job - at - 1) (early : n ≡ earlyRefusal (kindIs k) (p .place) rest) where
-  early-list : Context → List Refusal
-  early-list x = refuse 3 (is (x .kind) model.Kind.none) ∷ refuse 4 (not (allowed (x .kind) (x .problem .place))) ∷ refuse 5 (ltb (length (x .rest)) (width (x .kind))) ∷ []
+-- what is read of the command at `at`: its kind, how many bytes stand behind it, and its early refusal n
+pub record Read (p : Problem) (job : List ℕ) (at : ℕ) (k : Kind) (n rest : ℕ) : Type 0 where
+  pub here : at < length job
+  pub kind : kindIs k ≡ kindOf (getD job at 0)
+  pub left : rest ≡ length job - at - 1
+  pub early : n ≡ earlyRefusal (kindIs k) (p .place) rest
 
-  late-list : Context → List Refusal
-  late-list x = refusalsOf x (x .kind) ++ (refuse 14 (ltb (x .free) (length (bytesOf (answer x)))) ∷ [])
+early-list : Context → List Refusal
+early-list x = refuse 3 (is (x .kind) model.Kind.none) ∷ refuse 4 (not (allowed (x .kind) (x .problem .place))) ∷ refuse 5 (ltb (length (x .rest)) (width (x .kind))) ∷ []
 
-  ctx : model.Problem → Context
-  ctx q = contextAt q job at (length old)
+late-list : Context → List Refusal
+late-list x = refusalsOf x (x .kind) ++ (refuse 14 (ltb (x .free) (length (bytesOf (answer x)))) ∷ [])
 
-  early-here : (q : model.Problem) → Holds p q → n ≡ firstOf (early-list (ctx q))
-  unfolding early-list ctx
-  early-here q h =
-      let r : rest ≡ length (drop (at + 1) job) = omega (arith, left, length-drop (at + 1) job) in
-      early ∙ rw (kind, h .place, r)
+early-numbered : (x : Context) → All Numbered (early-list x)
+unfolding early-list
+early-numbered x = (omega arith, (omega arith, (omega arith, tt)))
 
-  early-numbered : (x : Context) → All Numbered (early-list x)
+module _ {p : Problem} {job : List ℕ} {at : ℕ} {k : Kind} {n rest : ℕ} (d : Read p job at k n rest) where
+  early-here : (q : model.Problem) (free : ℕ) → Holds p q → n ≡ firstOf (early-list (contextAt q job at free))
   unfolding early-list
-  early-numbered x = (omega arith, (omega arith, (omega arith, tt)))
+  early-here q free h =
+      let r : rest ≡ length (drop (at + 1) job) = omega (arith, d .left, length-drop (at + 1) job) in
+      d .early ∙ rw (d .kind, h .place, r)
 
-  pub step-early : (e : Effect) → (n ≡ 0 → ⊥) → e ≡ refusedAs p n → Steps p rows job at old old e
-  unfolding refusalBy refusalsBy early-list late-list ctx
-  step-early e d q s h v f =
-      let o : n ≡ refusal (ctx s) = early-here s h ∙ sym (first-before (early-list (ctx s)) (late-list (ctx s)) (λ z. d (early-here s h ∙ z))) in
-      rw q record { number = o; refused = λ z. refl; answered = λ z. absurd (d z) }
+  pub step-early : {rows old : List ℕ} {covered : Bool} {e : Effect} → (n ≡ 0 → ⊥) → e ≡ refusedAs p n → Steps p rows covered job at old old e
+  unfolding refusalBy refusalsBy early-list late-list
+  step-early {rows} {old} {covered} {e} z q = record {
+    in-problem = λ s h v f.
+        let x = contextAt s job at (length old) in
+        let o : n ≡ refusal x = early-here s (length old) h ∙ sym (first-before (early-list x) (late-list x) (λ y. z (early-here s (length old) h ∙ y))) in
+        rw q record { number = o; refused = λ y. refl; answered = λ y. absurd (z y) };
+  }
 
   -- behind the early refusals
   module _ (z : n ≡ 0) where
-    late-here : (q : model.Problem) → Holds p q → refusal (ctx q) ≡ lateRefusal (ctx q) (kindOf (getD job at 0))
-    unfolding refusalBy refusalsBy early-list late-list ctx answer
-    late-here q h = first-behind (early-list (ctx q)) (late-list (ctx q)) (early-numbered (ctx q)) (sym (early-here q h) ∙ z)
-
-    pub step-late : (q : model.Problem) → Holds p q → (new : List ℕ) (e : Effect) → Handled (contextAt q job at (length old)) (kindOf (getD job at 0)) old new e → Stepped (contextAt q job at (length old)) old new e
-    unfolding ctx
-    step-late q h new e d = record { number = d .number ∙ sym (late-here q h); refused = d .refused; answered = d .answered }
+    late-here : (q : model.Problem) (free : ℕ) → Holds p q → refusal (contextAt q job at free) ≡ lateRefusal (contextAt q job at free) (kindOf (getD job at 0))
+    unfolding refusalBy refusalsBy early-list late-list answer
+    late-here q free h = let x = contextAt q job at free in first-behind (early-list x) (late-list x) (early-numbered x) (sym (early-here q free h) ∙ z)
 
     pub passed : T (not (is (kindIs k) model.Kind.none)) × T (allowed (kindIs k) (p .place)) × (width (kindIs k) ≤ rest)
-    passed = early-e (kindIs k) (p .place) rest (sym z ∙ early)
+    passed = early-e (kindIs k) (p .place) rest (sym z ∙ d .early)
 
     pub operands-there : at + 1 + width (kindIs k) ≤ length job
-    operands-there = omega (arith, passed .2, left)
-
-    found : (q : model.Problem) → Holds p q → Valid q → T (not (is (kindIs k) model.Kind.I)) → Found p (contextAt q job at (length old))
-    found q h v i = record { holds = h; valid = v; begun = subst (λ (x : ℕ). 1 ≤ x) (h .place) (place-one (kindIs k) (p .place) i (passed .1)) }
-
-    as-kind : (c : model.Kind) → kindIs k ≡ c → (q : model.Problem) → Holds p q → (new : List ℕ) (e : Effect) → Handled (contextAt q job at (length old)) c old new e → Stepped (contextAt q job at (length old)) old new e
-    as-kind c g q h new e d = step-late q h new e (subst (λ (c : model.Kind). Handled (contextAt q job at (length old)) c old new e) (sym g ∙ kind) d)
+    operands-there = omega (arith, passed .2, d .left, d .here)
 
     at-op : (i j : ℕ) → at + 1 + i ≡ j → getD (drop (at + 1) job) i 0 ≡ getD job j 0
     at-op i j e = getD-drop (at + 1) job i 0 ∙ ap (λ (x : ℕ). getD job x 0) e
 
+    module _ (c : model.Kind) (g : kindIs k ≡ c) {old new : List ℕ} {e : Effect} where
+      as-kind : (q : model.Problem) → Holds p q → Handled (contextAt q job at (length old)) c old new e → Stepped (contextAt q job at (length old)) old new e
+      as-kind q h w =
+          let u : Handled (contextAt q job at (length old)) (kindOf (getD job at 0)) old new e = subst (λ (c : model.Kind). Handled (contextAt q job at (length old)) c old new e) (sym g ∙ d .kind) w in
+          record { number = u .number ∙ sym (late-here q (length old) h); refused = u .refused; answered = u .answered }
+
+    -- a command behind I, in every problem that p holds
+    module _ (c : model.Kind) (g : kindIs k ≡ c) (i : T (not (is c model.Kind.I))) where
+      found : (q : model.Problem) (free : ℕ) → Holds p q → Valid q → Found p (contextAt q job at free)
+      found q free h v = record {
+        holds = h;
+        valid = v;
+        begun = subst (λ (x : ℕ). model.begun ≤ x) (h .place) (place-one (kindIs k) (p .place) (subst⁻¹ (λ (x : model.Kind). T (not (is x model.Kind.I))) g i) (passed .1));
+      }
+
+      behind-I : {rows old new : List ℕ} {covered : Bool} {e : Effect} → ((x : Context) → Found p x → (T (isQueryKind c) → MatrixOf (basisOf (x .problem)) rows covered) → x .rest ≡ drop (at + 1) job → x .free ≡ length old → Handled x c old new e) → Steps p rows covered job at old new e
+      behind-I {rows} {old} {new} {covered} {e} w = record { in-problem = λ q h v f. as-kind c g q h (w (contextAt q job at (length old)) (found q (length old) h v) (λ t. f (subst (λ (x : model.Kind). T (isQueryKind x)) (sym g ∙ d .kind) t)) refl refl) }
+
+    op : (x : Context) → x .rest ≡ drop (at + 1) job → (i j : ℕ) → at + 1 + i ≡ j → operand x i ≡ getD job j 0
+    op x r i j e = ap (λ (bs : List ℕ). getD bs i 0) r ∙ at-op i j e
+
     -- ---- each kind
 
-    pub step-I : (e : Effect) → kindIs k ≡ model.Kind.I → HandlesI (getD job (at + 1) 0) (getD job (at + 2) 0) e → Steps p rows job at old old e
-    step-I e g d q h v f = as-kind model.Kind.I g q h old e (d (contextAt q job at (length old)) old (at-op 0 (at + 1) (omega arith)) (at-op 1 (at + 2) (omega arith)))
+    module _ {rows old : List ℕ} {covered : Bool} {e : Effect} where
+      pub step-I : kindIs k ≡ model.Kind.I → HandlesI (getD job (at + 1) 0) (getD job (at + 2) 0) e → Steps p rows covered job at old old e
+      step-I g w = record { in-problem = λ q h v f. as-kind model.Kind.I g q h (w (contextAt q job at (length old)) old (at-op 0 (at + 1) (omega arith)) (at-op 1 (at + 2) (omega arith))) }
 
-    not-I : (c : model.Kind) → kindIs k ≡ c → T (not (is c model.Kind.I)) → T (not (is (kindIs k) model.Kind.I))
-    not-I c g t = subst⁻¹ (λ (x : model.Kind). T (not (is x model.Kind.I))) g t
+      pub step-R : kindIs k ≡ model.Kind.R → HandlesR p (getD job (at + 1) 0) (getD job (at + 2) 0) (getD job (at + 3) 0) e → Steps p rows covered job at old old e
+      step-R g w = behind-I model.Kind.R g tt (λ x f m r a. w x old f (op x r 0 (at + 1) (omega arith)) (op x r 1 (at + 2) (omega arith)) (op x r 2 (at + 3) (omega arith)))
 
-    pub step-R : (e : Effect) → kindIs k ≡ model.Kind.R → HandlesR p (getD job (at + 1) 0) (getD job (at + 2) 0) (getD job (at + 3) 0) e → Steps p rows job at old old e
-    step-R e g d q h v f = as-kind model.Kind.R g q h old e
-        (d (contextAt q job at (length old)) old (found q h v (not-I model.Kind.R g tt)) (at-op 0 (at + 1) (omega arith)) (at-op 1 (at + 2) (omega arith)) (at-op 2 (at + 3) (omega arith)))
+      pub step-T : {t : Term} → kindIs k ≡ model.Kind.T → t ≡ term (getD job (at + 1) 0) (getD job (at + 1 + 1) 0) (getD job (at + 1 + 2) 0) → HandlesT p t e → Steps p rows covered job at old old e
+      step-T {t} g s w = behind-I model.Kind.T g tt (λ x f m r a. w x old f (rw (op x r 0 (at + 1) (omega arith), op x r 1 (at + 1 + 1) refl, op x r 2 (at + 1 + 2) refl) (sym s)))
 
-    pub step-T : (e : Effect) (t : Term) → kindIs k ≡ model.Kind.T → t ≡ term (getD job (at + 1) 0) (getD job (at + 1 + 1) 0) (getD job (at + 1 + 2) 0) → HandlesT p t e → Steps p rows job at old old e
-    step-T e t g s d q h v f = as-kind model.Kind.T g q h old e
-        (d (contextAt q job at (length old)) old (found q h v (not-I model.Kind.T g tt))
-        (rw (at-op 0 (at + 1) (omega arith), at-op 1 (at + 1 + 1) refl, at-op 2 (at + 1 + 2) refl) (sym s)))
+    module _ {rows old new : List ℕ} {covered : Bool} {e : Effect} where
+      pub step-P : kindIs k ≡ model.Kind.P → HandlesP p old new e → Steps p rows covered job at old new e
+      step-P g w = behind-I model.Kind.P g tt (λ x f m r a. w x f a)
 
-    pub step-P : (new : List ℕ) (e : Effect) → kindIs k ≡ model.Kind.P → HandlesP p old new e → Steps p rows job at old new e
-    step-P new e g d q h v f = as-kind model.Kind.P g q h new e (d (contextAt q job at (length old)) (found q h v (not-I model.Kind.P g tt)) refl)
+      pub step-L : {s c : ℕ} → kindIs k ≡ model.Kind.L → s ≡ number (take 8 (drop (at + 1) job)) → c ≡ getD job (at + 9) 0 → HandlesL p rows covered s c old new e → Steps p rows covered job at old new e
+      step-L {s} {c} g i j w = behind-I model.Kind.L g tt (λ x f m r a. w x f (m tt) (ap (λ (bs : List ℕ). number (take 8 bs)) r ∙ sym i) (op x r 8 (at + 9) (omega arith) ∙ sym j) a)
 
-    pub step-L : (new : List ℕ) (e : Effect) (s c : ℕ) → kindIs k ≡ model.Kind.L → s ≡ number (take 8 (drop (at + 1) job)) → c ≡ getD job (at + 9) 0 → HandlesL p rows s c old new e → Steps p rows job at old new e
-    step-L new e s c g i j d q h v f = as-kind model.Kind.L g q h new e
-        (d (contextAt q job at (length old)) (found q h v (not-I model.Kind.L g tt)) (f (subst (λ (x : model.Kind). T (isQueryKind x)) (sym g ∙ kind) tt)) (sym i) (at-op 8 (at + 9) (omega arith) ∙ sym j) refl)
+      pub step-C : kindIs k ≡ model.Kind.C → HandlesC p rows covered old new e → Steps p rows covered job at old new e
+      step-C g w = behind-I model.Kind.C g tt (λ x f m r a. w x f (m tt) a)
 
-    pub step-C : (new : List ℕ) (e : Effect) → kindIs k ≡ model.Kind.C → HandlesC p rows old new e → Steps p rows job at old new e
-    step-C new e g d q h v f = as-kind model.Kind.C g q h new e
-        (d (contextAt q job at (length old)) (found q h v (not-I model.Kind.C g tt)) (f (subst (λ (x : model.Kind). T (isQueryKind x)) (sym g ∙ kind) tt)) refl)
+      pub step-E : kindIs k ≡ model.Kind.E → HandlesE p rest old new e → Steps p rows covered job at old new e
+      step-E g w = behind-I model.Kind.E g tt (λ x f m r a. w x (f .holds) (ap length r ∙ length-drop (at + 1) job ∙ omega (arith, d .left)) a)
 
-    pub step-E : (new : List ℕ) (e : Effect) → kindIs k ≡ model.Kind.E → HandlesE p rest old new e → Steps p rows job at old new e
-    step-E new e g d q h v f = as-kind model.Kind.E g q h new e (d (contextAt q job at (length old)) h (length-drop (at + 1) job ∙ omega (arith, left)) refl)
-
-    pub step-none : (new : List ℕ) (e : Effect) → kindIs k ≡ model.Kind.none → Steps p rows job at old new e
-    step-none new e g = absurd (subst (λ (x : model.Kind). T (not (is x model.Kind.none))) g (passed .0))
+      pub step-none : kindIs k ≡ model.Kind.none → Steps p rows covered job at old new e
+      step-none g = absurd (subst (λ (x : model.Kind). T (not (is x model.Kind.none))) g (passed .0))

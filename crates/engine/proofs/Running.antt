@@ -13,7 +13,9 @@ use lib.ListN.{getD, length, take, drop, length-append, length-drop, take-append
 use lib.Seq.{take-append-seam, drop-append-seam, drop-length, drop-drop, drop-cons}
 use Rattle.model.specs.Base.{join}
 use Rattle.model.specs.Commands as model
-use Rattle.model.specs.Commands.{Kind, Context, basisOf, kindOf, is, width, problemAfter}
+use Rattle.model.specs.Candidates.{Basis}
+use Rattle.model.specs.Commands.{Kind, Context, basisOf, kindOf, is, isQueryKind, width, problemAfter}
+use Rattle.model.proofs.Codes.{any-query}
 use Rattle.model.specs.Answers.{bytesOf, answer}
 use Rattle.model.specs.Rules.{engine, refusal}
 use Rattle.model.specs.Job.{Run, stop, answerThen, commands, run, runBy, written, packed, bufferAfter}
@@ -22,15 +24,15 @@ use Rattle.model.specs.Invariants.{Valid}
 use Rattle.model.proofs.Runs.{Passed, passed}
 use Rattle.model.proofs.Sound.{engine-lawful}
 use Rattle.model.proofs.Valid.{after-valid, valid-empty}
-use Rattle.codec.specs.Kinds.{isQueryKind}
 use Rattle.problem.specs.declared.Problem.{Problem}
 use Rattle.problem.specs.Problems.{noProblem, Holds, Reached}
-use Rattle.problem.specs.Matrix.{RowsOf}
+use Rattle.problem.specs.declared.matrix.Matrix.{Matrix}
+use Rattle.problem.specs.Matrix.{MatrixOf, Prepares}
 use Rattle.problem.proofs.Keeping.{holds-empty}
 use Rattle.commands.specs.declared.Effect.{Effect}
 use Rattle.commands.specs.Effects.{Answered}
 use Rattle.engine.specs.Steps.{Stepped, contextAt}
-use Rattle.engine.specs.Jobs.{called}
+use Rattle.engine.specs.Jobs.{called, IsMatrix, Refreshed}
 
 -- ---- one command of the definitions' run
 
@@ -61,16 +63,21 @@ unfolding written
 nothing-left out n offset xs = append-nil out
 
 -- a query leaves the table and the candidates
-basis-kept : (y : Context) (rows : List ℕ) (c : Kind) → T (isQueryKind c) → RowsOf (basisOf (y .problem)) rows → RowsOf (basisOf (problemAfter y c)) rows
+basis-kept : (y : Context) (c : Kind) → T (isQueryKind c) → basisOf (problemAfter y c) ≡ basisOf (y .problem)
 unfolding problemAfter
-basis-kept y rows Kind.L t d = d
-basis-kept y rows Kind.C t d = d
-basis-kept y rows Kind.I t d = absurd t
-basis-kept y rows Kind.R t d = absurd t
-basis-kept y rows Kind.T t d = absurd t
-basis-kept y rows Kind.P t d = absurd t
-basis-kept y rows Kind.E t d = absurd t
-basis-kept y rows Kind.none t d = absurd t
+basis-kept y = any-query (λ c. basisOf (problemAfter y c) ≡ basisOf (y .problem)) (refl, (refl, tt))
+
+-- ---- the covering matrix: one that stands, one made anew, and a command that looks at none
+
+module _ {p : Problem} {k : Kind} {ready : Bool} {m : Matrix} where
+  pub refreshed-none : {rows : List ℕ} {b : Bool} → length rows ≡ 2048 → m .count ≤ 2048 → b ≡ isQueryKind k → b ≡ false → Refreshed p k ready m rows rows m
+  refreshed-none s l e z = record { size = s; within = l; matrix = λ q h f t. absurd (subst (λ (x : Bool). T x) (sym e ∙ z) t) }
+
+  pub refreshed-same : {rows : List ℕ} → length rows ≡ 2048 → m .count ≤ 2048 → ready ≡ true → Refreshed p k ready m rows rows m
+  refreshed-same s l z = record { size = s; within = l; matrix = λ q h f t. f z }
+
+  pub refreshed-anew : {old new : List ℕ} {r : Matrix} → Prepares p new r → Refreshed p k ready m old new r
+  refreshed-anew d = record { size = d .size; within = d .within; matrix = λ q h f t. d .matrix q h }
 
 -- ---- the buffer
 
@@ -91,7 +98,7 @@ tail-is n bs = part-to-end bs n
 
 -- ---- the loop's invariant: the run is what is written, and then the rest of the job
 
-pub record Going (job old answers : List ℕ) (p : Problem) (rows : List ℕ) (count : ℕ) (ready : Bool) (at done : ℕ) : Type 0 where
+pub record Going (job old answers : List ℕ) (p : Problem) (rows : List ℕ) (m : Matrix) (ready : Bool) (at done : ℕ) : Type 0 where
   pub fuel : ℕ
   pub problem : model.Problem
   pub out : List ℕ
@@ -103,15 +110,15 @@ pub record Going (job old answers : List ℕ) (p : Problem) (rows : List ℕ) (c
   pub bytes : answers ≡ out ++ drop (length out) old
   pub fits : length out ≤ length old
   pub size : length rows ≡ 2048
-  pub few : count ≤ 2048
-  pub matrix : ready ≡ true → RowsOf (basisOf problem) (take count rows)
+  pub few : m .count ≤ 2048
+  pub matrix : ready ≡ true → IsMatrix problem rows m
   pub number : run job (length old) .number ≡ commands engine fuel problem (drop at job) (length old - length out) at .number
   pub offset : run job (length old) .offset ≡ commands engine fuel problem (drop at job) (length old - length out) at .offset
   pub written : written (run job (length old)) ≡ out ++ written (commands engine fuel problem (drop at job) (length old - length out) at)
 
-pub going-first : (job old rows : List ℕ) (p : Problem) → length job ≤ 32768 → length old ≤ 32768 → p ≡ noProblem → length rows ≡ 2048 → Going job old old p rows 0 false 0 0
+pub going-first : {job old rows : List ℕ} {p : Problem} {covered : Bool} → length job ≤ 32768 → length old ≤ 32768 → p ≡ noProblem → length rows ≡ 2048 → Going job old old p rows (record { count = 0; covered = covered }) false 0 0
 unfolding runBy
-going-first job old rows p h g e s = record {
+going-first {job} {old} {rows} {p} {covered} h g e s = record {
   fuel = suc (length job);
   problem = model.empty;
   out = [];
@@ -136,7 +143,7 @@ going-first job old rows p h g e s = record {
     no : false ≡ true → ⊥
     no z = let y : _≡_ {A = ℕ} 0 1 = cc in omega arith
 
-module _ (job old answers : List ℕ) (p : Problem) (rows : List ℕ) (count : ℕ) (ready : Bool) (at done : ℕ) (w : Going job old answers p rows count ready at done) where
+module _ {job old answers : List ℕ} {p : Problem} {rows : List ℕ} {m : Matrix} {ready : Bool} {at done : ℕ} (w : Going job old answers p rows m ready at done) where
   pub long : length answers ≡ length old
   long = ap length (w .bytes) ∙ omega (arith, length-append (w .out) (drop (length (w .out)) old), length-drop (length (w .out)) old, w .fits)
 
@@ -183,8 +190,8 @@ module _ (job old answers : List ℕ) (p : Problem) (rows : List ℕ) (count : �
 
   -- ---- the job's bytes end
 
-  pub going-cut : (r : ℕ) → length job ≤ at → r ≡ 2 * 2 ^ 32 + at * 2 ^ 16 + done → Met (called job old r answers)
-  going-cut r l q = met 2 at r [] answers (go (w .fuel)) q refl
+  pub going-cut : {r : ℕ} → length job ≤ at → r ≡ 2 * 2 ^ 32 + at * 2 ^ 16 + done → Met (called job old r answers)
+  going-cut {r} l q = met 2 at r [] answers (go (w .fuel)) q refl
     where
       none : drop at job ≡ []
       none = ap (λ (k : ℕ). drop k job) (let e : at ≡ length job = omega (arith, w .within) in e) ∙ drop-length job
@@ -195,16 +202,16 @@ module _ (job old answers : List ℕ) (p : Problem) (rows : List ℕ) (count : �
 
   -- ---- a command
 
-  module _ (here : at < length job) (last : List ℕ) (e : Effect) (s : Stepped (contextAt (w .problem) job at (length (tail done answers))) (tail done answers) last e) where
+  module _ (here : at < length job) {last : List ℕ} {e : Effect} (s : Stepped (contextAt (w .problem) job at (length (tail done answers))) (tail done answers) last e) where
     abbrev ctx : Context
     ctx = contextAt (w .problem) job at (length old - length (w .out))
 
     s' : Stepped ctx (tail done answers) last e
     s' = subst (λ (n : ℕ). Stepped (contextAt (w .problem) job at n) (tail done answers) last e) free-is s
 
-    pub going-refused : (r : ℕ) → (e .number ≡ 0 → ⊥) → r ≡ e .number * 2 ^ 32 + at * 2 ^ 16 + done → Met (called job old r (withTail done answers last))
+    pub going-refused : {r : ℕ} → (e .number ≡ 0 → ⊥) → r ≡ e .number * 2 ^ 32 + at * 2 ^ 16 + done → Met (called job old r (withTail done answers last))
     unfolding x
-    going-refused r d q =
+    going-refused {r} d q =
         met (refusal ctx) at r (ctx ∷ []) (withTail done answers last)
         (ap (λ (n : ℕ). commands engine n (w .problem) (drop at job) (length old - length (w .out)) at) (fuel-suc here .1) ∙ run-refused (fuel-suc here .0) (w .problem) job at (length old - length (w .out)) here (λ z. d (s' .number ∙ z)))
         (q ∙ ap (λ (n : ℕ). n * 2 ^ 32 + at * 2 ^ 16 + done) (s' .number))
@@ -236,9 +243,9 @@ module _ (job old answers : List ℕ) (p : Problem) (rows : List ℕ) (count : �
       unfolding written ans
       one-more y h = h ∙ sym (append-assoc (w .out) (bytesOf (answer ctx)) (join (map bytesOf (y .answers))))
 
-      pub going-ended : (r : ℕ) → is (kindOf (getD job at 0)) Kind.E ≡ true → r ≡ 0 * 2 ^ 32 + (at + 1) * 2 ^ 16 + (done + e .written) → Met (called job old r (withTail done answers last))
+      pub going-ended : {r : ℕ} → is (kindOf (getD job at 0)) Kind.E ≡ true → r ≡ 0 * 2 ^ 32 + (at + 1) * 2 ^ 16 + (done + e .written) → Met (called job old r (withTail done answers last))
       unfolding packed bufferAfter written x
-      going-ended r k q =
+      going-ended {r} k q =
           let step = ap (λ (n : ℕ). commands engine n (w .problem) (drop at job) (length old - length (w .out)) at) (fuel-suc here .1) ∙ run-ended (fuel-suc here .0) (w .problem) job at (length old - length (w .out)) here (sym (s' .number) ∙ z) k in
           let l : written (run job (length old)) ≡ w .out ++ ans = one-more (stop 0 (at + 1) []) (w .written ∙ ap (λ (y : Run). w .out ++ written y) step) ∙ nothing-left (w .out ++ ans) 0 (at + 1) [] in
           record {
@@ -253,10 +260,11 @@ module _ (job old answers : List ℕ) (p : Problem) (rows : List ℕ) (count : �
       unfolding ans
       free-left = omega (arith, length-append (w .out) (bytesOf (answer ctx)))
 
-      pub going-next : (q : Problem) (rows' : List ℕ) (count' : ℕ) (ready' : Bool) (at' : ℕ) → q ≡ e .problem → length rows' ≡ 2048 → count' ≤ 2048 → (ready' ≡ true → T (isQueryKind (kindOf (getD job at 0))) × RowsOf (basisOf (w .problem)) (take count' rows'))
-          → is (kindOf (getD job at 0)) Kind.E ≡ false → at' ≡ at + 1 + width (kindOf (getD job at 0)) → Going job old (withTail done answers last) q rows' count' ready' at' (done + e .written)
+      pub going-next : {q : Problem} {rows' : List ℕ} {m' : Matrix} {ready' : Bool} {at' : ℕ} → q ≡ e .problem → length rows' ≡ 2048 → m' .count ≤ 2048
+          → (ready' ≡ true → T (isQueryKind (kindOf (getD job at 0))) × IsMatrix (w .problem) rows' m')
+          → is (kindOf (getD job at 0)) Kind.E ≡ false → at' ≡ at + 1 + width (kindOf (getD job at 0)) → Going job old (withTail done answers last) q rows' m' ready' at' (done + e .written)
       unfolding x rest
-      going-next q rows' count' ready' at' qe sz fw mx k ae =
+      going-next {q} {rows'} {m'} {ready'} {at'} qe sz fw mx k ae =
           let step = ap (λ (n : ℕ). commands engine n (w .problem) (drop at job) (length old - length (w .out)) at) (fuel-suc here .1) ∙ run-next (fuel-suc here .0) (w .problem) job at (length old - length (w .out)) here (sym (s' .number) ∙ z) k in
           record {
             fuel = fuel-suc here .0;
@@ -271,7 +279,7 @@ module _ (job old answers : List ℕ) (p : Problem) (rows : List ℕ) (count : �
             fits = omega (arith, count-is, room-left);
             size = sz;
             few = fw;
-            matrix = λ t. basis-kept ctx (take count' rows') (kindOf (getD job at 0)) (mx t .0) (mx t .1);
+            matrix = λ t. subst⁻¹ (λ (b : Basis). MatrixOf b (take (m' .count) rows') (m' .covered)) (basis-kept ctx (kindOf (getD job at 0)) (mx t .0)) (mx t .1);
             number = w .number ∙ ap (λ (y : Run). y .number) step ∙ ap (λ (y : Run). y .number) moved;
             offset = w .offset ∙ ap (λ (y : Run). y .offset) step ∙ ap (λ (y : Run). y .offset) moved;
             written = one-more _ (w .written ∙ ap (λ (y : Run). w .out ++ written y) step) ∙ ap (λ (y : Run). (w .out ++ ans) ++ written y) moved;

@@ -1,8 +1,28 @@
--- What the contract of the exported call cites.
-use Prim.Native.Nat.{ℕ}
+-- What the contracts of the exported call and of the job cite.
+use Prim.Native.Nat.{ℕ, _≤_}
+use mathlib.Core.Path.{_≡_}
+use mathlib.Core.Bool.{Bool, true}
 use mathlib.Core.List.{List}
+use lib.Dec.{T}
+use lib.ListN.{length, take}
+use Rattle.model.specs.Commands as model
+use Rattle.model.specs.Commands.{basisOf, isQueryKind}
 use Rattle.model.specs.Calls.{Call}
+use Rattle.problem.specs.declared.Problem.{Problem}
+use Rattle.problem.specs.declared.matrix.Matrix.{Matrix}
+use Rattle.problem.specs.Problems.{Holds}
+use Rattle.problem.specs.Matrix.{MatrixOf}
 
 -- a call: its job, the answer buffer before, what it returned, the buffer after
 abbrev pub called : List ℕ → List ℕ → ℕ → List ℕ → Call
 called job before returned after = record { job = job; before = before; returned = returned; after = after }
+
+-- m with its rows in front of `rows` is the covering matrix of q
+abbrev pub IsMatrix : model.Problem → List ℕ → Matrix → Type 0
+IsMatrix q rows m = MatrixOf (basisOf q) (take (m .count) rows) (m .covered)
+
+-- a command of kind k finds the covering matrix r of the problem, where it is a query; `ready` says that m was it
+pub record Refreshed (p : Problem) (k : model.Kind) (ready : Bool) (m : Matrix) (old new : List ℕ) (r : Matrix) : Type 0 where
+  pub size : length new ≡ 2048
+  pub within : r .count ≤ 2048
+  pub matrix : (q : model.Problem) → Holds p q → (ready ≡ true → IsMatrix q old m) → T (isQueryKind k) → IsMatrix q new r

@@ -1,17 +1,17 @@
 -- What the contract of a step cites: any command of a job, in the context that the definitions give it.
 use Prim.Native.Nat.{ℕ, _+_}
 use mathlib.Core.Path.{_≡_}
+use mathlib.Core.Bool.{Bool}
 use mathlib.Core.List.{List}
 use lib.Dec.{T}
 use lib.ListN.{getD, length, drop}
 use Rattle.model.specs.Commands as model
-use Rattle.model.specs.Commands.{Context, basisOf, kindOf}
+use Rattle.model.specs.Commands.{Context, basisOf, kindOf, isQueryKind}
 use Rattle.model.specs.Rules.{refusal}
 use Rattle.model.specs.Invariants.{Valid}
-use Rattle.codec.specs.Kinds.{isQueryKind}
 use Rattle.problem.specs.declared.Problem.{Problem}
 use Rattle.problem.specs.Problems.{Holds}
-use Rattle.problem.specs.Matrix.{RowsOf}
+use Rattle.problem.specs.Matrix.{MatrixOf}
 use Rattle.commands.specs.declared.Effect.{Effect}
 use Rattle.commands.specs.Effects.{Answered}
 
@@ -25,7 +25,6 @@ pub record Stepped (x : Context) (old new : List ℕ) (e : Effect) : Type 0 wher
   pub refused : (e .number ≡ 0 → ⊥) → new ≡ old
   pub answered : e .number ≡ 0 → Answered x (x .kind) old new e
 
--- in every problem that p holds, with its rows where it is an L or a C
-abbrev pub Steps : Problem → List ℕ → List ℕ → ℕ → List ℕ → List ℕ → Effect → Type 0
-Steps p rows job at old new e =
-    (q : model.Problem) → Holds p q → Valid q → (T (isQueryKind (kindOf (getD job at 0))) → RowsOf (basisOf q) rows) → Stepped (contextAt q job at (length old)) old new e
+-- in every problem that p holds, with its covering matrix where it is a query
+pub record Steps (p : Problem) (rows : List ℕ) (covered : Bool) (job : List ℕ) (at : ℕ) (old new : List ℕ) (e : Effect) : Type 0 where
+  pub in-problem : (q : model.Problem) → Holds p q → Valid q → (T (isQueryKind (kindOf (getD job at 0))) → MatrixOf (basisOf q) rows covered) → Stepped (contextAt q job at (length old)) old new e

@@ -3,11 +3,16 @@ ghost use mathlib.Core.Path.{_≡_};
 ghost use Prim.Native.Nat.{_+_, _*_, _^_, _≤_};
 ghost use lib.ListN.{length};
 ghost use Rattle.model.specs.Calls.{Met};
-ghost use Rattle.engine.specs.Jobs.{called};
+ghost use Rattle.codec.specs.Kinds.{kindIs};
+ghost use Rattle.problem.specs.Problems.{Sized};
+ghost use Rattle.engine.specs.Jobs.{called, Refreshed};
 use crate::step;
 use bits::byte;
 use codec::kinds;
+use codec::kinds::Kind;
+use problem::Problem;
 use problem::matrix;
+use problem::matrix::Matrix;
 
 // A number that counts as a 64-bit number.
 fn long(x: usize) -> u64
@@ -24,6 +29,22 @@ pub fn pack(number: u8, offset: usize, written: usize) -> u64
     long(byte::wide(number)) * 4294967296 + long(offset) * 65536 + long(written)
 }
 
+// The covering matrix that command k looks at: m as it stands where the command before was a query too, else made anew. Other commands look
+// at none.
+fn refresh(p: Problem, k: Kind, ready: bool, m: Matrix, rows: &mut [u64]) -> Matrix
+    requires { ⌜ Sized p ⌝ }
+    requires { ⌜ (length (now rows) ≡ 2048) × (m .count ≤ 2048) ⌝ }
+    ensures { λ r. ⌜ Refreshed p (kindIs k) ready m (now (rows .entry)) (now (rows .exit)) r ⌝ }
+{
+    if kinds::is_query(k) {
+        if ready {
+            return m;
+        }
+        return matrix::prepare(p, rows);
+    }
+    m
+}
+
 // The commands one by one, until one is refused, E is answered or the job's bytes end. The covering matrix is kept from query to query.
 pub fn run(job: &[u8], answers: &mut [u8]) -> u64
     requires { ⌜ (length (now job) ≤ 32768) × (length (now answers) ≤ 32768) ⌝ }
@@ -31,15 +52,26 @@ pub fn run(job: &[u8], answers: &mut [u8]) -> u64
 {
     let mut p = problem::empty();
     let mut rows = [0u64; 2048];
-    let mut count: usize = 0;
+    let mut m = Matrix {
+        count: 0,
+        covered: false,
+    };
     let mut ready = false;
     let mut at: usize = 0;
     let mut written: usize = 0;
     while at < job.len() {
         let k = kinds::kind_of(job[at]);
-        count = matrix::refresh(p, k, ready, count, &mut rows);
+        m = refresh(p, k, ready, m, &mut rows);
         ready = kinds::is_query(k);
-        let e = step::step(p, &rows[..count], job, at, &mut answers[written..]);
+        let count = m.count;
+        let e = step::step(
+            p,
+            &rows[..count],
+            m.covered,
+            job,
+            at,
+            &mut answers[written..],
+        );
         if e.number != 0 {
             return pack(e.number, at, written);
         }

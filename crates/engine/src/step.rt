@@ -10,13 +10,20 @@ use commands::Effect;
 use commands::queries;
 use problem::Problem;
 
-// The command at `at`: tested in the paper's order, then answered into the free part and applied. `rows` are the problem's where it is
-// an L or a C.
-pub fn step(p: Problem, rows: &[u64], job: &[u8], at: usize, free: &mut [u8]) -> Effect
+// The command at `at`: tested in the paper's order, then answered into the free part and applied. `rows` and `covered` are the
+// problem's covering matrix where it is a query.
+pub fn step(
+    p: Problem,
+    rows: &[u64],
+    covered: bool,
+    job: &[u8],
+    at: usize,
+    free: &mut [u8],
+) -> Effect
     requires { ⌜ Reached p ⌝ }
     requires { ⌜ at < length (now job) ⌝ }
     requires { ⌜ length (now rows) ≤ 2048 ⌝ }
-    ensures { λ r. ⌜ Steps p (now (rows .entry)) (now (job .entry)) at (now (free .entry)) (now (free .exit)) r ⌝ }
+    ensures { λ r. ⌜ Steps p (now (rows .entry)) covered (now (job .entry)) at (now (free .entry)) (now (free .exit)) r ⌝ }
 {
     let k = kinds::kind_of(job[at]);
     let rest = job.len() - at - 1;
@@ -29,8 +36,15 @@ pub fn step(p: Problem, rows: &[u64], job: &[u8], at: usize, free: &mut [u8]) ->
         Kind::R => commands::row(p, job[at + 1], job[at + 2], job[at + 3]),
         Kind::T => commands::term(p, operands::term_at(job, at + 1)),
         Kind::P => commands::primes(p, free),
-        Kind::L => queries::list(p, rows, operands::number_at(job, at + 1), job[at + 9], free),
-        Kind::C => queries::least_cost(p, rows, free),
+        Kind::L => queries::list(
+            p,
+            rows,
+            covered,
+            operands::number_at(job, at + 1),
+            job[at + 9],
+            free,
+        ),
+        Kind::C => queries::least_cost(p, rows, covered, free),
         Kind::E => commands::end(p, rest, free),
         Kind::None => commands::refused(p, 3),
     }

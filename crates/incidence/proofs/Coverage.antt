@@ -2,21 +2,22 @@
 use Prim.Native.Nat.{ℕ, _+_, _^_, _≤_, _<_}
 use native.Mathlib.Omega.{arith}
 use mathlib.Core.Path.{_≡_, refl, sym, ap, ap₂, _∙_, subst}
-use mathlib.Core.Bool.{Bool, true, false, cond, _&&_}
-use mathlib.Core.List.{List, [], _∷_, _++_, map, List·Memᴰ, List·Memᴰ·head, List·Memᴰ·tail}
+use mathlib.Core.Bool.{Bool, true, false, cond, _&&_, and-true}
+use mathlib.Core.List.{List, [], _∷_, _++_, map}
 use borrow.Author.Count.{below-more}
 use borrow.Author.Tests.{lt-ltb, le-ltb}
 use lib.Bits.{bitAnd}
 use lib.Dec.{T, ltb, not-T}
 use lib.ListN.{getD}
 use Rattle.model.specs.declared.Term.{Term}
-use Rattle.model.specs.Base.{bit, below, every, some, filter, join, implies}
-use Rattle.model.specs.Table.{Table, Cell, cell, cells, isOn, onCells, holds}
+use Rattle.model.specs.Base.{bit, below, every, some, join, implies}
+use Rattle.model.specs.Table.{Cell, onCells, holds}
 use Rattle.model.specs.Sets.{rowOf, covers, coverable}
 use Rattle.model.proofs.Lists.{every-e, every-i, below-e, below-i, T-true, T-false}
-use Rattle.incidence.specs.Rows.{hasVertex, Driving, cellHeld, vertexHeld, TellsCoverable}
-use Rattle.table.proofs.Lists.{filter-append}
-use Rattle.incidence.proofs.Candidates.{cell-row, held-row}
+use Rattle.incidence.specs.Rows.{hasVertex, Driving, cellRow, vertexRows, cellHeld, vertexHeld, TellsCoverable}
+use Rattle.table.specs.Lists.{parts}
+use Rattle.incidence.proofs.Candidates.{held-row}
+use Rattle.incidence.proofs.Matrix.{rowsAt, cells-rows}
 
 -- ---- a test of the numbers below k, one by one
 
@@ -66,37 +67,28 @@ every-append f (x ∷ xs) ys = go (f x) (every-append f xs ys)
     go true h = h
     go false h = refl
 
--- a test of parts that are filtered
-fused : (h : Cell → Bool) (f : Cell → Bool) (part : ℕ → List Cell) (row : ℕ → Bool) (xs : List ℕ)
-    → ((x : ℕ) → List·Memᴰ x xs → row x ≡ every h (filter f (part x))) → every row xs ≡ every h (filter f (join (map part xs)))
-fused h f part row [] e = refl
-fused h f part row (x ∷ xs) e =
-    ap₂ _&&_ (e x (List·Memᴰ·head refl)) (fused h f part row xs (λ y m. e y (List·Memᴰ·tail m)))
-    ∙ sym (every-append h (filter f (part x)) (filter f (join (map part xs))))
-    ∙ ap (every h) (sym (filter-append f (part x) (join (map part xs))))
+-- a test of lists that passes where each entry passes another
+every-parts : {A B : Type 0} (f : A → Bool) (g : B → Bool) (part : A → List B) → ((x : A) → f x ≡ every g (part x)) → (xs : List A)
+    → every f xs ≡ every g (join (map part xs))
+every-parts f g part h [] = refl
+every-parts f g part h (x ∷ xs) = ap₂ _&&_ (h x) (every-parts f g part h xs) ∙ sym (every-append g (part x) (join (map part xs)))
 
--- one vertex
-vertex-is : (p : Table) (ts : List Term) (driving : List ℕ) (v : ℕ) (js : List ℕ) → ((j : ℕ) → List·Memᴰ j js → bitAnd (rowOf hasVertex ts v) (getD driving j 0) ≡ rowOf holds ts (cell v j))
-    → every (cellHeld (getD (p .on) v 0) (rowOf hasVertex ts v) driving) js ≡ every (λ c. some (λ t. holds t c) ts) (filter (isOn p) (map (cell v) js))
-unfolding isOn cellHeld
-vertex-is p ts driving v [] e = refl
-vertex-is p ts driving v (j ∷ js) e = go (bit j (getD (p .on) v 0)) (vertex-is p ts driving v js (λ i m. e i (List·Memᴰ·tail m)))
+-- a cell is held where its row, if it has one, is not empty
+cell-is : (on cubes : ℕ) (driving : List ℕ) (j : ℕ) → cellHeld on cubes driving j ≡ every (ltb 0) (cellRow on (bitAnd cubes (getD driving j 0)) j)
+unfolding cellHeld cellRow
+cell-is on cubes driving j = go (bit j on)
   where
-    held : Cell → Bool
-    held c = some (λ t. holds t c) ts
+    row : ℕ
+    row = bitAnd cubes (getD driving j 0)
 
-    others : List Cell
-    others = filter (isOn p) (map (cell v) js)
+    go : (b : Bool) → implies b (ltb 0 row) ≡ every (ltb 0) (cond b (row ∷ []) [])
+    go true = sym (and-true (ltb 0 row))
+    go false = refl
 
-    behind : Bool
-    behind = every (cellHeld (getD (p .on) v 0) (rowOf hasVertex ts v) driving) js
-
-    here : ltb 0 (bitAnd (rowOf hasVertex ts v) (getD driving j 0)) ≡ some (λ t. holds t (cell v j)) ts
-    here = ap (ltb 0) (e j (List·Memᴰ·head refl)) ∙ held-row holds ts (cell v j)
-
-    go : (b : Bool) → behind ≡ every held others → (implies b (ltb 0 (bitAnd (rowOf hasVertex ts v) (getD driving j 0))) && behind) ≡ every held (cond b (cell v j ∷ others) others)
-    go true h = ap₂ _&&_ here h
-    go false h = h
+-- no row of some cells is empty where each of them is held
+rows-held : (ts : List Term) (cs : List Cell) → every (ltb 0) (map (rowOf holds ts) cs) ≡ every (λ c. some (λ t. holds t c) ts) cs
+rows-held ts [] = refl
+rows-held ts (c ∷ cs) = ap₂ _&&_ (held-row holds ts c) (rows-held ts cs)
 
 module _ (on : List ℕ) (ts : List Term) (driving : List ℕ) (m : ℕ) where
   -- each on cell of vertex v is held
@@ -115,16 +107,16 @@ module _ (on : List ℕ) (ts : List Term) (driving : List ℕ) (m : ℕ) where
 
   module _ (n s : ℕ) (size : s ≡ 2 ^ n) (d : Driving ts m driving) where
     coverable-is : (r : Bool) → r ≡ every heldAt (below s) → TellsCoverable on n m ts r
-    unfolding cells onCells coverable covers
+    unfolding coverable covers vertexRows
     coverable-is r h p o =
-        let i : s ≡ 2 ^ p .n = omega (arith, ap (λ (x : ℕ). 2 ^ x) (o .inputs)) in
-        h ∙ ap (λ (k : ℕ). every heldAt (below k)) i ∙ fused (λ c. some (λ t. holds t c) ts) (isOn p) (λ v. map (cell v) (below (p .m))) heldAt (below (2 ^ p .n)) row
+        h
+        ∙ every-parts heldAt (ltb 0) (rowsAt on ts driving m) vertex (below s)
+        ∙ ap (λ (k : ℕ). every (ltb 0) (parts (rowsAt on ts driving m) k)) size
+        ∙ ap (every (ltb 0)) (cells-rows on ts driving n m d p o)
+        ∙ rows-held ts (onCells p)
       where
-        row : (v : ℕ) → List·Memᴰ v (below (2 ^ p .n)) → heldAt v ≡ every (λ c. some (λ t. holds t c) ts) (filter (isOn p) (map (cell v) (below (p .m))))
-        row v q =
-            let b : v < 2 ^ n = subst (λ (x : ℕ). v < 2 ^ x) (o .inputs) (below-e (2 ^ p .n) q) in
-            ap₂ (λ (x y : ℕ). vertexHeld x (rowOf hasVertex ts v) driving y) (o .bytes v b) (sym (o .outputs))
-            ∙ vertex-is p ts driving v (below (p .m)) (λ j w. ap (bitAnd (rowOf hasVertex ts v)) (d .sets j (subst (λ (x : ℕ). j < x) (o .outputs) (below-e (p .m) w))) ∙ cell-row ts v j)
+        vertex : (v : ℕ) → heldAt v ≡ every (ltb 0) (rowsAt on ts driving m v)
+        vertex v = every-parts _ (ltb 0) _ (cell-is (getD on v 0) (rowOf hasVertex ts v) driving) (below m)
 
     pub all-held : (k : ℕ) → s ≤ k → VerticesHeld k → TellsCoverable on n m ts true
     all-held k l h = coverable-is true (all-pass heldAt k s l (h .passed))

@@ -13,7 +13,7 @@ use Rattle.model.specs.Table.{Table, Cell, cell, cells, isOn, onCells, holds}
 use Rattle.model.specs.Sets.{rowOf}
 use Rattle.model.proofs.Lists.{below-e}
 use Rattle.table.specs.Lists.{parts}
-use Rattle.incidence.specs.Rows.{hasVertex, Driving, Put, Appends, cellRow, vertexRows, AllRows}
+use Rattle.incidence.specs.Rows.{OnBytes, hasVertex, Driving, Put, Appends, cellRow, vertexRows, AllRows}
 use Rattle.table.proofs.Lists.{filter-append, parts-next}
 use Rattle.incidence.proofs.Candidates.{cell-row}
 
@@ -133,17 +133,21 @@ vertex-is p ts driving v (j ∷ js) e = go (bit j (getD (p .on) v 0)) (vertex-is
     go true h = ap₂ (λ (x : ℕ) (l : List ℕ). x ∷ l) (e j (List·Memᴰ·head refl)) h
     go false h = h
 
-pub rows-all : (on : List ℕ) (ts : List Term) (driving : List ℕ) (n m k s : ℕ) (old new : List ℕ) (r : ℕ) → s ≡ 2 ^ n → Driving ts m driving → s ≤ k
-    → k ≤ s → RowsBelow on ts driving m k old new r → AllRows on n m ts old new r
+pub cells-rows : (on : List ℕ) (ts : List Term) (driving : List ℕ) (n m : ℕ) → Driving ts m driving → (p : Table) → OnBytes p n m on
+    → parts (rowsAt on ts driving m) (2 ^ n) ≡ map (rowOf holds ts) (onCells p)
 unfolding cells onCells vertexRows
-rows-all on ts driving n m k s old new r e d l g u p o =
-    let i : k ≡ 2 ^ p .n = omega (arith, ap (λ (x : ℕ). 2 ^ x) (o .inputs)) in
-    subst (λ (xs : List ℕ). Put xs old new r)
-    (ap (parts (rowsAt on ts driving m)) i ∙ fused (rowOf holds ts) (isOn p) (λ v. map (cell v) (below (p .m))) (rowsAt on ts driving m) (below (2 ^ p .n)) row)
-    (u .put)
+cells-rows on ts driving n m d p o =
+    ap (λ (k : ℕ). parts (rowsAt on ts driving m) (2 ^ k)) (sym (o .inputs))
+    ∙ fused (rowOf holds ts) (isOn p) (λ v. map (cell v) (below (p .m))) (rowsAt on ts driving m) (below (2 ^ p .n)) row
   where
     row : (v : ℕ) → List·Memᴰ v (below (2 ^ p .n)) → rowsAt on ts driving m v ≡ map (rowOf holds ts) (filter (isOn p) (map (cell v) (below (p .m))))
     row v q =
         let b : v < 2 ^ n = subst (λ (x : ℕ). v < 2 ^ x) (o .inputs) (below-e (2 ^ p .n) q) in
         ap₂ (λ (x y : ℕ). vertexRows x (rowOf hasVertex ts v) driving y) (o .bytes v b) (sym (o .outputs))
         ∙ vertex-is p ts driving v (below (p .m)) (λ j w. ap (bitAnd (rowOf hasVertex ts v)) (d .sets j (subst (λ (x : ℕ). j < x) (o .outputs) (below-e (p .m) w))) ∙ cell-row ts v j)
+
+pub rows-all : (on : List ℕ) (ts : List Term) (driving : List ℕ) (n m k s : ℕ) (old new : List ℕ) (r : ℕ) → s ≡ 2 ^ n → Driving ts m driving → s ≤ k
+    → k ≤ s → RowsBelow on ts driving m k old new r → AllRows on n m ts old new r
+rows-all on ts driving n m k s old new r e d l g u p o =
+    let i : k ≡ 2 ^ n = omega arith in
+    subst (λ (xs : List ℕ). Put xs old new r) (ap (parts (rowsAt on ts driving m)) i ∙ cells-rows on ts driving n m d p o) (u .put)

@@ -12,31 +12,33 @@ use lib.Pow.{pow-mono}
 use lib.Seq.{take-suc, take-length, drop-cons, getD-drop}
 use Rattle.model.specs.Base.{from, below, some, join, All}
 use Rattle.model.specs.declared.Term.{Term}
-use Rattle.model.specs.Table.{Table, formed, holdsNoOff}
+use Rattle.model.specs.Table.{Table}
 use Rattle.model.specs.Sets.{coverable}
 use Rattle.model.specs.Candidates.{basis, covering}
-use Rattle.model.specs.Commands.{basisOf}
+use Rattle.model.specs.Commands as model
+use Rattle.model.specs.Commands.{basisOf, tableOf}
 use Rattle.model.specs.Refusals.{Refusal, refuse, firstOf, size, badRow}
 use Rattle.model.specs.Library.{unpack, badVertex, refusalsOfWord, callRefusals, listCovers}
 use Rattle.model.proofs.Lists.{T-true, and-l, and-r, some-i, below-i, all-append}
-use Rattle.model.proofs.Cubes.{formed-e}
 use Rattle.model.proofs.Runs.{Numbered, first-before, first-behind}
 use Rattle.model.proofs.Library.{listed-refused}
 use Rattle.table.specs.Lists.{Filled}
-use Rattle.table.specs.Cubes.{Allowed, MayOf, TellsFormed, TellsNoOff}
-use Rattle.lister.specs.declared.cursor.PageFill as page
+use Rattle.table.specs.Cubes.{Allowed, MayOf}
 use Rattle.rows.specs.Covers.{rowCovers}
 use Rattle.lister.specs.Lister.{Paged}
 use Rattle.answers.specs.Writers.{InFront}
 use Rattle.answers.proofs.Bytes.{one-more, same-long}
 use Rattle.problem.specs.declared.Problem.{Problem}
-use Rattle.problem.specs.Problems.{Sized, Holds}
+use Rattle.problem.specs.declared.matrix.Matrix.{Matrix}
+use Rattle.problem.specs.Problems.{listed, Sized, Holds}
+use Rattle.problem.specs.Refusing.{TermRefusal}
 use Rattle.problem.specs.Matrix.{RowsOf, Prepares, TellsCovered}
 use Rattle.problem.proofs.Keeping.{zero-at, none-given}
-use Rattle.problem.proofs.Testing.{held-rows}
+use Rattle.problem.proofs.Refusing.{held-rows}
 use Rattle.problem.proofs.Preparing.{rows-listed}
+use Rattle.library.specs.declared.Listed.{Listed}
 use Rattle.library.specs.declared.Listed.the-variants.{Filled as FilledWith, Refused}
-use Rattle.library.specs.Library.{Answers, tableOf, rightSizes, someBad, tableRefusals, Admitted, TableRefusal, problemOf, Padded, WordRefusal, WordsRefusal, PageOf}
+use Rattle.library.specs.Library.{Answers, calledTable, rightSizes, someBad, tableRefusals, Admitted, TableRefusal, problemOf, Padded, WordRefusal, WordsRefusal, RowFilled}
 
 -- ---- 6
 
@@ -156,27 +158,28 @@ padded-at row all f v = ap (λ (l : List ℕ). getD l v 0) (f .bytes) ∙ before
 padded-size : (row all : List ℕ) → length row ≤ 256 → Padded row all → length all ≡ 256
 padded-size row all h f = same-long row (replicate 256 0) all (length row) f (omega (arith, length-replicate {A = ℕ} 256 0)) ∙ length-replicate {A = ℕ} 256 0
 
-pub call-holds : (n m : ℕ) (on dc words on' dc' : List ℕ) (terms : List Term) → length on ≤ 256 → length dc ≤ 256 → Padded on on' → Padded dc dc' → Filled 64 (map unpack words) terms (length words)
-    → Holds (record { n = n; m = m; place = 4; on = on'; dc = dc'; given = replicate 256 0; terms = terms; count = length words }) (problemOf (tableOf n m on dc) words)
-call-holds n m on dc words on' dc' terms h k f g t = record {
+pub call-holds : (words : List ℕ) {n m : ℕ} {on dc on' dc' : List ℕ} {terms : List Term} → length on ≤ 256 → length dc ≤ 256 → Padded on on' → Padded dc dc' → Filled 64 (map unpack words) terms (length words)
+    → Holds (record { place = model.queried; settings = record { n = n; m = m }; rows = record { on = on'; dc = dc'; given = replicate 256 0 }; candidates = listed terms (length words) }) (problemOf (calledTable n m on dc) words)
+call-holds words {n} {m} {on} {dc} {on'} {dc'} {terms} h k f g t = record {
   place = refl;
-  inputs = refl;
-  outputs = refl;
-  on-size = padded-size on on' h f;
-  dc-size = padded-size dc dc' k g;
-  given-size = length-replicate {A = ℕ} 256 0;
-  on-bytes = λ v l. padded-at on on' f v;
-  dc-bytes = λ v l. padded-at dc dc' g v;
-  rows = λ v l. none-given v;
+  settings = record { inputs = refl; outputs = refl };
+  rows = record {
+    on-size = padded-size on on' h f;
+    dc-size = padded-size dc dc' k g;
+    given-size = length-replicate {A = ℕ} 256 0;
+    on-bytes = λ v l. padded-at on on' f v;
+    dc-bytes = λ v l. padded-at dc dc' g v;
+    given = λ v l. none-given v;
+  };
   cands = t;
 }
 
-module _ (p : Table) (count : ℕ) (a : Admitted p count) where
+module _ {p : Table} {count : ℕ} (a : Admitted p count) where
   pub call-room : (length (p .on) ≤ 256) × (length (p .dc) ≤ 256) × (count ≤ 64)
   call-room = (omega (arith, a .on-size, pow-mono (a .inputs)), omega (arith, a .dc-size, pow-mono (a .inputs)), a .few)
 
-pub call-sized : (r : Problem) (p : Table) (words : List ℕ) → Admitted p (length words) → Holds r (problemOf p words) → Sized r
-call-sized r p words a h = record { inputs = omega (arith, h .inputs, a .inputs); outputs = omega (arith, h .outputs, a .outputs); few = omega (arith, h .cands .counted, length-map words unpack, a .few) }
+pub call-sized : (words : List ℕ) {r : Problem} {p : Table} → Admitted p (length words) → Holds r (problemOf p words) → Sized r
+call-sized words {r} {p} a h = record { inputs = omega (arith, h .settings .inputs, a .inputs); outputs = omega (arith, h .settings .outputs, a .outputs); few = omega (arith, h .cands .counted, length-map words unpack, a .few) }
 
 -- ---- 9 and 10
 
@@ -184,22 +187,9 @@ module _ (may : List ℕ) (n m w : ℕ) where
   pub word-top : (w / 16777216 ≡ 0 → ⊥) → WordRefusal may n m w 9
   word-top d p a o = rw (ne-eqb (w / 2 ^ 24) 0 d)
 
-  module _ (t : Term) (e : t ≡ unpack w) (z : w / 16777216 ≡ 0) (f : Bool) (formed-is : TellsFormed n m t f) where
-    formed-here : (p : Table) → Allowed p n may → p .m ≡ m → f ≡ formed p (unpack w)
-    formed-here p a o = formed-is p (a .inputs) o ∙ ap (formed p) e
-
-    pub word-malformed : f ≡ false → WordRefusal may n m w 9
-    word-malformed k p a o = rw (eq-eqb (w / 2 ^ 24) 0 z, ← formed-here p a o, k)
-
-    module _ (g : Bool) (no-off : TellsNoOff may n t g) (k : f ≡ true) where
-      no-off-here : (p : Table) → Allowed p n may → p .m ≡ m → g ≡ holdsNoOff p (unpack w)
-      no-off-here p a o = no-off p a (formed-e p t (subst (λ (b : Bool). T b) (sym k ∙ formed-is p (a .inputs) o) tt) .outputs-lt) ∙ ap (holdsNoOff p) e
-
-      pub word-off : g ≡ false → WordRefusal may n m w 10
-      word-off i p a o = rw (eq-eqb (w / 2 ^ 24) 0 z, ← formed-here p a o, k, ← no-off-here p a o, i)
-
-      pub word-good : g ≡ true → WordRefusal may n m w 0
-      word-good i p a o = rw (eq-eqb (w / 2 ^ 24) 0 z, ← formed-here p a o, k, ← no-off-here p a o, i)
+  -- without a top byte it is the term's
+  pub word-term : (t : Term) (r : ℕ) → t ≡ unpack w → w / 16777216 ≡ 0 → TermRefusal may n m t r → WordRefusal may n m w r
+  word-term t r e z f p a o = rw (eq-eqb (w / 2 ^ 24) 0 z, ← e) (f p a o)
 
 abbrev refusalsOfWords : Table → List ℕ → List Refusal
 refusalsOfWords p words = join (map (refusalsOfWord p) words)
@@ -217,31 +207,47 @@ module _ (may : List ℕ) (n m : ℕ) (words : List ℕ) where
     pub within : i ≤ length words
     pub left : (p : Table) → Allowed p n may → p .m ≡ m → firstOf (refusalsOfWords p words) ≡ firstOf (refusalsOfWords p (drop i words))
 
-  pub passed-first : PassedBelow 0
+module _ {may : List ℕ} {n m : ℕ} {words : List ℕ} where
+  pub passed-first : PassedBelow may n m words 0
   passed-first = record { within = omega arith; left = λ p a o. refl }
 
-  module _ (i r : ℕ) (l : i < length words) (w : WordRefusal may n m (getD words i 0) r) (b : PassedBelow i) where
+  module _ {i r : ℕ} (l : i < length words) (w : WordRefusal may n m (getD words i 0) r) (b : PassedBelow may n m words i) where
     here : (p : Table) → Allowed p n may → p .m ≡ m → firstOf (refusalsOfWords p words) ≡ firstOf (refusalsOfWord p (getD words i 0) ++ refusalsOfWords p (drop (suc i) words))
     here p a o = b .left p a o ∙ ap (λ (ws : List ℕ). firstOf (refusalsOfWords p ws)) (drop-cons words i 0 l)
 
     pub word-refused : (r ≡ 0 → ⊥) → (p : Table) → Allowed p n may → p .m ≡ m → r ≡ firstOf (refusalsOfWords p words)
     word-refused d p a o = w p a o ∙ sym (here p a o ∙ first-before (refusalsOfWord p (getD words i 0)) (refusalsOfWords p (drop (suc i) words)) (λ z. d (w p a o ∙ z)))
 
-    pub passed-next : r ≡ 0 → PassedBelow (i + 1)
-    passed-next z = rw (add-one i) record { within = l; left = λ p a o. here p a o ∙ first-behind (refusalsOfWord p (getD words i 0)) (refusalsOfWords p (drop (suc i) words)) (word-numbered p (getD words i 0)) (sym (w p a o) ∙ z) }
+    pub passed-next : r ≡ 0 → PassedBelow may n m words (i + 1)
+    passed-next z = rw (add-one i) record {
+      within = l;
+      left = λ p a o. here p a o ∙ first-behind (refusalsOfWord p (getD words i 0)) (refusalsOfWords p (drop (suc i) words)) (word-numbered p (getD words i 0)) (sym (w p a o) ∙ z);
+    }
 
-  pub passed-words : (i : ℕ) → length words ≤ i → PassedBelow i → (p : Table) → Allowed p n may → p .m ≡ m → 0 ≡ firstOf (refusalsOfWords p words)
-  passed-words i l b p a o = sym (b .left p a o ∙ ap (λ (ws : List ℕ). firstOf (refusalsOfWords p ws)) (drop-of-length-le words l))
+  pub passed-words : {i : ℕ} → length words ≤ i → PassedBelow may n m words i → (p : Table) → Allowed p n may → p .m ≡ m → 0 ≡ firstOf (refusalsOfWords p words)
+  passed-words {i} l b p a o = sym (b .left p a o ∙ ap (λ (ws : List ℕ). firstOf (refusalsOfWords p ws)) (drop-of-length-le words l))
 
 -- in the table that p holds
-pub words-here : (p : Problem) (may words : List ℕ) (r : ℕ) → Sized p → MayOf (p .on) (p .dc) may → ((t : Table) → Allowed t (p .n) may → t .m ≡ p .m → r ≡ firstOf (join (map (refusalsOfWord t) words))) → WordsRefusal p words r
-words-here p may words r z of f q h g = f (q .table) (of (q .table) (p .n) (z .inputs) (held-rows p q z h g)) (sym (h .outputs))
+pub words-here : (words : List ℕ) {p : Problem} {may : List ℕ} {r : ℕ} → Sized p → MayOf (p .rows .on) (p .rows .dc) may → ((t : Table) → Allowed t (p .settings .n) may → t .m ≡ p .settings .m → r ≡ firstOf (join (map (refusalsOfWord t) words))) → WordsRefusal p words r
+words-here words {p} {may} {r} z of f q h g = f (tableOf q) (of (tableOf q) (p .settings .n) (z .inputs) (held-rows p q z h g)) (sym (h .settings .outputs))
 
 -- ---- the sets
 
-pub page-of : (p : Problem) (out rows : List ℕ) (r n start : ℕ) (old new : List ℕ) (f : page.PageFill) → Prepares p out r → rows ≡ take r out → n ≡ p .count → Paged (rowCovers n rows) start old new f → PageOf p start old new f
-page-of p out rows r n start old new f d e m w q h =
-    subst (λ (all : List ℕ). Paged all start old new f) (rows-listed p q rows n h (subst⁻¹ (λ (l : List ℕ). RowsOf (basisOf q) l) e (d .rows q h)) m) w
+module _ {p : Problem} {out : List ℕ} {m : Matrix} (d : Prepares p out m) where
+  told : (b : Bool) → m .covered ≡ b → TellsCovered p b
+  told b e q h = sym e ∙ d .matrix q h .told
+
+  pub row-filled : {rows : List ℕ} {n start k : ℕ} {b : Bool} {old new : List ℕ} → m .covered ≡ true → rows ≡ take (m .count) out → n ≡ p .candidates .count
+      → Paged (rowCovers n rows) start old new (record { count = k; more = b }) → RowFilled p start old new (FilledWith k b)
+  row-filled {rows} {n} {start} {k} {b} {old} {new} c e i w = (
+    told true c,
+    λ q h.
+        let r : RowsOf (basisOf q) rows = subst⁻¹ (λ (l : List ℕ). RowsOf (basisOf q) l) e (d .matrix q h .rows-of) in
+        subst (λ (all : List ℕ). Paged all start old new (record { count = k; more = b })) (rows-listed p q rows n h r i) w,
+  )
+
+  pub row-refused : (start : ℕ) {old : List ℕ} → m .covered ≡ false → RowFilled p start old old (Refused 12)
+  row-refused start c = (told false c, refl, refl)
 
 -- ---- the answer
 
@@ -249,39 +255,35 @@ abbrev lastRefusal : Table → List ℕ → List Refusal
 lastRefusal p words = refuse 12 (not (coverable (covering (basis p (map unpack words))))) ∷ []
 
 module _ (p : Table) (words : List ℕ) (start : ℕ) (old : List ℕ) where
-  call-refused : (r : ℕ) → r ≡ firstOf (callRefusals p words) → (r ≡ 0 → ⊥) → Answers (listCovers p words start old) (Refused r) old
-  call-refused r e d =
+  call-refused : {r : ℕ} → r ≡ firstOf (callRefusals p words) → (r ≡ 0 → ⊥) → Answers (listCovers p words start old) (Refused r) old
+  call-refused {r} e d =
       let l = listed-refused p words start old (rw (ne-eqb (firstOf (callRefusals p words)) 0 (λ z. d (e ∙ z))) tt) in
-      record { number = e ∙ sym (l .number); filled = sym (l .filled); above = sym (l .above); row = sym (l .row) }
+      let n : r ≡ listCovers p words start old .number = e ∙ sym (l .number) in
+      record { answer = rw (← n, ne-eqb r 0 d); number = n; filled = sym (l .filled); above = sym (l .above); row = sym (l .row) }
 
-  pub call-table : (r : ℕ) → TableRefusal p (length words) r → (r ≡ 0 → ⊥) → Answers (listCovers p words start old) (Refused r) old
-  unfolding callRefusals
-  call-table r f d = call-refused r (f .first ∙ sym (first-before (tableRefusals p (length words)) (refusalsOfWords p words ++ lastRefusal p words) (λ z. d (f .first ∙ z)))) d
-
-  module _ (r : ℕ) (f : TableRefusal p (length words) r) (z : r ≡ 0) where
-    behind-table : firstOf (callRefusals p words) ≡ firstOf (refusalsOfWords p words ++ lastRefusal p words)
+  module _ {r : ℕ} (f : TableRefusal p (length words) r) where
+    pub call-table : (r ≡ 0 → ⊥) → Answers (listCovers p words start old) (Refused r) old
     unfolding callRefusals
-    behind-table = first-behind (tableRefusals p (length words)) (refusalsOfWords p words ++ lastRefusal p words) (omega arith, (omega arith, (omega arith, tt))) (sym (f .first) ∙ z)
+    call-table d = call-refused (f .first ∙ sym (first-before (tableRefusals p (length words)) (refusalsOfWords p words ++ lastRefusal p words) (λ z. d (f .first ∙ z)))) d
 
-    module _ (q : Problem) (h : Holds q (problemOf p words)) (w : ℕ) (g : WordsRefusal q words w) where
+    -- behind 6, 8 and 11
+    module _ (z : r ≡ 0) {q : Problem} (h : Holds q (problemOf p words)) {w : ℕ} (g : WordsRefusal q words w) where
+      behind-table : firstOf (callRefusals p words) ≡ firstOf (refusalsOfWords p words ++ lastRefusal p words)
+      unfolding callRefusals
+      behind-table = first-behind (tableRefusals p (length words)) (refusalsOfWords p words ++ lastRefusal p words) (omega arith, (omega arith, (omega arith, tt))) (sym (f .first) ∙ z)
+
       words-first : w ≡ firstOf (refusalsOfWords p words)
       words-first = g (problemOf p words) h (f .admitted z .good)
 
       pub call-words : (w ≡ 0 → ⊥) → Answers (listCovers p words start old) (Refused w) old
-      call-words d = call-refused w (words-first ∙ sym (behind-table ∙ first-before (refusalsOfWords p words) (lastRefusal p words) (λ i. d (words-first ∙ i)))) d
+      call-words d = call-refused (words-first ∙ sym (behind-table ∙ first-before (refusalsOfWords p words) (lastRefusal p words) (λ i. d (words-first ∙ i)))) d
 
-      module _ (i : w ≡ 0) (c : Bool) (t : TellsCovered q c) where
-        behind-words : firstOf (callRefusals p words) ≡ firstOf (lastRefusal p words)
-        behind-words = behind-table ∙ first-behind (refusalsOfWords p words) (lastRefusal p words) (words-numbered p words) (sym words-first ∙ i)
+      behind-words : w ≡ 0 → (c : Bool) → TellsCovered q c → firstOf (callRefusals p words) ≡ firstOf (refuse 12 (not c) ∷ [])
+      behind-words i c t = behind-table ∙ first-behind (refusalsOfWords p words) (lastRefusal p words) (words-numbered p words) (sym words-first ∙ i) ∙ rw (← t (problemOf p words) h)
 
-        pub call-uncovered : c ≡ false → Answers (listCovers p words start old) (Refused 12) old
-        call-uncovered k = call-refused 12 (sym (behind-words ∙ rw (← t (problemOf p words) h, k))) (λ e. omega (arith, e))
-
-        none-left : c ≡ true → firstOf (callRefusals p words) ≡ 0
-        none-left k = behind-words ∙ rw (← t (problemOf p words) h, k)
-
-        pub call-filled : c ≡ true → (new : List ℕ) (s : page.PageFill) → PageOf q start old new s → Answers (listCovers p words start old) (FilledWith (s .count) (s .more)) new
-        unfolding listCovers
-        call-filled k new s o =
-            let a = o (problemOf p words) h in
-            rw (none-left k) record { number = refl; filled = a .count; above = a .more; row = a .row }
+      pub call-row : w ≡ 0 → (r : Listed) {new : List ℕ} → RowFilled q start old new r → Answers (listCovers p words start old) r new
+      unfolding listCovers
+      call-row i (FilledWith k b) {new} f =
+          let a = f .1 (problemOf p words) h in
+          rw (behind-words i true (f .0)) record { answer = rw (a .count, a .more); number = refl; filled = a .count; above = a .more; row = a .row }
+      call-row i (Refused n) {new} f = rw (f .2, f .1) (call-refused (sym (behind-words i false (f .0))) (λ e. omega (arith, e)))

@@ -1,7 +1,7 @@
 -- What the contracts of the library call cite: what its answer stands for, and the steps on the way to it.
 use Prim.Native.Nat.{ℕ, _^_, _≤_, _<_}
 use mathlib.Core.Path.{_≡_}
-use mathlib.Core.Bool.{Bool, false, not, _&&_}
+use mathlib.Core.Bool.{Bool, true, false, not, cond, _&&_}
 use mathlib.Core.List.{List, [], _∷_, map}
 use lib.Dec.{T, ltb, eqb}
 use lib.ListN.{getD, length, replicate}
@@ -10,16 +10,16 @@ use Rattle.model.specs.Table.{Table}
 use Rattle.model.specs.Sets.{irredundants}
 use Rattle.model.specs.Candidates.{covering}
 use Rattle.model.specs.Commands as model
-use Rattle.model.specs.Commands.{basisOf}
+use Rattle.model.specs.Commands.{basisOf, tableOf}
 use Rattle.model.specs.Refusals.{Refusal, refuse, firstOf, size, badRow}
 use Rattle.model.specs.Library as model-library
 use Rattle.model.specs.Library.{unpack, badVertex, refusalsOfWord}
 use Rattle.table.specs.Cubes.{Allowed}
-use Rattle.lister.specs.declared.cursor.PageFill as page
 use Rattle.lister.specs.Lister.{Paged}
 use Rattle.answers.specs.Writers.{InFront}
 use Rattle.problem.specs.declared.Problem.{Problem}
 use Rattle.problem.specs.Problems.{Holds}
+use Rattle.problem.specs.Matrix.{TellsCovered}
 use Rattle.library.specs.declared.Listed.{Listed}
 use Rattle.library.specs.declared.Listed.the-variants.{Filled, Refused}
 
@@ -40,8 +40,13 @@ abbrev pub aboveOf : Listed → Bool
 aboveOf (Filled k b) = b
 aboveOf (Refused r) = false
 
--- the answer r and the row after the call are what the definitions tell
+-- the answer that the definitions give
+abbrev pub answerOf : model-library.Listed → Listed
+answerOf l = cond (eqb (l .number) 0) (Filled (l .filled) (l .above)) (Refused (l .number))
+
+-- the answer r is that one, it stands for what the definitions tell, and the row after the call is theirs
 pub record Answers (l : model-library.Listed) (r : Listed) (new : List ℕ) : Type 0 where
+  pub answer : r ≡ answerOf l
   pub number : numberOf r ≡ l .number
   pub filled : filledOf r ≡ l .filled
   pub above : aboveOf r ≡ l .above
@@ -50,8 +55,8 @@ pub record Answers (l : model-library.Listed) (r : Listed) (new : List ℕ) : Ty
 -- ---- 6, 8 and 11
 
 -- the table of a call
-abbrev pub tableOf : ℕ → ℕ → List ℕ → List ℕ → Table
-tableOf n m on dc = record { n = n; m = m; on = on; dc = dc }
+abbrev pub calledTable : ℕ → ℕ → List ℕ → List ℕ → Table
+calledTable n m on dc = record { n = n; m = m; on = on; dc = dc }
 
 -- 6 does not apply, with rows of these lengths
 abbrev pub rightSizes : ℕ → ℕ → ℕ → ℕ → Bool
@@ -87,7 +92,7 @@ pub record TableRefusal (p : Table) (count r : ℕ) : Type 0 where
 
 -- the problem that an L would find
 abbrev pub problemOf : Table → List ℕ → model.Problem
-problemOf p words = record { place = 4; table = p; rowsAt = []; cands = map unpack words }
+problemOf p words = record { place = model.queried; settings = record { n = p .n; m = p .m }; rows = record { on = p .on; dc = p .dc; given = [] }; cands = map unpack words }
 
 -- a row in front of zeros, in an array of 256
 abbrev pub Padded : List ℕ → List ℕ → Type 0
@@ -102,10 +107,11 @@ WordRefusal may n m w r = (p : Table) → Allowed p n may → p .m ≡ m → r �
 -- r is the first refusal of some terms, where the rows of the table that p holds are well formed; 0 where they meet none
 abbrev pub WordsRefusal : Problem → List ℕ → ℕ → Type 0
 WordsRefusal p words r =
-    (q : model.Problem) → Holds p q → ((v : ℕ) → v < 2 ^ q .table .n → T (not (badVertex (q .table) v))) → r ≡ firstOf (join (map (refusalsOfWord (q .table)) words))
+    (q : model.Problem) → Holds p q → ((v : ℕ) → v < 2 ^ q .settings .n → T (not (badVertex (tableOf q) v))) → r ≡ firstOf (join (map (refusalsOfWord (tableOf q)) words))
 
 -- ---- the sets
 
--- the page of the problem that p holds
-abbrev pub PageOf : Problem → ℕ → List ℕ → List ℕ → page.PageFill → Type 0
-PageOf p start old new f = (q : model.Problem) → Holds p q → Paged (irredundants (covering (basisOf q))) start old new f
+-- 12 and the row as it was, or the page of the problem that p holds
+abbrev pub RowFilled : Problem → ℕ → List ℕ → List ℕ → Listed → Type 0
+RowFilled p start old new (Filled k b) = TellsCovered p true × ((q : model.Problem) → Holds p q → Paged (irredundants (covering (basisOf q))) start old new (record { count = k; more = b }))
+RowFilled p start old new (Refused n) = TellsCovered p false × (n ≡ 12) × (new ≡ old)

@@ -9,15 +9,17 @@ ghost use lib.ListN.{length};
 ghost use Rattle.model.specs.Library.{unpack, listCovers};
 ghost use Rattle.table.specs.Lists as lists;
 ghost use Rattle.problem.specs.Problems.{Sized, Holds};
-ghost use Rattle.library.specs.Library.{Answers, tableOf, rightSizes, someBad, TableRefusal, problemOf, Padded, WordRefusal, WordsRefusal, PageOf};
+ghost use Rattle.library.specs.Library.{Answers, calledTable, rightSizes, someBad, TableRefusal, problemOf, Padded, WordRefusal, WordsRefusal, RowFilled};
 use bits::byte;
 use lister::cursor;
 use model::Term;
+use problem::Candidates;
 use problem::Problem;
+use problem::Settings;
+use problem::TableRows;
 use problem::matrix;
-use problem::tests;
+use problem::refusals;
 use table::cells;
-use table::terms;
 
 // How many sets were put into the row and whether one stands above those; or the refusal's number.
 pub enum Listed {
@@ -29,8 +31,8 @@ pub enum Listed {
 fn sizes_right(n: u8, m: u8, on: usize, dc: usize) -> bool
     ensures { λ r. ⌜ r ≡ rightSizes n m on dc ⌝ }
 {
-    if tests::is_size(n) {
-        if tests::is_size(m) {
+    if refusals::is_size(n) {
+        if refusals::is_size(m) {
             let vertices = byte::bound(n);
             if on == vertices {
                 return dc == vertices;
@@ -47,7 +49,7 @@ fn some_bad(m: u8, on: &[u8], dc: &[u8]) -> bool
 {
     let mut v: usize = 0;
     while v < on.len() {
-        if tests::bad_row(m, on[v], dc[v]) {
+        if refusals::bad_row(m, on[v], dc[v]) {
             return true;
         }
         v += 1;
@@ -57,7 +59,7 @@ fn some_bad(m: u8, on: &[u8], dc: &[u8]) -> bool
 
 // 6, 8 or 11 for a call with `count` terms, 0 where none applies.
 fn table_refusal(n: u8, m: u8, on: &[u8], dc: &[u8], count: usize) -> u8
-    ensures { λ r. ⌜ TableRefusal (tableOf n m (now (on .entry)) (now (dc .entry))) count r ⌝ }
+    ensures { λ r. ⌜ TableRefusal (calledTable n m (now (on .entry)) (now (dc .entry))) count r ⌝ }
 {
     if sizes_right(n, m, on.len(), dc.len()) {
         if some_bad(m, on, dc) {
@@ -117,20 +119,23 @@ fn terms_of(words: &[u32]) -> [Term; 64]
 // The problem of a call, behind an L.
 fn problem_of(n: u8, m: u8, on: &[u8], dc: &[u8], words: &[u32]) -> Problem
     requires { ⌜ (length (now on) ≤ 256) × (length (now dc) ≤ 256) × (length (now words) ≤ 64) ⌝ }
-    ensures { λ r. ⌜ Holds r (problemOf (tableOf n m (now (on .entry)) (now (dc .entry))) (now (words .entry))) ⌝ }
+    ensures { λ r. ⌜ Holds r (problemOf (calledTable n m (now (on .entry)) (now (dc .entry))) (now (words .entry))) ⌝ }
 {
     let on_bytes = padded(on);
     let dc_bytes = padded(dc);
     let terms = terms_of(words);
     Problem {
-        n: n,
-        m: m,
         place: 4,
-        on: on_bytes,
-        dc: dc_bytes,
-        given: [0; 256],
-        terms: terms,
-        count: words.len(),
+        settings: Settings { n: n, m: m },
+        rows: TableRows {
+            on: on_bytes,
+            dc: dc_bytes,
+            given: [0; 256],
+        },
+        candidates: Candidates {
+            terms: terms,
+            count: words.len(),
+        },
     }
 }
 
@@ -142,14 +147,7 @@ fn word_refusal(may: &[u8; 256], n: u8, m: u8, w: u32) -> u8
     if w / 16777216 != 0 {
         return 9;
     }
-    let t = unpacked(w);
-    if terms::formed(n, m, t) {
-        if terms::holds_no_off(may, n, t) {
-            return 0;
-        }
-        return 10;
-    }
-    9
+    refusals::term_refusal(may, n, m, unpacked(w))
 }
 
 // 9 or 10, term by term as far as the first that is refused; 0 where none is.
@@ -157,12 +155,14 @@ fn words_refusal(p: Problem, words: &[u32]) -> u8
     requires { ⌜ Sized p ⌝ }
     ensures { λ r. ⌜ WordsRefusal p (now (words .entry)) r ⌝ }
 {
-    let on = p.on;
-    let dc = p.dc;
+    let on = p.rows.on;
+    let dc = p.rows.dc;
+    let n = p.settings.n;
+    let m = p.settings.m;
     let may = cells::allowed(&on, &dc);
     let mut i: usize = 0;
     while i < words.len() {
-        let number = word_refusal(&may, p.n, p.m, words[i]);
+        let number = word_refusal(&may, n, m, words[i]);
         if number != 0 {
             return number;
         }
@@ -171,15 +171,19 @@ fn words_refusal(p: Problem, words: &[u32]) -> u8
     0
 }
 
-// Fills the row with the covers of a problem from `start` on.
-fn fill_row(p: Problem, start: u64, row: &mut [u64]) -> cursor::PageFill
+// 12, or the covers of a problem from `start` on, in the row.
+fn fill_row(p: Problem, start: u64, row: &mut [u64]) -> Listed
     requires { ⌜ Sized p ⌝ }
-    ensures { λ r. ⌜ PageOf p start (now (row .entry)) (now (row .exit)) r ⌝ }
+    ensures { λ r. ⌜ RowFilled p start (now (row .entry)) (now (row .exit)) r ⌝ }
 {
     let mut rows = [0u64; 2048];
-    let count = matrix::prepare(p, &mut rows);
-    let n = p.count as u64;
-    cursor::fill(&rows[..count], n, start, row)
+    let m = matrix::prepare(p, &mut rows);
+    if m.covered {
+        let count = m.count;
+        let page = cursor::fill(&rows[..count], p.candidates.count as u64, start, row);
+        return Listed::Filled(page.count, page.more);
+    }
+    Listed::Refused(12)
 }
 
 // Puts the irredundant covers at or above `start` into the row, rising, as many as fit; the rest of the row stays. The terms are
@@ -204,9 +208,5 @@ pub fn list_covers(
     if number != 0 {
         return Listed::Refused(number);
     }
-    if matrix::is_covered(p) {
-        let page = fill_row(p, start, row);
-        return Listed::Filled(page.count, page.more);
-    }
-    Listed::Refused(12)
+    fill_row(p, start, row)
 }

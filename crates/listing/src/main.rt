@@ -121,40 +121,30 @@ fn show_parity() {
     }
 }
 
+// A page by the terms of the paper's job, for rows of 2 inputs and 2 outputs.
+fn show_job(name: &[u8], on: &[u8], dc: &[u8], start: u64) {
+    show(
+        name,
+        2,
+        2,
+        on,
+        dc,
+        &[
+            0x010001u32,
+            0x030103,
+            0x020101,
+            0x020202,
+            0x030203,
+            0x010002,
+        ],
+        start,
+    );
+}
+
 // Case a, from the start and from a set on.
 fn show_pages() {
-    show(
-        b"case a: ",
-        2,
-        2,
-        &[0u8, 1, 3, 2],
-        &[1u8, 2, 0, 0],
-        &[
-            0x010001u32,
-            0x030103,
-            0x020101,
-            0x020202,
-            0x030203,
-            0x010002,
-        ],
-        0,
-    );
-    show(
-        b"case a from 23 on: ",
-        2,
-        2,
-        &[0u8, 1, 3, 2],
-        &[1u8, 2, 0, 0],
-        &[
-            0x010001u32,
-            0x030103,
-            0x020101,
-            0x020202,
-            0x030203,
-            0x010002,
-        ],
-        23,
-    );
+    show_job(b"case a: ", &[0u8, 1, 3, 2], &[1u8, 2, 0, 0], 0);
+    show_job(b"case a from 23 on: ", &[0u8, 1, 3, 2], &[1u8, 2, 0, 0], 23);
 }
 
 // Cases c and d: the same terms in another order, and another table.
@@ -175,22 +165,7 @@ fn show_others() {
         ],
         0,
     );
-    show(
-        b"case d: ",
-        2,
-        2,
-        &[1u8, 3, 3, 2],
-        &[0u8, 0, 0, 0],
-        &[
-            0x010001u32,
-            0x030103,
-            0x020101,
-            0x020202,
-            0x030203,
-            0x010002,
-        ],
-        0,
-    );
+    show_job(b"case d: ", &[1u8, 3, 3, 2], &[0u8, 0, 0, 0], 0);
 }
 
 // Cases e to h, of one input and one output.
@@ -211,22 +186,7 @@ fn show_small() {
 
 // Calls that are refused before a term is looked at, and for a word's top byte.
 fn show_refused() {
-    show(
-        b"a row too short: ",
-        2,
-        2,
-        &[0u8, 1, 3],
-        &[1u8, 2, 0, 0],
-        &[
-            0x010001u32,
-            0x030103,
-            0x020101,
-            0x020202,
-            0x030203,
-            0x010002,
-        ],
-        0,
-    );
+    show_job(b"a row too short: ", &[0u8, 1, 3], &[1u8, 2, 0, 0], 0);
     show(
         b"a top byte: ",
         2,

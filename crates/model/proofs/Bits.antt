@@ -18,7 +18,7 @@ bit0-e s t = eqb→eq (s % 2) 1 t
 pub bit0-i : (s : ℕ) → s % 2 ≡ 1 → T (bit 0 s)
 bit0-i s e = rw e tt
 
--- the other way: an even number has no bit 0
+-- a number without bit 0 is even
 pub bit0-n : (s : ℕ) → T (not (bit 0 s)) → s % 2 ≡ 0
 bit0-n s t = go (s % 2) (omega arith) refl t
   where
@@ -57,7 +57,8 @@ lacks (suc k) a s l w d = go (yes-or-no (bit 0 s)) (yes-or-no (bit 0 a)) (lacks 
     up : (i : ℕ) × (i < k) × T (bit i (s / 2)) × T (not (bit i (a / 2))) → (i : ℕ) × (i < suc k) × T (bit i s) × T (not (bit i a))
     up q = (suc (q .0), omega (arith, q .1), q .2, q .3)
 
-    go : T (bit 0 s) ⊎ T (not (bit 0 s)) → T (bit 0 a) ⊎ T (not (bit 0 a)) → (a / 2 ≢ s / 2 → (i : ℕ) × (i < k) × T (bit i (s / 2)) × T (not (bit i (a / 2)))) → (i : ℕ) × (i < suc k) × T (bit i s) × T (not (bit i a))
+    go : T (bit 0 s) ⊎ T (not (bit 0 s)) → T (bit 0 a) ⊎ T (not (bit 0 a)) → (a / 2 ≢ s / 2 → (i : ℕ) × (i < k) × T (bit i (s / 2)) × T (not (bit i (a / 2))))
+        → (i : ℕ) × (i < suc k) × T (bit i s) × T (not (bit i a))
     go (inl t) (inr u) r = (0, omega arith, t, u)
     go (inl t) (inl u) r = up (r (λ e. d (omega (arith, bit0-e s t, bit0-e a u))))
     go (inr t) (inr u) r = up (r (λ e. d (omega (arith, bit0-n s t, bit0-n a u))))

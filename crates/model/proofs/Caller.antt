@@ -1,5 +1,5 @@
 -- What a caller reads from the result and the buffer of a call that meets its contract, by any rules.
-use Prim.Native.Nat.{ℕ, _^_, _<_}
+use Prim.Native.Nat.{ℕ, _<_}
 use native.Mathlib.Omega.{arith}
 use mathlib.Core.Path.{_≡_, sym, ap, ap₂, _∙_, subst⁻¹}
 use mathlib.Core.List.{List}
@@ -20,11 +20,6 @@ module _ (rules : Rules) (law : Lawful rules) where
   pub read-written : (job : List ℕ) (room : ℕ) → read (written (runBy rules job room)) ≡ filter hasBytes (runBy rules job room .answers)
   unfolding written
   read-written job room = read-answers (runBy rules job room .answers) (run-fits rules law job room)
-
-  -- what a call returns fits a 64-bit number
-  pub packed-lt : (job : List ℕ) (room : ℕ) → packed (runBy rules job room) < 2 ^ 64
-  unfolding packed
-  packed-lt job room = let e = ends rules law job room in omega (arith, e .number-small, e .offset-small, e .written-small)
 
 module _ (rules : Rules) (law : Lawful rules) (c : Call) (m : MetBy rules c) where
   e : Ends (c .job) (length (c .before)) (ranBy rules c)
@@ -52,11 +47,16 @@ module _ (rules : Rules) (law : Lawful rules) (c : Call) (m : MetBy rules c) whe
 
   whole-is : length (c .after) ≡ length (c .before)
   unfolding bufferAfter
-  whole-is = ap length (m .after) ∙ length-append (written (ranBy rules c)) (drop (length (written (ranBy rules c))) (c .before)) ∙ omega (arith, length-drop (length (written (ranBy rules c))) (c .before), e .fits)
+  whole-is =
+      let own = written (ranBy rules c) in
+      ap length (m .after) ∙ length-append own (drop (length own) (c .before)) ∙ omega (arith, length-drop (length own) (c .before), e .fits)
 
   small-is : Bytes (c .job) → Bytes (c .before) → Bytes (c .after)
   unfolding bufferAfter
-  small-is a b = subst⁻¹ Bytes (m .after) (all-append (λ (b : ℕ). b < 256) (written (ranBy rules c)) (drop (length (written (ranBy rules c))) (c .before)) (run-bytes rules law (c .job) (length (c .before)) a) (all-drop (λ (b : ℕ). b < 256) (length (written (ranBy rules c))) (c .before) b))
+  small-is a b =
+      let own = written (ranBy rules c) in
+      let rest = all-drop (λ (b : ℕ). b < 256) (length own) (c .before) b in
+      subst⁻¹ Bytes (m .after) (all-append (λ (b : ℕ). b < 256) own (drop (length own) (c .before)) (run-bytes rules law (c .job) (length (c .before)) a) rest)
 
   answers-are : replies c ≡ filter hasBytes (ranBy rules c .answers)
   answers-are = ap read bytes-are ∙ read-written rules law (c .job) (length (c .before))

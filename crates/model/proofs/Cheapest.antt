@@ -48,14 +48,14 @@ leastOf-small f b [] r x m h = elim m [ ]
 leastOf-small f b (s ∷ ss) r x m h = least-small f s ss (r .1) x m h
 
 module _ {A X : Type 0} (k : Covering A X) where
-  pub cheapest-smallest : (s : ℕ) → Irredundant k s → cost k s ≤ cost k (cheapest k) → cheapest k ≤ s
+  cheapest-smallest : (s : ℕ) → Irredundant k s → cost k s ≤ cost k (cheapest k) → cheapest k ≤ s
   unfolding cheapest
   cheapest-smallest s r h = leastOf-small (cost k) 0 (irredundants k) (rising k) s (listed k s .1 r) h
 
   pub cheapest-best : T (coverable k) → Best k (cost k (cheapest k)) (cheapest k)
   cheapest-best c = record { tight = cheapest-irredundant k c; price = refl; least-cost = cheapest-le k; smallest = cheapest-smallest }
 
-  -- what a search has to find: the least number among the covers of least cost. It is irredundant by itself, at prices of 0 too
+  -- what a search has to find: the least number among the covers of least cost. It is irredundant by itself, at weights of 0 too
   pub least-is-best : (s : ℕ) → s < 2 ^ length (k .cands) → T (cover k s)
       → ((a : ℕ) → a < 2 ^ length (k .cands) → T (cover k a) → (cost k s ≤ cost k a) × (cost k a ≤ cost k s → s ≤ a)) → Best k (cost k s) s
   least-is-best s l c f = record {
@@ -72,7 +72,7 @@ module _ {A X : Type 0} (k : Covering A X) where
   }
 
   -- there is only one
-  pub best-one : (c d s t : ℕ) → Best k c s → Best k d t → (c ≡ d) × (s ≡ t)
+  best-one : (c d s t : ℕ) → Best k c s → Best k d t → (c ≡ d) × (s ≡ t)
   best-one c d s t p q =
       let a = p .least-cost t (q .tight .among) (q .tight .covering) in
       let b = q .least-cost s (p .tight .among) (p .tight .covering) in

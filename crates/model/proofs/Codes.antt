@@ -1,10 +1,13 @@
--- The commands: which is which.
-use mathlib.Core.Path.{_≡_, refl, sym, ap, _∙_, subst⁻¹}
-use mathlib.Core.List.{List}
-use lib.Dec.{T, eqb→eq}
-use Rattle.model.specs.Base.{some, All}
-use Rattle.model.specs.Commands.{Kind, formOf, is, kindOf, queryKinds, isQueryKind}
-use Rattle.model.proofs.Lists.{some-e, all-e}
+-- The commands: which is which, and that a query changes neither table nor candidates.
+use Prim.Native.Nat.{ℕ}
+use mathlib.Core.Path.{_≡_, refl, sym, ap, _∙_, subst}
+use mathlib.Core.Logic.{_⊎_, inl, inr}
+use mathlib.Core.Bool.{Bool, true, false, cond}
+use mathlib.Core.List.{List, [], _∷_, List·Memᴰ, List·Memᴰ·head, List·Memᴰ·tail}
+use lib.Dec.{T, eqb, eqb→eq}
+use Rattle.model.specs.Base.{All}
+use Rattle.model.specs.Commands.{Kind, formOf, is, firstKind, kinds, kindOf, queryKinds, isQueryKind, Context, basisOf, problemAfter}
+use Rattle.model.proofs.Lists.{filter-i, all-e}
 
 kind-of-code : (k : Kind) → kindOf (formOf k .code) ≡ k
 unfolding kindOf
@@ -21,9 +24,27 @@ kind-of-code Kind.none = refl
 pub is-kind : (k x : Kind) → T (is k x) → k ≡ x
 is-kind k x t = sym (kind-of-code k) ∙ ap kindOf (eqb→eq (formOf k .code) (formOf x .code) t) ∙ kind-of-code x
 
--- what holds of each of some commands holds of any of them
-one-of : (P : Kind → Type 0) (ks : List Kind) → All P ks → (k : Kind) → T (some (is k) ks) → P k
-one-of P ks a k t = let e = some-e (is k) ks t in subst⁻¹ P (is-kind k (e .0) (e .2)) (all-e P ks a (e .1))
+-- the command of a byte is one of all commands, or none
+first-in : (b : ℕ) (ks : List Kind) → (firstKind b ks ≡ Kind.none) ⊎ List·Memᴰ (firstKind b ks) ks
+first-in b [] = inl refl
+first-in b (k ∷ ks) = go (eqb b (formOf k .code)) (first-in b ks)
+  where
+    go : (c : Bool) → (firstKind b ks ≡ Kind.none) ⊎ List·Memᴰ (firstKind b ks) ks
+        → (cond c k (firstKind b ks) ≡ Kind.none) ⊎ List·Memᴰ (cond c k (firstKind b ks)) (k ∷ ks)
+    go true h = inr (List·Memᴰ·head refl)
+    go false (inl e) = inl e
+    go false (inr m) = inr (List·Memᴰ·tail m)
 
+-- what holds of each query holds of any of them
 pub any-query : (P : Kind → Type 0) → All P queryKinds → (k : Kind) → T (isQueryKind k) → P k
-any-query P a k t = one-of P queryKinds a k t
+unfolding kindOf
+any-query P a k t = go (first-in (formOf k .code) kinds) (kind-of-code k)
+  where
+    go : (firstKind (formOf k .code) kinds ≡ Kind.none) ⊎ List·Memᴰ (firstKind (formOf k .code) kinds) kinds → firstKind (formOf k .code) kinds ≡ k → P k
+    go (inl n) e = absurd (subst (λ (x : Kind). T (isQueryKind x)) (sym e ∙ n) t)
+    go (inr m) e = all-e P queryKinds a (filter-i isQueryKind (subst (λ (x : Kind). List·Memᴰ x kinds) e m) t)
+
+-- a query changes neither table nor candidates
+pub query-keeps : (x : Context) (k : Kind) → T (isQueryKind k) → basisOf (problemAfter x k) ≡ basisOf (x .problem)
+unfolding problemAfter
+query-keeps x = any-query (λ k. basisOf (problemAfter x k) ≡ basisOf (x .problem)) (refl, (refl, tt))

@@ -93,7 +93,7 @@ has-bit = bin-ind (λ (n : ℕ). 0 < n → (i : ℕ) × T (bit i n)) (λ h. absu
     go n ih h (inl t) = (0, t)
     go n ih h (inr t) = let q = ih (omega (arith, bit0-n n t)) in (suc (q .0), q .1)
 
-pub ones-more : (a b : ℕ) → Within a b → ones a ≤ ones b
+ones-more : (a b : ℕ) → Within a b → ones a ≤ ones b
 ones-more =
     bin-ind (λ (n : ℕ). (b : ℕ) → Within n b → ones n ≤ ones b) (λ b w. omega (arith, ones-le 0 0 (pow-pos 0)))
     (λ n ih b w. omega (arith, ones-step n, ones-step b, ih (b / 2) (within-half w), within-low n b w))
@@ -104,7 +104,7 @@ pub cell-i : (p : Table) (v j : ℕ) → v < 2 ^ p .n → j < p .m → List·Mem
 unfolding cells
 cell-i p v j h k = join-i (Memᴰ·map (cell v) (below-i k)) (Memᴰ·map (λ w. map (cell w) (below (p .m))) (below-i h))
 
-pub term-i : (p : Table) (c v o : ℕ) → c < 2 ^ p .n → v < 2 ^ p .n → o < 2 ^ p .m → List·Memᴰ (term c v o) (terms p)
+term-i : (p : Table) (c v o : ℕ) → c < 2 ^ p .n → v < 2 ^ p .n → o < 2 ^ p .m → List·Memᴰ (term c v o) (terms p)
 unfolding terms
 term-i p c v o h k l =
     join-i (join-i (Memᴰ·map (term c v) (below-i l)) (Memᴰ·map (λ w. map (term c w) (below (2 ^ p .m))) (below-i k)))
@@ -138,7 +138,7 @@ pub legal-formed : (p : Table) (t : Term) → T (legal p t) → Formed p t
 unfolding legal
 legal-formed p t l = formed-e p t (and-l (formed p t) (holdsNoOff p t) l)
 
-pub legal-listed : (p : Table) (t : Term) → T (legal p t) → List·Memᴰ t (terms p)
+legal-listed : (p : Table) (t : Term) → T (legal p t) → List·Memᴰ t (terms p)
 legal-listed p t l =
     let f = legal-formed p t l in
     term-i p (t .care) (t .value) (t .outputs) (f .care-lt) (omega (arith, within-le (t .value) (t .care) (f .value-in), f .care-lt)) (f .outputs-lt)
@@ -162,7 +162,7 @@ pub contains-i : (p : Table) (t u : Term) → ((c : Cell) → List·Memᴰ c (ce
 unfolding contains
 contains-i p t u f = every-i (λ d. implies (holds u d) (holds t d)) (cells p) (λ c m. implies-i (holds u c) (holds t c) (f c m))
 
--- a term that contains another has fewer literals, and more outputs
+-- a term that contains another has some of its literals, and all of its outputs
 pub record Wider (t u : Term) : Type 0 where
   pub care-in : Within (t .care) (u .care)
   pub outputs-in : Within (u .outputs) (t .outputs)
@@ -196,7 +196,7 @@ wider p t u f g h = record { care-in = care; outputs-in = λ j b. (at (u .value)
             let e = (at w (some-output .0) l (some-output .1) a) .0 i b in
             g .value-in i (subst (λ (x : Bool). T x) (e ∙ sym (agrees i b)) (set-here i (u .value)))
 
-pub same-i : (t u : Term) → t .care ≡ u .care → t .value ≡ u .value → t .outputs ≡ u .outputs → T (sameTerm t u)
+same-i : (t u : Term) → t .care ≡ u .care → t .value ≡ u .value → t .outputs ≡ u .outputs → T (sameTerm t u)
 unfolding sameTerm
 same-i t u a b c =
     and-i (eqb (t .care) (u .care)) (eqb (t .value) (u .value) && eqb (t .outputs) (u .outputs)) (subst (λ (x : ℕ). T (eqb (t .care) x)) a (eqb-refl (t .care)))
@@ -228,7 +228,7 @@ wider-same p t u f g w a c = same-i t u a (bits-ext (t .value) (u .value) (λ i.
 size : Table → Term → ℕ
 size p t = t .care + (2 ^ p .m - t .outputs)
 
--- another legal term that contains t is of smaller size
+-- of two terms, one wider than the other and not the same, the wider is of smaller size
 smaller : (p : Table) (t u : Term) → Formed p t → Formed p u → Wider t u → T (not (sameTerm t u)) → size p t < size p u
 unfolding size
 smaller p t u f g w n =
@@ -250,7 +250,7 @@ pub record Over (p : Table) (u : Term) : Type 0 where
   pub containing : T (contains p top u)
   pub fewer : ones (top .care) ≤ ones (u .care)
 
-pub containedIn-e : (p : Table) (t u : Term) → T (containedIn p t u) → T (legal p u) × T (contains p u t) × T (not (sameTerm u t))
+containedIn-e : (p : Table) (t u : Term) → T (containedIn p t u) → T (legal p u) × T (contains p u t) × T (not (sameTerm u t))
 unfolding containedIn
 containedIn-e p t u a =
     let x = legal p u in
@@ -259,10 +259,10 @@ containedIn-e p t u a =
     let r = and-r x (y && z) a in
     (and-l x (y && z) a, and-l y z r, and-r y z r)
 
-pub contains-trans : (p : Table) (t u w : Term) → T (contains p t u) → T (contains p u w) → T (contains p t w)
+contains-trans : (p : Table) (t u w : Term) → T (contains p t u) → T (contains p u w) → T (contains p t w)
 contains-trans p t u w h k = contains-i p t w (λ c m q. contains-e p t u h c m (contains-e p u w k c m q))
 
-pub contains-self : (p : Table) (t : Term) → T (contains p t t)
+contains-self : (p : Table) (t : Term) → T (contains p t t)
 contains-self p t = contains-i p t t (λ c m q. q)
 
 not-prime : (p : Table) (t : Term) → T (legal p t) → T (not (prime p t)) → (u : Term) × T (containedIn p t u)
@@ -306,7 +306,9 @@ prime-over p t l = climb p (suc (size p t)) t l (le-refl _)
 -- what the test says: a prime is legal and contained in no other legal term
 pub prime-e : (p : Table) (t : Term) → T (prime p t) → T (legal p t) × ((u : Term) → T (legal p u) → T (contains p u t) → u ≡ t)
 unfolding prime containedIn
-prime-e p t h = (and-l (legal p t) none h, λ u l c. same-e u t (go (legal p u) (contains p u t) (sameTerm u t) l c (every-e (λ w. not (containedIn p t w)) (legal-listed p u l) (and-r (legal p t) none h))))
+prime-e p t h =
+    let rest = and-r (legal p t) none h in
+    (and-l (legal p t) none h, λ u l c. same-e u t (go (legal p u) (contains p u t) (sameTerm u t) l c (every-e (λ w. not (containedIn p t w)) (legal-listed p u l) rest)))
   where
     none : Bool
     none = every (λ u. not (containedIn p t u)) (terms p)
@@ -325,7 +327,7 @@ prime-i p t l f = and-i (legal p t) (every (λ u. not (containedIn p t u)) (term
     T-not (sameTerm u t) (q .2) (same-i u t (ap (λ (x : Term). x .care) e) (ap (λ (x : Term). x .value) e) (ap (λ (x : Term). x .outputs) e)))))
 
 -- the list has the primes, and nothing else
-pub primes-i : (p : Table) (t : Term) → T (prime p t) → List·Memᴰ t (primes p)
+primes-i : (p : Table) (t : Term) → T (prime p t) → List·Memᴰ t (primes p)
 unfolding primes
 primes-i p t h = filter-i (prime p) (legal-listed p t (prime-e p t h .0)) h
 

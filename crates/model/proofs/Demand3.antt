@@ -11,28 +11,31 @@ use lib.ListN.{length}
 use Rattle.model.specs.Base.{All}
 use Rattle.model.specs.Sets.{coverable, cost, cheapest, Best}
 use Rattle.model.specs.Pages.{PageOf}
-use Rattle.model.specs.Candidates.{Basis, covering}
-use Rattle.model.specs.Commands.{Kind, is, isQueryKind, width, allowed, basisOf, Context, coveringOf}
+use Rattle.model.specs.Candidates.{Basis, covering, HoldsExactly, LegalBasis}
+use Rattle.model.specs.Commands.{Kind, is, isQueryKind, width, allowed, basisOf, Context, start, count, coveringOf}
 use Rattle.model.specs.Answers.{Answer, hasBytes, answerFor, answer, bytesOf}
 use Rattle.model.specs.Refusals.{refuse, refusalsOf}
 use Rattle.model.specs.Rules.{engine, refusalsBy, refusalBy, refusal}
+use Rattle.model.specs.Invariants.{Valid}
 use Rattle.model.specs.Exchanges.{Exchange, pageIn}
-use Rattle.model.specs.Demand3.{HasBasis, StandsOn, coversOf, NoCheaperList, Correct, Acceptable, CorrectExchange, Demand, Demand3}
-use Rattle.model.proofs.Lists.{and-l, and-r, T-true}
-use Rattle.model.proofs.Sets.{listed}
-use Rattle.model.proofs.Pages.{rising}
+use Rattle.model.specs.Demand3.{HasBasis, StandsOn, coversOf, NoCheaperList, setsIn, Correct, Acceptable, CorrectExchange, Demand, Demand3}
+use Rattle.model.proofs.Lists.{and-l, and-r, T-true, all-to}
+use Rattle.model.proofs.Sets.{listed, cheapest-irredundant}
+use Rattle.model.proofs.Pages.{rising, all-page}
 use Rattle.model.proofs.Cheapest.{cheapest-best}
 use Rattle.model.proofs.Representations.{no-cheaper-list, cost-dearer}
 use Rattle.model.proofs.Codes.{is-kind, any-query}
+use Rattle.model.proofs.Legal.{legal-basis, all-exactly}
 use Rattle.model.proofs.Sound.{engine-lawful}
-use Rattle.model.proofs.Exchanges.{reply-refused, reply-answered, Replied, claim, Lists, gives}
+use Rattle.model.proofs.Valid.{valid}
+use Rattle.model.proofs.Exchanges.{reply-refused, reply-answered, Replied, RepliedIn, claim, Lists, gives}
 
 -- ---- refused exactly where a listed refusal applies
 
 named-query : (k : Kind) → T (isQueryKind k) → is k Kind.none ≡ false
 named-query = any-query (λ k. is k Kind.none ≡ false) (refl, (refl, tt))
 
-refusalsOf-query : (x : Context) (k : Kind) → T (isQueryKind k) → refusalsOf x k ≡ refuse 12 (not (coverable (coveringOf x))) ∷ []
+pub refusalsOf-query : (x : Context) (k : Kind) → T (isQueryKind k) → refusalsOf x k ≡ refuse 12 (not (coverable (coveringOf x))) ∷ []
 unfolding refusalsOf
 refusalsOf-query x = any-query (λ k. refusalsOf x k ≡ refuse 12 (not (coverable (coveringOf x))) ∷ []) (refl, (refl, tt))
 
@@ -75,16 +78,39 @@ acceptable-iff b x a p s = (λ e. to (n .0 (sym (refusal-query x a p) ∙ e)), �
 
 correct : (b : Basis) (x : Context) → HasBasis b x → T (coverable (covering b)) → Correct b x (answer x)
 unfolding answer answerFor
-correct b x s h = subst (λ (z : Basis). T (coverable (covering z)) → Correct z x (answer x)) s (λ c. record { page = λ l. rw (is-kind (x .kind) Kind.L l); cheapest = λ k. best c (is-kind (x .kind) Kind.C k) }) h
+correct b x s h = subst (λ (z : Basis). T (coverable (covering z)) → Correct z x (answer x)) s own h
   where
     best : T (coverable (coveringOf x)) → x .kind ≡ Kind.C → (c : ℕ) × (s : ℕ) × (answer x ≡ Answer.cheapestIs c s) × Best (coveringOf x) c s × NoCheaperList (basisOf (x .problem)) c
-    best c e = (cost (coveringOf x) (cheapest (coveringOf x)), cheapest (coveringOf x), rw e, cheapest-best (coveringOf x) c, λ f. no-cheaper-list (basisOf (x .problem)) cost-dearer (λ u. f u .0))
+    best c e =
+        let s = cheapest (coveringOf x) in
+        (cost (coveringOf x) s, s, rw e, cheapest-best (coveringOf x) c, λ f. no-cheaper-list (basisOf (x .problem)) cost-dearer (λ u. f u .0))
+
+    own : T (coverable (coveringOf x)) → Correct (basisOf (x .problem)) x (answer x)
+    own c = record { page = λ l. rw (is-kind (x .kind) Kind.L l); cheapest = λ k. best c (is-kind (x .kind) Kind.C k) }
 
 has-bytes : (x : Context) (k : Kind) → T (isQueryKind k) → T (hasBytes (answerFor x k))
 unfolding answerFor
 has-bytes x = any-query (λ k. T (hasBytes (answerFor x k))) (tt, (tt, tt))
 
-correct-exchange : (b : Basis) (e : Exchange) → Replied engine e → StandsOn b e → CorrectExchange b e
+-- each set of the answer holds every wanted cell and no off cell
+sets-exactly : (b : Basis) (x : Context) → HasBasis b x → LegalBasis b → T (coverable (covering b)) → (k : Kind) → T (isQueryKind k) → All (HoldsExactly b) (setsIn (answerFor x k))
+unfolding answerFor
+sets-exactly b x s l c = subst (λ (z : Basis). LegalBasis z → T (coverable (covering z)) → (k : Kind) → T (isQueryKind k) → All (HoldsExactly z) (setsIn (answerFor x k))) s own l c
+  where
+    z : Basis
+    z = basisOf (x .problem)
+
+    own : LegalBasis z → T (coverable (covering z)) → (k : Kind) → T (isQueryKind k) → All (HoldsExactly z) (setsIn (answerFor x k))
+    own l c = any-query (λ k. All (HoldsExactly z) (setsIn (answerFor x k))) (
+      all-page (HoldsExactly z) (coversOf z) (start x) (count x) (all-exactly z l),
+      ((l .covers (cheapest (covering z)) .0 (cheapest-irredundant (covering z) c .covering), tt), tt),
+    )
+
+-- the candidates of a valid problem are legal
+abbrev Fine : Context → Type 0
+Fine x = Valid (x .problem)
+
+correct-exchange : (b : Basis) (e : Exchange) → RepliedIn engine Fine e → StandsOn b e → CorrectExchange b e
 unfolding answer
 correct-exchange b e r s = go (eqb (refusal x) 0) refl
   where
@@ -97,20 +123,33 @@ correct-exchange b e r s = go (eqb (refusal x) 0) refl
     iff : (refusal x ≡ 0) ↔ Acceptable b x
     iff = acceptable-iff b x a (and-r (isQueryKind (x .kind)) (allowed (x .kind) (x .problem .place)) (s .0)) (s .1)
 
+    lawful : LegalBasis b
+    lawful = subst LegalBasis (s .1) (legal-basis (basisOf (x .problem)) (r .2 .legal))
+
     go : (c : Bool) → eqb (refusal x) 0 ≡ c → CorrectExchange b e
     go true c =
         let z = eqb→eq (refusal x) 0 (rw c tt) in
-        let y : e .reply ≡ answer x = r ∙ reply-answered engine x z in
-        record { answered = (λ h. iff .0 z, λ h. subst⁻¹ (λ (u : Answer). T (hasBytes u)) y (has-bytes x (x .kind) a)); correct = λ h. subst⁻¹ (Correct b x) y (correct b x (s .1) (h .coverable)) }
+        let y : e .reply ≡ answer x = r .0 ∙ reply-answered engine x z in
+        record {
+          legal = lawful;
+          exactly = subst⁻¹ (λ (u : Answer). All (HoldsExactly b) (setsIn u)) y (sets-exactly b x (s .1) lawful (iff .0 z .coverable) (x .kind) a);
+          answered = (λ h. iff .0 z, λ h. subst⁻¹ (λ (u : Answer). T (hasBytes u)) y (has-bytes x (x .kind) a));
+          correct = λ h. subst⁻¹ (Correct b x) y (correct b x (s .1) (h .coverable));
+        }
     go false c =
         let n : T (not (eqb (refusal x) 0)) = rw c tt in
-        let y : e .reply ≡ Answer.nothing = r ∙ reply-refused engine x n in
-        record { answered = (λ h. absurd (subst (λ (u : Answer). T (hasBytes u)) y h), λ h. absurd (no n (iff .1 h))); correct = λ h. absurd (no n (iff .1 h)) }
+        let y : e .reply ≡ Answer.nothing = r .0 ∙ reply-refused engine x n in
+        record {
+          legal = lawful;
+          exactly = subst⁻¹ (λ (u : Answer). All (HoldsExactly b) (setsIn u)) y tt;
+          answered = (λ h. absurd (subst (λ (u : Answer). T (hasBytes u)) y h), λ h. absurd (no n (iff .1 h)));
+          correct = λ h. absurd (no n (iff .1 h));
+        }
       where
         no : T (not (eqb (refusal x) 0)) → refusal x ≡ 0 → ⊥
         no n z = rw z at n
 
-all-correct : (b : Basis) (es : List Exchange) → All (Replied engine) es → All (StandsOn b) es → All (CorrectExchange b) es
+all-correct : (b : Basis) (es : List Exchange) → All (RepliedIn engine Fine) es → All (StandsOn b) es → All (CorrectExchange b) es
 all-correct b [] r s = tt
 all-correct b (e ∷ es) r s = (correct-exchange b e (r .0) (s .0), all-correct b es (r .1) (s .1))
 
@@ -120,8 +159,12 @@ lists-covers : (b : Basis) (x : Context) → HasBasis b x → Lists engine Kind.
 unfolding answer answerFor
 lists-covers b x s i z = subst (λ (y : Basis). All (PageOf (coversOf y)) (pageIn x (answer x))) s (rw (is-kind (x .kind) Kind.L i) ((refl, refl), tt))
 
-demand : (b : Basis) (es : List Exchange) → All (Replied engine) es → All (StandsOn b) es → Demand b es
-demand b es r s = record { listed = listed (covering b); each = all-correct b es r s; pages = gives engine Kind.L (coversOf b) (StandsOn b) (λ e h. lists-covers b (e .context) (h .1)) (rising (covering b)) es r s }
+demand : (b : Basis) (es : List Exchange) → All (RepliedIn engine Fine) es → All (StandsOn b) es → Demand b es
+demand b es r s = record {
+  listed = listed (covering b);
+  each = all-correct b es r s;
+  pages = gives engine Kind.L (coversOf b) (StandsOn b) (λ e h. lists-covers b (e .context) (h .1)) (rising (covering b)) es (all-to (RepliedIn engine Fine) (Replied engine) (λ e h. h .0) es r) s;
+}
 
 pub demand-3 : Demand3
-demand-3 b = claim engine engine-lawful (StandsOn b) (Demand b) (demand b)
+demand-3 b = claim engine engine-lawful Fine valid (StandsOn b) (Demand b) (demand b)

@@ -36,7 +36,7 @@ every-grid f m (v ∷ vs) h =
     (every-map f (cell v) (below m) (λ j k. h v j (List·Memᴰ·head refl) (below-e m k)))
     (every-grid f m vs (λ w j k l. h w j (List·Memᴰ·tail k) l))
 
-pub cells-every : (p : Table) (f : Cell → Bool) → ((v j : ℕ) → v < 2 ^ p .n → j < p .m → T (f (cell v j))) → T (every f (cells p))
+cells-every : (p : Table) (f : Cell → Bool) → ((v j : ℕ) → v < 2 ^ p .n → j < p .m → T (f (cell v j))) → T (every f (cells p))
 unfolding cells
 cells-every p f h = every-grid f (p .m) (below (2 ^ p .n)) (λ v j k l. h v j (below-e (2 ^ p .n) k) l)
 
@@ -48,19 +48,19 @@ flag-low : (b : Bool) (x : ℕ) → eqb ((x * 2 + cond b 1 0) % 2) 1 ≡ b
 flag-low true x = let e : (x * 2 + 1) % 2 ≡ 1 = omega arith in rw e
 flag-low false x = let e : (x * 2 + 0) % 2 ≡ 0 = omega arith in rw e
 
-pub fromBits-e : (f : ℕ → Bool) (j k : ℕ) → T (bit j (fromBits f k)) → (j < k) × T (f j)
+fromBits-e : (f : ℕ → Bool) (j k : ℕ) → T (bit j (fromBits f k)) → (j < k) × T (f j)
 fromBits-e f j zero t = absurd (omega (arith, bit-le j 0 t, pow-pos j))
 fromBits-e f zero (suc k) t = (omega arith, rw (flag-low (f 0) (fromBits (λ j. f (suc j)) k)) at t)
 fromBits-e f (suc j) (suc k) t =
     let r = fromBits-e (λ i. f (suc i)) j k (rw (flag (f 0) (fromBits (λ i. f (suc i)) k)) at t) in
     (omega (arith, r .0), r .1)
 
-pub fromBits-i : (f : ℕ → Bool) (j k : ℕ) → j < k → T (f j) → T (bit j (fromBits f k))
+fromBits-i : (f : ℕ → Bool) (j k : ℕ) → j < k → T (f j) → T (bit j (fromBits f k))
 fromBits-i f j zero l t = absurd (omega arith)
 fromBits-i f zero (suc k) l t = rw (flag-low (f 0) (fromBits (λ i. f (suc i)) k)) t
 fromBits-i f (suc j) (suc k) l t = rw (flag (f 0) (fromBits (λ i. f (suc i)) k)) (fromBits-i (λ i. f (suc i)) j k (omega arith) t)
 
-pub fromBits-lt : (f : ℕ → Bool) (k : ℕ) → fromBits f k < 2 ^ k
+fromBits-lt : (f : ℕ → Bool) (k : ℕ) → fromBits f k < 2 ^ k
 fromBits-lt f zero = omega arith
 fromBits-lt f (suc k) = go (f 0) (fromBits-lt (λ j. f (suc j)) k)
   where
@@ -91,7 +91,9 @@ drives-e p c w j t =
 
 pub drives-i : (p : Table) (c w j : ℕ) → j < p .m → ((v : ℕ) → v < 2 ^ p .n → Agree c v w → T (isOff p (cell v j)) → ⊥) → T (bit j (drives p c w))
 unfolding drives drivable
-drives-i p c w j l f = fromBits-i (drivable p c w) j (p .m) l (every-i (λ v. not (inCube c w v && isOff p (cell v j))) (below (2 ^ p .n)) (λ v m. neither (inCube c w v) (isOff p (cell v j)) (λ a o. f v (below-e (2 ^ p .n) m) (agree-e c v w a) o)))
+drives-i p c w j l f =
+    let none = every-i (λ v. not (inCube c w v && isOff p (cell v j))) (below (2 ^ p .n)) in
+    fromBits-i (drivable p c w) j (p .m) l (none (λ v m. neither (inCube c w v) (isOff p (cell v j)) (λ a o. f v (below-e (2 ^ p .n) m) (agree-e c v w a) o)))
 
 pub drives-lt : (p : Table) (c w : ℕ) → drives p c w < 2 ^ p .m
 unfolding drives
@@ -153,12 +155,13 @@ drives-halves p c w i n o = bits-ext (drives p c w) (bitAnd lo hi) (λ j. bool-e
         let y = drives-e p (setBit i c) (setBit i w) j (and-r (bit j lo) (bit j hi) t) in
         drives-i p c w j (x .0) (λ v l a. pick v l a (x .1) (y .1) (yes-or-no (bit i v)))
       where
-        pick : (v : ℕ) → v < 2 ^ p .n → Agree c v w → ((v : ℕ) → v < 2 ^ p .n → Agree (setBit i c) v w → T (isOff p (cell v j)) → ⊥) → ((v : ℕ) → v < 2 ^ p .n → Agree (setBit i c) v (setBit i w) → T (isOff p (cell v j)) → ⊥)
+        pick : (v : ℕ) → v < 2 ^ p .n → Agree c v w → ((v : ℕ) → v < 2 ^ p .n → Agree (setBit i c) v w → T (isOff p (cell v j)) → ⊥)
+            → ((v : ℕ) → v < 2 ^ p .n → Agree (setBit i c) v (setBit i w) → T (isOff p (cell v j)) → ⊥)
             → T (bit i v) ⊎ T (not (bit i v)) → T (isOff p (cell v j)) → ⊥
         pick v l a x y (inl z) = y v l (λ k b. high v k a z (ℕ-discrete k i) b)
         pick v l a x y (inr z) = x v l (λ k b. low v k a z (ℕ-discrete k i) b)
 
-pub formed-i : (p : Table) (t : Term) → Formed p t → T (formed p t)
+formed-i : (p : Table) (t : Term) → Formed p t → T (formed p t)
 unfolding formed
 formed-i p t f =
     let a = ltb (t .care) (2 ^ p .n) in
@@ -177,16 +180,16 @@ formed-i p t f =
         go true false h = absurd (h tt)
         go false y h = refl
 
-pub legal-i : (p : Table) (t : Term) → Formed p t → Within (t .outputs) (drives p (t .care) (t .value)) → T (legal p t)
+legal-i : (p : Table) (t : Term) → Formed p t → Within (t .outputs) (drives p (t .care) (t .value)) → T (legal p t)
 unfolding legal
 legal-i p t f w = and-i (formed p t) (holdsNoOff p t) (formed-i p t f) (no-off-i p t w)
 
-pub legal-drives : (p : Table) (t : Term) → T (legal p t) → Within (t .outputs) (drives p (t .care) (t .value))
+legal-drives : (p : Table) (t : Term) → T (legal p t) → Within (t .outputs) (drives p (t .care) (t .value))
 unfolding legal
 legal-drives p t l = no-off-e p t (legal-formed p t l .outputs-lt) (and-r (formed p t) (holdsNoOff p t) l)
 
 -- the converse of `wider`
-pub contains-wider : (p : Table) (t u : Term) → Wider t u → T (contains p t u)
+contains-wider : (p : Table) (t u : Term) → Wider t u → T (contains p t u)
 contains-wider p t u w = contains-i p t u (λ c m h.
     let q = holds-e u c h in
     holds-i t c (λ i b. q .0 i (w .care-in i b) ∙ w .agree i b) (w .outputs-in (c .j) (q .1)))
@@ -204,11 +207,20 @@ pub record Locally (p : Table) (t : Term) : Type 0 where
 
 without-formed : (p : Table) (t : Term) (i : ℕ) → T (bit i (t .care)) → Formed p t → Formed p (without t i)
 unfolding without
-without-formed p t i b f = record { care-lt = omega (arith, f .care-lt); value-in = λ j q. and-r (bit j (t .value)) (bit j (t .care - 2 ^ i)) (subst (λ (x : Bool). T x) (bit-and j (t .value) (t .care - 2 ^ i)) q); outputs-pos = f .outputs-pos; outputs-lt = f .outputs-lt }
+without-formed p t i b f = record {
+  care-lt = omega (arith, f .care-lt);
+  value-in = λ j q. and-r (bit j (t .value)) (bit j (t .care - 2 ^ i)) (subst (λ (x : Bool). T x) (bit-and j (t .value) (t .care - 2 ^ i)) q);
+  outputs-pos = f .outputs-pos;
+  outputs-lt = f .outputs-lt;
+}
 
 without-wider : (t : Term) (i : ℕ) → T (bit i (t .care)) → Wider (without t i) t
 unfolding without
-without-wider t i b = record { care-in = without-within i (t .care) b; outputs-in = λ j q. q; agree = λ j q. sym (bit-and j (t .value) (t .care - 2 ^ i) ∙ rw (T-true {b = bit j (t .care - 2 ^ i)} q) (keep (bit j (t .value)))) }
+without-wider t i b = record {
+  care-in = without-within i (t .care) b;
+  outputs-in = λ j q. q;
+  agree = λ j q. sym (bit-and j (t .value) (t .care - 2 ^ i) ∙ rw (T-true {b = bit j (t .care - 2 ^ i)} q) (keep (bit j (t .value))));
+}
   where
     keep : (x : Bool) → (x && true) ≡ x
     keep true = refl
@@ -226,12 +238,14 @@ prime-local p t h =
         let d : ℕ = drives p (t .care) (t .value) in
         let w = legal-drives p t (e .0) in
         let u : Term = term (t .care) (t .value) d in
-        let g : Formed p u = record { care-lt = f .care-lt; value-in = f .value-in; outputs-pos = omega (arith, f .outputs-pos, within-le (t .outputs) d w); outputs-lt = drives-lt p (t .care) (t .value) } in
+        let some : 0 < d = omega (arith, f .outputs-pos, within-le (t .outputs) d w) in
+        let g : Formed p u = record { care-lt = f .care-lt; value-in = f .value-in; outputs-pos = some; outputs-lt = drives-lt p (t .care) (t .value) } in
         let l = legal-i p u g (λ j q. q) in
         let c = contains-wider p u t (record { care-in = λ i q. q; outputs-in = w; agree = λ i q. refl }) in
         sym (ap (λ (x : Term). x .outputs) (e .1 u l c))
 
-    tight : T (legal p t) × ((u : Term) → T (legal p u) → T (contains p u t) → u ≡ t) → Formed p t → (i : ℕ) → T (bit i (t .care)) → Within (t .outputs) (drives p (t .care - 2 ^ i) (bitAnd (t .value) (t .care - 2 ^ i))) → ⊥
+    tight : T (legal p t) × ((u : Term) → T (legal p u) → T (contains p u t) → u ≡ t) → Formed p t → (i : ℕ) → T (bit i (t .care))
+        → Within (t .outputs) (drives p (t .care - 2 ^ i) (bitAnd (t .value) (t .care - 2 ^ i))) → ⊥
     tight e f i b w =
         let l = legal-i p (without t i) (without-formed p t i b f) w in
         let q = ap (λ (x : Term). x .care) (e .1 (without t i) l (contains-wider p (without t i) t (without-wider t i b))) in
@@ -260,7 +274,9 @@ local-prime p t h = prime-i p t (legal-i p t (h .formed) (λ j q. subst (λ (x :
             a x z ∙ sym (without-wider t i b .agree x z) ∙ w .agree x y)))
 
         split : Dec (u .care ≡ t .care) → u ≡ t
-        split (yes e) = same-e u t (wider-same p u t (legal-formed p u l) (h .formed) w e (omega (arith, within-le (u .outputs) (t .outputs) outs, within-le (t .outputs) (u .outputs) (w .outputs-in))))
+        split (yes e) =
+            let o : u .outputs ≡ t .outputs = omega (arith, within-le (u .outputs) (t .outputs) outs, within-le (t .outputs) (u .outputs) (w .outputs-in)) in
+            same-e u t (wider-same p u t (legal-formed p u l) (h .formed) w e o)
         split (no d) = let q = lacks (p .n) (u .care) (t .care) (h .formed .care-lt) (w .care-in) d in absurd (fewer (q .0) (q .2) (q .3))
 
 -- ---- a cube with no free input

@@ -85,7 +85,7 @@ in-order : T (inOrder [] pages)
 unfolding irredundants irredundant redundant covers cover coverable cost cheapest page more atOrAbove isOn onCells isDc isOff cells holds formed holdsNoOff legal termCost ones onesIn runBy kindOf refusalBy refusalsBy refusalsOf answer answerFor problemAfter decoded read readIn
 in-order = tt
 
-joined-are : joinedSets pages ≡ 11 ∷ 22 ∷ 26 ∷ 41 ∷ 52 ∷ 56 ∷ []
+pub joined-are : joinedSets pages ≡ 11 ∷ 22 ∷ 26 ∷ 41 ∷ 52 ∷ 56 ∷ []
 unfolding irredundants irredundant redundant covers cover coverable cost cheapest page more atOrAbove isOn onCells isDc isOff cells holds formed holdsNoOff legal termCost ones onesIn runBy kindOf refusalBy refusalsBy refusalsOf answer answerFor problemAfter decoded read readIn
 joined-are = refl
 

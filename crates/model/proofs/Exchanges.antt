@@ -1,7 +1,7 @@
 -- By any rules: the replies in order are what the commands are answered, in the answers of a job and in the bytes of a call; and the
 -- pages among them give any rising list that each of them is a page of.
 use Prim.Native.Nat.{ℕ, _+_}
-use mathlib.Core.Path.{_≡_, refl, sym, ap, ap₂, _∙_, subst⁻¹}
+use mathlib.Core.Path.{_≡_, refl, sym, ap, ap₂, _∙_, subst, subst⁻¹}
 use mathlib.Core.Bool.{Bool, true, false, not, cond}
 use mathlib.Core.List.{List, [], _∷_, _++_, map}
 use lib.Dec.{T, eqb, eqb→eq}
@@ -13,10 +13,10 @@ use Rattle.model.specs.Answers.{Answer, hasBytes}
 use Rattle.model.specs.Rules.{Rules, refusalBy}
 use Rattle.model.specs.Job.{Run, stop, answerThen, runBy}
 use Rattle.model.specs.Calls.{Call, ranBy, MetBy}
-use Rattle.model.specs.Exchanges.{answers, Exchange, exchange, pair, answeredIn, readIn, NoneOver, allAnswered, allRead, Claim, pageIn, pagesOf, Gives}
-use Rattle.model.proofs.Lists.{T-false, all-append, all-to, all-sublist}
+use Rattle.model.specs.Exchanges.{answers, Exchange, exchange, pair, answeredIn, readIn, NoneOver, Answered, JudgedCall, allAnswered, allRead, Claim, pageIn, pagesOf, Gives}
+use Rattle.model.proofs.Lists.{T-false, all-append, all-of, all-kept, all-to, all-sublist}
 use Rattle.model.proofs.Joined.{joined-list}
-use Rattle.model.proofs.Runs.{Lawful, context, run-ind}
+use Rattle.model.proofs.Runs.{Lawful, context, run-ind, judged}
 use Rattle.model.proofs.Caller.{caller}
 
 -- ---- one command
@@ -41,9 +41,27 @@ module _ (rules : Rules) where
   abbrev pub Replied : Exchange → Type 0
   Replied e = e .reply ≡ replyTo (e .context)
 
-  all-replied : (xs : List Context) → All Replied (map with-reply xs)
-  all-replied [] = tt
-  all-replied (x ∷ xs) = (refl, all-replied xs)
+  -- and the command is one that answers, of which is known what is known of each command of a job
+  abbrev pub RepliedIn : (Context → Type 0) → Exchange → Type 0
+  RepliedIn Known e = Replied e × T (answers rules (e .context)) × Known (e .context)
+
+  has-reply : (Known : Context → Type 0) (e : Exchange) → RepliedIn Known e → Answered rules e
+  has-reply Known e r = go (eqb (refusalBy rules x) 0) refl
+    where
+      x : Context
+      x = e .context
+
+      go : (c : Bool) → eqb (refusalBy rules x) 0 ≡ c → Answered rules e
+      go true c =
+          let z = eqb→eq (refusalBy rules x) 0 (rw c tt) in
+          (λ h. z, λ h. subst⁻¹ (λ (a : Answer). T (hasBytes a)) (r .0 ∙ reply-answered x z) (r .1))
+      go false c =
+          let n : T (not (eqb (refusalBy rules x) 0)) = rw c tt in
+          (λ h. absurd (subst (λ (a : Answer). T (hasBytes a)) (r .0 ∙ reply-refused x n) h), λ z. absurd (rw z at n))
+
+  all-replied : (Known : Context → Type 0) (xs : List Context) → All (λ x. T (answers rules x) × Known x) xs → All (RepliedIn Known) (map with-reply xs)
+  all-replied Known [] a = tt
+  all-replied Known (x ∷ xs) a = ((refl, a .0 .0, a .0 .1), all-replied Known xs (a .1))
 
   map-replies : (xs : List Context) → map (λ e. e .reply) (map with-reply xs) ≡ map replyTo xs
   map-replies [] = refl
@@ -101,7 +119,7 @@ module _ (rules : Rules) where
 -- ---- whole jobs and calls
 
 module _ (rules : Rules) (law : Lawful rules) where
-  pub answered-in : (job : List ℕ) (room : ℕ) → answeredIn rules (runBy rules job room) ≡ map (with-reply rules) (filter (answers rules) (runBy rules job room .contexts))
+  answered-in : (job : List ℕ) (room : ℕ) → answeredIn rules (runBy rules job room) ≡ map (with-reply rules) (filter (answers rules) (runBy rules job room .contexts))
   unfolding answeredIn
   answered-in job room = run-ind rules law (λ q bs free at r. Paired rules r) (λ q free at. refl) (λ q b bs free at n. paired-refused rules (context q b bs free) n)
       (λ q b bs free at h z e. paired-then rules (context q b bs free) z (stop 0 (at + 1) []) refl) (λ q b bs free at h z e r. paired-then rules (context q b bs free) z r)
@@ -123,30 +141,43 @@ module _ (rules : Rules) (law : Lawful rules) where
       ∙ used (c .job) (length (c .before))
       ∙ sym (caller rules law c m .answers)
 
-  every-over : (calls : List Call) → All (MetBy rules) calls → All (NoneOver rules) calls
-  every-over [] m = tt
-  every-over (c ∷ calls) m = (none-over c (m .0), every-over calls (m .1))
+  judged-call : (c : Call) → MetBy rules c → JudgedCall rules c
+  judged-call c m =
+      let r = caller rules law c m in
+      rw (r .number, r .offset) (judged rules law (c .job) (length (c .before)))
 
-  every-replied : (calls : List Call) → All (Replied rules) (allAnswered rules calls)
-  every-replied [] = tt
-  every-replied (c ∷ calls) =
-      all-append (Replied rules) (answeredIn rules (ranBy rules c)) (allAnswered rules calls)
-      (subst⁻¹ (All (Replied rules)) (answered-in (c .job) (length (c .before))) (all-replied rules (filter (answers rules) (ranBy rules c .contexts))))
-      (every-replied calls)
+  -- all of some calls are so
+  pub every-replied : (Known : Context → Type 0) (calls : List Call) → All (λ c. All Known (ranBy rules c .contexts)) calls → All (RepliedIn rules Known) (allAnswered rules calls)
+  every-replied Known [] f = tt
+  every-replied Known (c ∷ calls) f =
+      let xs = ranBy rules c .contexts in
+      let kept = all-kept Known (answers rules) xs (all-to Known (λ x. T (answers rules x) → Known x) (λ x k t. k) xs (f .0)) in
+      all-append (RepliedIn rules Known) (answeredIn rules (ranBy rules c)) (allAnswered rules calls)
+      (subst⁻¹ (All (RepliedIn rules Known)) (answered-in (c .job) (length (c .before))) (all-replied rules Known (filter (answers rules) xs) kept))
+      (every-replied Known calls (f .1))
 
   -- what the bytes hold is what the jobs answered
   pub every-read : (calls : List Call) → All (MetBy rules) calls → allRead rules calls ≡ allAnswered rules calls
   every-read [] m = refl
   every-read (c ∷ calls) m = ap₂ (λ (es fs : List Exchange). es ++ fs) (read-in c (m .0)) (every-read calls (m .1))
 
-  -- so a demand is met by calls where it is met by commands with what they are answered
-  pub claim : (Stands : Exchange → Type 0) (Demand : List Exchange → Type 0) → ((es : List Exchange) → All (Replied rules) es → All Stands es → Demand es)
+  -- so a demand is met by calls where it is met by commands with what they are answered, of each of which `Known` holds
+  pub claim : (Known : Context → Type 0) → ((job : List ℕ) (room : ℕ) → All Known (runBy rules job room .contexts))
+      → (Stands : Exchange → Type 0) (Demand : List Exchange → Type 0) → ((es : List Exchange) → All (RepliedIn rules Known) es → All Stands es → Demand es)
       → (calls : List Call) → All (MetBy rules) calls → Claim rules Stands Demand calls
-  claim Stands Demand d calls m = record {
-    answers = λ es c. d es (all-sublist (Replied rules) c (every-replied calls));
-    bytes = λ es c. d es (all-sublist (Replied rules) c (subst⁻¹ (All (Replied rules)) (every-read calls m) (every-replied calls)));
-    none-over = every-over calls m;
+  claim Known known Stands Demand d calls m = record {
+    answers = λ es c. d es (all-sublist (RepliedIn rules Known) c replied);
+    bytes = λ es c. d es (all-sublist (RepliedIn rules Known) c read);
+    none-over = all-to (MetBy rules) (NoneOver rules) none-over calls m;
+    answered = all-to (RepliedIn rules Known) (Answered rules) (has-reply rules Known) (allRead rules calls) read;
+    judged = all-to (MetBy rules) (JudgedCall rules) judged-call calls m;
   }
+    where
+      replied : All (RepliedIn rules Known) (allAnswered rules calls)
+      replied = every-replied Known calls (all-of (λ (c : Call). All Known (ranBy rules c .contexts)) calls (λ c i. known (c .job) (length (c .before))))
+
+      read : All (RepliedIn rules Known) (allRead rules calls)
+      read = subst⁻¹ (All (RepliedIn rules Known)) (every-read calls m) replied
 
 -- ---- the pages of any command, of any rising list
 
@@ -169,7 +200,8 @@ module _ (rules : Rules) (k : Kind) (list : List ℕ) where
   pages-given : (es : List Exchange) → All (Replied rules) es → All (λ e. Lists (e .context)) es → All (PageOf list) (pagesOf k es)
   pages-given [] r f = tt
   pages-given (e ∷ es) r f =
-      all-append (PageOf list) (cond (is (e .context .kind) k) (pageIn (e .context) (e .reply)) []) (pagesOf k es) (page-given e (r .0) (f .0) (is (e .context .kind) k) refl) (pages-given es (r .1) (f .1))
+      let one = page-given e (r .0) (f .0) (is (e .context .kind) k) refl in
+      all-append (PageOf list) (cond (is (e .context .kind) k) (pageIn (e .context) (e .reply)) []) (pagesOf k es) one (pages-given es (r .1) (f .1))
 
   pub gives : (Stands : Exchange → Type 0) → ((e : Exchange) → Stands e → Lists (e .context)) → Rising 0 list → (es : List Exchange) → All (Replied rules) es → All Stands es → Gives k list es
   gives Stands f up es r s =

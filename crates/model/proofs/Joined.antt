@@ -1,22 +1,22 @@
 -- Pages joined, of any rising list, from what each page gives.
 use Prim.Native.Nat.{ℕ, min}
 use native.Mathlib.Omega.{arith}
-use mathlib.Core.Path.{_≡_, refl, sym, ap, _∙_, subst, subst⁻¹}
+use mathlib.Core.Path.{_≡_, refl, sym, ap, _∙_}
 use mathlib.Core.Logic.{_↔_, _⊎_, inl, inr}
 use mathlib.Core.Bool.{Bool, false, _||_}
 use mathlib.Core.List.{List, [], _∷_, _++_, append-assoc, append-nil}
-use lib.Dec.{T, ltb}
+use lib.Dec.{T}
 use lib.ListN.{length, drop, length-append}
-use Rattle.model.specs.Base.{some, filter, All}
+use Rattle.model.specs.Base.{some, All}
 use Rattle.model.specs.Pages.{Rising, page, nextStart, Page, PageOf, isLast, joinedSets, InOrder, PageBehind, PagesBehind, Joined}
 use Rattle.model.proofs.Lists.{or-cases, or-l, or-r}
-use Rattle.model.proofs.Pages.{joined-below, step, page-length, more-iff}
+use Rattle.model.proofs.Pages.{upto-got, step, page-length, more-iff}
 
 module _ (all : List ℕ) (up : Rising 0 all) where
   page-behind : (g left : List ℕ) (p : Page) → all ≡ g ++ left → PageOf all p → p .start ≡ nextStart g → PageBehind all g p
   page-behind g left p e o n = record {
     as-asked = rw (o .0, n) (page-length all up g left (p .count) e ∙ ap (min (p .count)) (omega (arith, simp length-append at (ap length e))));
-    upto = rw (o .0, n) (sym (subst⁻¹ (λ (l : List ℕ). filter (λ s. ltb s (nextStart new)) l ≡ new) more-left (joined-below 0 new (drop (p .count) left) (subst (λ (l : List ℕ). Rising 0 l) more-left up))));
+    upto = rw (o .0, n) (sym (upto-got all up new (drop (p .count) left) more-left));
     last = rw (o .0, o .1, n) ((λ t. sym (more-iff all up g left (p .count) e .0 t)), λ h. more-iff all up g left (p .count) e .1 (sym h));
   }
     where
@@ -52,14 +52,16 @@ module _ (all : List ℕ) (up : Rising 0 all) where
       behind (inr t) = t
 
       go : T tail ↔ ((g ++ p .sets) ++ joinedSets (q ∷ qs) ≡ all) → T (isLast p || tail) ↔ (g ++ (p .sets ++ joinedSets (q ∷ qs)) ≡ all)
-      go r = ((λ t. sym (append-assoc g (p .sets) (joinedSets (q ∷ qs))) ∙ r .0 (behind (or-cases (isLast p) tail t))), λ i. or-r (isLast p) tail (r .1 (append-assoc g (p .sets) (joinedSets (q ∷ qs)) ∙ i)))
+      go r =
+          let e = append-assoc g (p .sets) (joinedSets (q ∷ qs)) in
+          ((λ t. sym e ∙ r .0 (behind (or-cases (isLast p) tail t))), λ i. or-r (isLast p) tail (r .1 (e ∙ i)))
 
   pub joined-list : (ps : List Page) → All (PageOf all) ps → InOrder [] ps → Joined all ps
   joined-list ps a f =
       let r = each [] all ps refl a f in
       record {
         each = r .0;
-        upto = sym (subst⁻¹ (λ (l : List ℕ). filter (λ v. ltb v (nextStart (joinedSets ps))) l ≡ joinedSets ps) (r .1 .1) (joined-below 0 (joinedSets ps) (r .1 .0) (subst (λ (l : List ℕ). Rising 0 l) (r .1 .1) up)));
+        upto = sym (upto-got all up (joinedSets ps) (r .1 .0) (r .1 .1));
         last = last-of ps (r .0) f;
       }
     where

@@ -1,8 +1,9 @@
-pub mod Marked
+-- The theorems over paper 01, each file behind those that it cites.
 pub mod Lists
 pub mod Bits
 pub mod Sets
 pub mod Pages
+pub mod Joined
 pub mod Cheapest
 pub mod Rows
 pub mod Matrix
@@ -10,16 +11,17 @@ pub mod Cubes
 pub mod Drives
 pub mod Order
 pub mod Representations
-pub mod Library
+pub mod Legal
 pub mod Codes
-pub mod Runs
-pub mod Exchanges
-pub mod SameBasis
 pub mod Read
+pub mod Runs
 pub mod Sound
-pub mod Caller
-pub mod Joined
-pub mod Demand3
-pub mod Whole
-pub mod Example
 pub mod Valid
+pub mod Library
+pub mod Caller
+pub mod Exchanges
+pub mod Demand3
+pub mod SameBasis
+pub mod Whole
+pub mod Marked
+pub mod Example

@@ -7,7 +7,7 @@ use mathlib.Core.Logic.{_⊎_, inl, inr}
 use mathlib.Core.Bool.{Bool, true, false, not, cond, _&&_, _||_}
 use mathlib.Core.List.{List, [], _∷_, _++_, List·Memᴰ, List·Memᴰ·head, List·Memᴰ·tail, Memᴰ·append-left, Memᴰ·append-right, Sublistᴰ, Sublistᴰ·slnil, Sublistᴰ·cons, Sublistᴰ·cons-cons}
 use lib.Dec.{T}
-use lib.ListN.{take, drop}
+use lib.ListN.{getD, take, drop, replicate, length-replicate, getD-replicate, List·getD-eq-default}
 use Rattle.model.specs.Base.{from, below, every, some, filter, join, implies, All}
 
 pub yes-or-no : (b : Bool) → T b ⊎ T (not b)
@@ -143,6 +143,14 @@ below-i {k} {x} h = from-i 0 k x (omega arith) (omega arith)
 
 pub below-e : (k : ℕ) {x : ℕ} → List·Memᴰ x (below k) → x < k
 below-e k m = let r = from-e 0 k m in omega arith
+
+-- a list of zeros has 0 at every place
+pub zero-at : (n v : ℕ) → _≡_ {A = ℕ} (getD (replicate n 0) v 0) 0
+zero-at n v = go (decLt v n)
+  where
+    go : Dec (v < n) → _≡_ {A = ℕ} (getD (replicate n 0) v 0) 0
+    go (yes h) = getD-replicate n v 0 0 h
+    go (no h) = List·getD-eq-default (replicate n 0) 0 (omega (arith, length-replicate {A = ℕ} n 0))
 
 -- each entry is so
 

@@ -1,19 +1,25 @@
--- The marked cases of paper 01, its primes and its job, by computation.
-use Prim.Native.Nat.{_+_, _*_, _^_}
+-- The marked cases of paper 01, its primes and its job, and the tables of refusals, by computation.
+use Prim.Native.Nat.{_+_, _*_, _^_, _<_}
+use native.Mathlib.Omega.{arith}
 use mathlib.Core.Path.{_≡_, refl}
-use mathlib.Core.List.{map}
+use mathlib.Core.List.{[], map}
+use lib.Dec.{T, ltb, lt→ltb}
+use lib.Arith.{le→nltb}
 use lib.Count.{ones, onesIn}
+use lib.ListN.{length}
 use Rattle.model.specs.Table.{isOn, isDc, isOff, cells, onCells, holds, formed, holdsNoOff, legal}
 use Rattle.model.specs.Primes.{contains, sameTerm, containedIn, terms, prime, primes}
 use Rattle.model.specs.Sets.{covers, cover, coverable, redundant, irredundant, irredundants, cost, cheapest}
 use Rattle.model.specs.Pages.{atOrAbove, page, more}
 use Rattle.model.specs.Candidates.{termCost}
-use Rattle.model.specs.Commands.{kindOf, problemAfter}
+use Rattle.model.specs.Commands.{Kind, kindOf, width, allowed, Context, problemAfter, tableOf}
 use Rattle.model.specs.Answers.{answer, answerFor}
 use Rattle.model.specs.Refusals.{refusalsOf}
-use Rattle.model.specs.Rules.{refusalBy, refusalsBy}
+use Rattle.model.specs.Rules.{refusal, refusalBy, refusalsBy}
 use Rattle.model.specs.Job.{run, runBy, packed, written}
-use Rattle.model.specs.Cases.{outcome, cases, example, examplePrimes, exampleJob, exampleAnswers, stops}
+use Rattle.model.specs.Library.{callRefusals, listCovers}
+use Rattle.model.specs.Cases.{outcome, cases, example, examplePrimes, exampleJob, exampleAnswers, countZeroJob, countZeroAnswers, stops, refusedCalls}
+use Rattle.model.proofs.Lists.{T-true, T-false}
 
 -- a to h
 pub marked : map (λ c. outcome (c .of) (c .by)) cases ≡ map (λ c. c .gives) cases
@@ -34,7 +40,26 @@ pub marked-bytes : written (run exampleJob 32768) ≡ exampleAnswers
 unfolding irredundants irredundant redundant cover covers coverable isOn onCells cells holds termCost cost cheapest ones onesIn primes prime legal formed holdsNoOff isOff isDc contains sameTerm containedIn terms runBy kindOf written refusalBy refusalsBy refusalsOf answer answerFor problemAfter page more atOrAbove
 marked-bytes = refl
 
--- jobs that stop, a refusal or more each
+-- an L of count 0
+pub count-zero-bytes : written (run countZeroJob 4) ≡ countZeroAnswers
+unfolding irredundants irredundant redundant cover covers coverable isOn onCells cells holds termCost cost cheapest ones onesIn primes prime legal formed holdsNoOff isOff isDc contains sameTerm containedIn terms runBy kindOf written refusalBy refusalsBy refusalsOf answer answerFor problemAfter page more atOrAbove
+count-zero-bytes = refl
+
+-- jobs with their number, offset and written
 pub stopped-jobs : map (λ c. packed (run (c .job) (c .room))) stops ≡ map (λ c. c .number * 2 ^ 32 + c .offset * 2 ^ 16 + c .written) stops
 unfolding irredundants irredundant redundant cover covers coverable isOn onCells cells holds termCost cost cheapest ones onesIn primes prime legal formed holdsNoOff isOff isDc contains sameTerm containedIn terms runBy kindOf packed written refusalBy refusalsBy refusalsOf answer answerFor problemAfter page more atOrAbove
 stopped-jobs = refl
+
+-- 11 is before 14 at P: with more than 64 primes it is 11, whatever the free part. No job of the table above shows it, for so many primes
+-- are more than the definition can be computed on
+pub primes-before-room : (x : Context) → x .kind ≡ Kind.P → T (allowed Kind.P (x .problem .place)) → 64 < length (primes (tableOf (x .problem))) → refusal x ≡ 11
+unfolding refusalBy refusalsBy refusalsOf
+primes-before-room x e a h =
+    let many = ltb 64 (length (primes (tableOf (x .problem)))) in
+    let short = ltb (length (x .rest)) (width Kind.P) in
+    rw (e, T-true {b = allowed Kind.P (x .problem .place)} a, T-false {b = short} (le→nltb (length (x .rest)) 0 (omega arith)), T-true {b = many} (lt→ltb 64 _ h))
+
+-- library calls that are refused
+pub refused-calls : map (λ c. listCovers (c .of) (c .words) 0 [] .number) refusedCalls ≡ map (λ c. c .number) refusedCalls
+unfolding listCovers callRefusals irredundants irredundant redundant cover covers coverable isOn onCells cells holds formed holdsNoOff isOff isDc page more atOrAbove
+refused-calls = refl

@@ -16,7 +16,8 @@ use Rattle.model.proofs.Bits.{bit0-e, bit0-n}
 use Rattle.model.proofs.Sets.{members-all}
 use Rattle.model.proofs.Rows.{held-iff}
 
--- ---- the row of a row
+-- ---- rows as numbers
+
 pub rowOf-lt : {A X : Type 0} (holds : A → X → Bool) (ts : List A) (x : X) → rowOf holds ts x < 2 ^ length ts
 unfolding rowOf
 rowOf-lt holds [] x = omega arith
@@ -130,14 +131,15 @@ module _ {A X : Type 0} (k : Covering A X) where
   rows-held s x =
       let r : ℕ = rowOf (k .holds) (k .cands) x in
       let m = length-map (k .cands) (k .weight) in
-      let e : rowOf bit (below (length costs)) r ≡ r = row-bits (length costs) 0 r r (λ j. let z : 0 + j ≡ j = omega arith in ap (λ (i : ℕ). bit i r) z) (subst⁻¹ (λ (n : ℕ). r < 2 ^ n) m (rowOf-lt (k .holds) (k .cands) x)) in
+      let l : r < 2 ^ length costs = subst⁻¹ (λ (n : ℕ). r < 2 ^ n) m (rowOf-lt (k .holds) (k .cands) x) in
+      let e : rowOf bit (below (length costs)) r ≡ r = row-bits (length costs) 0 r r (λ j. let z : 0 + j ≡ j = omega arith in ap (λ (i : ℕ). bit i r) z) l in
       let a = held-iff bit (below (length costs)) r s in
       let b = held-iff (k .holds) (k .cands) x s in
       bool-ext (some (λ i. bit i r) (members (below (length costs)) s)) (some (λ t. k .holds t x) (members (k .cands) s))
       (λ t. b .1 (subst (λ (q : ℕ). 0 < bitAnd s q) e (a .0 t)))
       (λ t. a .1 (subst⁻¹ (λ (q : ℕ). 0 < bitAnd s q) e (b .0 t)))
 
-  pub rows-cover : (s : ℕ) → cover byRows s ≡ cover k s
+  rows-cover : (s : ℕ) → cover byRows s ≡ cover k s
   unfolding cover covers
   rows-cover s = every-map _ (rowOf (k .holds) (k .cands)) (k .points) ∙ every-same _ _ (k .points) (rows-held s)
 

@@ -11,10 +11,10 @@ use lib.Dec.{T, leb, ltb, nltb→le, le→leb, lt→ltb}
 use lib.Arith.{lt→nleb, le→nltb}
 use lib.Seq.{take-all}
 use lib.ListN.{length, take, drop, take-append-drop, length-take, length-append}
-use Rattle.model.specs.Base.{from, filter}
+use Rattle.model.specs.Base.{from, filter, All}
 use Rattle.model.specs.Sets.{Covering, irredundant, irredundants}
 use Rattle.model.specs.Pages.{Rising, atOrAbove, page, more, oneAbove, nextStart}
-use Rattle.model.proofs.Lists.{T-true, T-false}
+use Rattle.model.proofs.Lists.{T-true, T-false, all-take, all-filter}
 
 pub rising-down : (a b : ℕ) (xs : List ℕ) → a ≤ b → Rising b xs → Rising a xs
 rising-down a b [] h r = tt
@@ -37,6 +37,11 @@ pub rising : {A X : Type 0} (k : Covering A X) → Rising 0 (irredundants k)
 unfolding irredundants
 rising k = rising-filter (irredundant k) 0 (from 0 (2 ^ length (k .cands))) (rising-from 0 (2 ^ length (k .cands)))
 
+-- "the next start is .. one above the last"
+pub oneAbove-last : (b : ℕ) (xs : List ℕ) (s : ℕ) → oneAbove b (xs ++ (s ∷ [])) ≡ suc s
+oneAbove-last b [] s = refl
+oneAbove-last b (x ∷ xs) s = oneAbove-last (suc x) xs s
+
 oneAbove-ge : (b : ℕ) (xs ys : List ℕ) → Rising b (xs ++ ys) → b ≤ oneAbove b xs
 oneAbove-ge b [] ys r = le-refl b
 oneAbove-ge b (x ∷ xs) ys r = omega (arith, r .0, oneAbove-ge (suc x) xs ys (r .1))
@@ -46,7 +51,7 @@ keep b c [] r h = refl
 keep b c (y ∷ ys) r h = rw (T-true {b = leb c y} (le→leb c y (omega (arith, r .0))), keep (suc y) c ys (r .1) (omega (arith, r .0)))
 
 -- what stands at or above the next start is what is not joined
-pub rest : (b : ℕ) (xs ys : List ℕ) → Rising b (xs ++ ys) → filter (leb (oneAbove b xs)) (xs ++ ys) ≡ ys
+rest : (b : ℕ) (xs ys : List ℕ) → Rising b (xs ++ ys) → filter (leb (oneAbove b xs)) (xs ++ ys) ≡ ys
 rest b [] ys r = keep b b ys r (le-refl b)
 rest b (x ∷ xs) ys r = rw (T-false {b = leb (oneAbove (suc x) xs) x} (lt→nleb (oneAbove (suc x) xs) x (oneAbove-ge (suc x) xs ys (r .1))), rest (suc x) xs ys (r .1))
 
@@ -55,16 +60,27 @@ none-below b c [] r h = refl
 none-below b c (y ∷ ys) r h = rw (T-false {b = ltb y c} (le→nltb y c (omega (arith, r .0))), none-below (suc y) c ys (r .1) (omega (arith, r .0)))
 
 -- and what stands below it is what is joined
-pub joined-below : (b : ℕ) (xs ys : List ℕ) → Rising b (xs ++ ys) → filter (λ s. ltb s (oneAbove b xs)) (xs ++ ys) ≡ xs
+joined-below : (b : ℕ) (xs ys : List ℕ) → Rising b (xs ++ ys) → filter (λ s. ltb s (oneAbove b xs)) (xs ++ ys) ≡ xs
 joined-below b [] ys r = none-below b b ys r (le-refl b)
 joined-below b (x ∷ xs) ys r = rw (T-true {b = ltb x (oneAbove (suc x) xs)} (lt→ltb x (oneAbove (suc x) xs) (oneAbove-ge (suc x) xs ys (r .1))), joined-below (suc x) xs ys (r .1))
 
+-- what is so of each set is so of each of a page
+pub all-page : (P : ℕ → Type 0) (all : List ℕ) (a c : ℕ) → All P all → All P (page all a c)
+unfolding page atOrAbove
+all-page P all a c h = all-take P c (filter (leb a) all) (all-filter P (leb a) all h)
+
 module _ (all : List ℕ) (up : Rising 0 all) where
-  pub atOrAbove-left : (got left : List ℕ) → all ≡ got ++ left → atOrAbove all (nextStart got) ≡ left
+  atOrAbove-left : (got left : List ℕ) → all ≡ got ++ left → atOrAbove all (nextStart got) ≡ left
   unfolding atOrAbove
   atOrAbove-left got left e =
       let r = rest 0 got left (subst (λ (l : List ℕ). Rising 0 l) e up) in
       subst⁻¹ (λ (l : List ℕ). filter (leb (nextStart got)) l ≡ left) e r
+
+  -- what is joined is what stands below the next start
+  pub upto-got : (got left : List ℕ) → all ≡ got ++ left → filter (λ s. ltb s (nextStart got)) all ≡ got
+  upto-got got left e =
+      let r = joined-below 0 got left (subst (λ (l : List ℕ). Rising 0 l) e up) in
+      subst⁻¹ (λ (l : List ℕ). filter (λ s. ltb s (nextStart got)) l ≡ got) e r
 
   -- one page more
   pub step : (got left : List ℕ) (c : ℕ) → all ≡ got ++ left → all ≡ (got ++ page all (nextStart got) c) ++ drop c left

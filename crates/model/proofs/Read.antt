@@ -14,7 +14,7 @@ use Rattle.model.specs.Commands.{low, number}
 use Rattle.model.specs.Answers.{Answer, termBytes, bytesOf, hasBytes}
 use Rattle.model.specs.Calls.{readTerms, readSets, decoded, readUpTo, read}
 
--- the sets and the cost have as many bytes as the answer gives them
+-- the sets and the cost fit the bytes that the answer has for them
 abbrev pub Fits : Answer → Type 0
 Fits Answer.nothing = Unit {0}
 Fits (Answer.primesAre ts) = Unit {0}
@@ -88,7 +88,8 @@ read-all (a ∷ rs) f k l = go (hasBytes a) refl (read-all rs (f .1)) k l
     bs : List ℕ
     bs = join (map bytesOf rs)
 
-    go : (b : Bool) → hasBytes a ≡ b → ((k : ℕ) → length bs ≤ k → readUpTo k bs ≡ filter hasBytes rs) → (k : ℕ) → length (bytesOf a ++ bs) ≤ k → readUpTo k (bytesOf a ++ bs) ≡ cond b (a ∷ filter hasBytes rs) (filter hasBytes rs)
+    go : (b : Bool) → hasBytes a ≡ b → ((k : ℕ) → length bs ≤ k → readUpTo k bs ≡ filter hasBytes rs) → (k : ℕ) → length (bytesOf a ++ bs) ≤ k
+        → readUpTo k (bytesOf a ++ bs) ≡ cond b (a ∷ filter hasBytes rs) (filter hasBytes rs)
     go true e h zero l = absurd (omega (arith, one-or-more (bytesOf a) (rw e tt), length-append (bytesOf a) bs))
     go true e h (suc k) l =
         read-one a (f .0) (rw e tt) bs k

@@ -18,20 +18,20 @@ use Rattle.model.specs.Sets.{Covering, Within, members, covers, cover, c
 use Rattle.model.specs.Candidates.{termCost, listCost, Basis, covering}
 use Rattle.model.proofs.Lists.{yes-or-no, and-l, and-r, every-e, filter-e, T-true, T-false}
 use Rattle.model.proofs.Bits.{bit0-e, bit0-n}
-use Rattle.model.proofs.Sets.{members-more, covers-e, covers-i, cheapest-le}
+use Rattle.model.proofs.Sets.{members-more, covers-e, cover-i, cheapest-le}
 use Rattle.model.proofs.Cubes.{contains-e, Over, prime-over}
 
 -- ---- set s and the candidate t besides
 
 module _ {A : Type 0} (w : A → ℕ) where
-  pub record Pick (ts : List A) (t : A) (s : ℕ) : Type 0 where
-    pub pick : ℕ
-    pub small : s < 2 ^ length ts → pick < 2 ^ length ts
-    pub keeps : Within s pick
-    pub has : List·Memᴰ t (members ts pick)
-    pub price : sum w (members ts pick) ≤ sum w (members ts s) + w t
+  record Pick (ts : List A) (t : A) (s : ℕ) : Type 0 where
+    pick : ℕ
+    small : s < 2 ^ length ts → pick < 2 ^ length ts
+    keeps : Within s pick
+    has : List·Memᴰ t (members ts pick)
+    price : sum w (members ts pick) ≤ sum w (members ts s) + w t
 
-  pub picked : {t : A} {ts : List A} (m : List·Memᴰ t ts) (s : ℕ) → Pick ts t s
+  picked : {t : A} {ts : List A} (m : List·Memᴰ t ts) (s : ℕ) → Pick ts t s
   picked {t} (List·Memᴰ·head {x = u} {xs = us} e) s = go (yes-or-no (bit 0 s))
     where
       go : T (bit 0 s) ⊎ T (not (bit 0 s)) → Pick (u ∷ us) t s
@@ -88,11 +88,11 @@ module _ {A : Type 0} (w : A → ℕ) where
 
 module _ {A B X : Type 0} (k : Covering A X) (held-by : B → X → Bool) (price-of : B → ℕ) where
   -- a candidate that holds the points that q holds, and costs no more
-  pub record Dominated (q : B) : Type 0 where
-    pub by : A
-    pub listed : List·Memᴰ by (k .cands)
-    pub wider : (x : X) → List·Memᴰ x (k .points) → T (held-by q x) → T (k .holds by x)
-    pub fewer : k .weight by ≤ price-of q
+  record Dominated (q : B) : Type 0 where
+    by : A
+    listed : List·Memᴰ by (k .cands)
+    wider : (x : X) → List·Memᴰ x (k .points) → T (held-by q x) → T (k .holds by x)
+    fewer : k .weight by ≤ price-of q
 
   -- a set of candidates that outdoes a list
   record Match (qs : List B) : Type 0 where
@@ -116,11 +116,11 @@ module _ {A B X : Type 0} (k : Covering A X) (held-by : B → X → Bool) (price
   matched (q ∷ qs) f = add q qs (matched qs (λ r m. f r (List·Memᴰ·tail m))) (f q (List·Memᴰ·head refl))
 
   -- a list of any length that holds each point, each of it dominated, costs at least as much as the cheapest set
-  pub dominated : (qs : List B) → ((q : B) → List·Memᴰ q qs → Dominated q) → T (covers held-by (k .points) qs) → cost k (cheapest k) ≤ sum price-of qs
-  unfolding cover cost
+  dominated : (qs : List B) → ((q : B) → List·Memᴰ q qs → Dominated q) → T (covers held-by (k .points) qs) → cost k (cheapest k) ≤ sum price-of qs
+  unfolding cost
   dominated qs f c =
       let m = matched qs f in
-      let d : T (cover k (m .set)) = covers-i (k .holds) (k .points) (members (k .cands) (m .set)) (λ x i. let h = covers-e held-by (k .points) qs c i in m .over (h .0) (h .1) x i (h .2)) in
+      let d : T (cover k (m .set)) = cover-i k (m .set) (λ x i. let h = covers-e held-by (k .points) qs c i in m .over (h .0) (h .1) x i (h .2)) in
       omega (arith, cheapest-le k (m .set) (m .small) d, m .price)
 
 -- ---- terms, at any weight that more literals do not lower
@@ -129,13 +129,19 @@ module _ (b : Basis) (dearer : (t u : Term) → ones (t .care) ≤ ones (u .care
   pub no-cheaper-list : ((t : Term) → T (prime (b .table) t) → List·Memᴰ t (b .cands)) → (qs : List Term) → T (represents (b .table) qs) → cost (covering b) (cheapest (covering b)) ≤ listCost b qs
   unfolding represents onCells covers listCost
   no-cheaper-list all qs r =
-      dominated (covering b) holds (b .weight) qs (λ q m. one q (prime-over p q (every-e (legal p) m (and-l (every (legal p) qs) (covers holds (onCells p) qs) r)))) (and-r (every (legal p) qs) (covers holds (onCells p) qs) r)
+      let fair = and-l (every (legal p) qs) (covers holds (onCells p) qs) r in
+      dominated (covering b) holds (b .weight) qs (λ q m. one q (prime-over p q (every-e (legal p) m fair))) (and-r (every (legal p) qs) (covers holds (onCells p) qs) r)
     where
       p : Table
       p = b .table
 
       one : (q : Term) → Over p q → Dominated (covering b) holds (b .weight) q
-      one q o = record { by = o .top; listed = all (o .top) (o .prime-top); wider = λ x i h. contains-e p (o .top) q (o .containing) x (filter-e (isOn p) (cells p) i .0) h; fewer = dearer (o .top) q (o .fewer) }
+      one q o = record {
+        by = o .top;
+        listed = all (o .top) (o .prime-top);
+        wider = λ x i h. contains-e p (o .top) q (o .containing) x (filter-e (isOn p) (cells p) i .0) h;
+        fewer = dearer (o .top) q (o .fewer);
+      }
 
 -- the paper's cost is such a weight
 pub cost-dearer : (t u : Term) → ones (t .care) ≤ ones (u .care) → termCost t ≤ termCost u

@@ -58,7 +58,8 @@ module _ {A X : Type 0} (holds : A → X → Bool) where
       r : List A
       r = members ts (s / 2)
 
-      to : T (bit 0 s) ⊎ T (not (bit 0 s)) → T (some (λ u. holds u c) (cond (bit 0 s) (t ∷ r) r)) → T (some (λ u. holds u c) r) ↔ (0 < bitAnd (s / 2) (rowOf holds ts c)) → (0 < bitAnd (s / 2) (rowOf holds ts c)) ⊎ (T (bit 0 s) × T (holds t c))
+      to : T (bit 0 s) ⊎ T (not (bit 0 s)) → T (some (λ u. holds u c) (cond (bit 0 s) (t ∷ r) r))
+          → T (some (λ u. holds u c) r) ↔ (0 < bitAnd (s / 2) (rowOf holds ts c)) → (0 < bitAnd (s / 2) (rowOf holds ts c)) ⊎ (T (bit 0 s) × T (holds t c))
       to (inl o) h ih = go (or-cases (holds t c) (some (λ u. holds u c) r) (rw (T-true {b = bit 0 s} o) at h))
         where
           go : T (holds t c) ⊎ T (some (λ u. holds u c) r) → (0 < bitAnd (s / 2) (rowOf holds ts c)) ⊎ (T (bit 0 s) × T (holds t c))
@@ -70,11 +71,12 @@ module _ {A X : Type 0} (holds : A → X → Bool) where
       keep true x = or-r (holds t c) (some (λ u. holds u c) r) x
       keep false x = x
 
-      back : (0 < bitAnd (s / 2) (rowOf holds ts c)) ⊎ (T (bit 0 s) × T (holds t c)) → T (some (λ u. holds u c) r) ↔ (0 < bitAnd (s / 2) (rowOf holds ts c)) → T (some (λ u. holds u c) (cond (bit 0 s) (t ∷ r) r))
+      back : (0 < bitAnd (s / 2) (rowOf holds ts c)) ⊎ (T (bit 0 s) × T (holds t c)) → T (some (λ u. holds u c) r) ↔ (0 < bitAnd (s / 2) (rowOf holds ts c))
+          → T (some (λ u. holds u c) (cond (bit 0 s) (t ∷ r) r))
       back (inl k) ih = keep (bit 0 s) (ih .1 k)
       back (inr k) ih = rw (T-true {b = bit 0 s} (k .0)) (or-l (holds t c) (some (λ u. holds u c) r) (k .1))
 
--- a set is a cover where it meets the number of each point
+-- a set is a cover where it meets the row of each point
 pub cover-iff : {A X : Type 0} (k : Covering A X) (s : ℕ) → T (cover k s) ↔ T (every (λ x. ltb 0 (bitAnd s (rowOf (k .holds) (k .cands) x))) (k .points))
 unfolding cover covers
 cover-iff {X = X} k s = (to, back)

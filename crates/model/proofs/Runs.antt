@@ -2,7 +2,7 @@
 use Prim.Native.Nat.{ℕ, zero, suc, _+_, _-_, _≤_, _<_}
 use native.Mathlib.Omega.{arith}
 use native.Mathlib.Nat.{le-refl}
-use mathlib.Core.Path.{_≡_, refl, sym, ap, _∙_}
+use mathlib.Core.Path.{_≡_, refl, sym, ap, _∙_, subst}
 use mathlib.Core.Logic.{_⊎_, inl, inr}
 use mathlib.Core.Bool.{Bool, true, false, not, cond, _||_}
 use mathlib.Core.List.{List, [], _∷_, _++_, map}
@@ -14,10 +14,10 @@ use Rattle.model.specs.Commands.{Kind, is, kindOf, width, allowed, Probl
 use Rattle.model.specs.Answers.{bytesOf}
 use Rattle.model.specs.Refusals.{largestNumber, Refusal, refuse, firstOf}
 use Rattle.model.specs.Rules.{Rules, refusalsBy, refusalBy}
-use Rattle.model.specs.Job.{Run, stop, answerThen, commands, runBy, written}
+use Rattle.model.specs.Job.{Run, stop, answerThen, commands, runBy, RefusedAt, Judged, written}
 use Rattle.model.specs.Invariants.{Sound}
 use Rattle.model.proofs.Read.{Fits}
-use Rattle.model.proofs.Lists.{twice, all-append, all-left, all-right}
+use Rattle.model.proofs.Lists.{twice, T-false, all-append, all-left, all-right}
 
 -- ---- what an answered command has passed
 
@@ -25,7 +25,7 @@ use Rattle.model.proofs.Lists.{twice, all-append, all-left, all-right}
 abbrev pub Numbered : Refusal → Type 0
 Numbered r = (3 ≤ r .no) × (r .no ≤ largestNumber)
 
-first-none : (rs : List Refusal) → All Numbered rs → firstOf rs ≡ 0 → All (λ r. T (not (r .applies))) rs
+pub first-none : (rs : List Refusal) → All Numbered rs → firstOf rs ≡ 0 → All (λ r. T (not (r .applies))) rs
 first-none [] a e = tt
 first-none (r ∷ rs) a e = go (r .applies) e (first-none rs (a .1))
   where
@@ -85,17 +85,24 @@ pub record Lawful (rules : Rules) : Type 0 where
   pub sound : (x : Context) → NoneApplies (rules .own x) → Sound (x .problem) → Sound (rules .after x)
   pub fits : (x : Context) → NoneApplies (rules .own x) → Sound (x .problem) → Fits (rules .answer x) × (Bytes (x .rest) → Bytes (bytesOf (rules .answer x)))
 
+-- "tried in this order": a command at a wrong place is refused by 4, its operands missing or not
+pub place-first : (rules : Rules) (x : Context) → T (not (is (x .kind) Kind.none)) → T (not (allowed (x .kind) (x .problem .place))) → refusalBy rules x ≡ 4
+unfolding refusalBy refusalsBy
+place-first rules x n a = rw (T-false {b = is (x .kind) Kind.none} n, T-false {b = allowed (x .kind) (x .problem .place)} a)
+
 module _ (rules : Rules) (law : Lawful rules) where
   all-numbered : (x : Context) → All Numbered (refusalsBy rules x)
   unfolding refusalsBy
-  all-numbered x = (omega arith, (omega arith, (omega arith, all-append Numbered (rules .own x) (refuse 14 (ltb (x .free) (length (bytesOf (rules .answer x)))) ∷ []) (law .numbered x) (omega arith, tt))))
+  all-numbered x =
+      let last = refuse 14 (ltb (x .free) (length (bytesOf (rules .answer x)))) ∷ [] in
+      (omega arith, (omega arith, (omega arith, all-append Numbered (rules .own x) last (law .numbered x) (omega arith, tt))))
 
-  pub refusal-le : (x : Context) → refusalBy rules x ≤ largestNumber
+  refusal-le : (x : Context) → refusalBy rules x ≤ largestNumber
   unfolding refusalBy
   refusal-le x = first-le (refusalsBy rules x) (all-numbered x)
 
   -- a refusal at a command has a number of 3 or more
-  pub refusal-ge : (x : Context) → T (not (eqb (refusalBy rules x) 0)) → 3 ≤ refusalBy rules x
+  refusal-ge : (x : Context) → T (not (eqb (refusalBy rules x) 0)) → 3 ≤ refusalBy rules x
   unfolding refusalBy
   refusal-ge x n = go (first-ge (refusalsBy rules x) (all-numbered x))
     where
@@ -122,6 +129,11 @@ module _ (rules : Rules) (law : Lawful rules) where
 abbrev pub context : Problem → ℕ → List ℕ → ℕ → Context
 context q b bs free = record { problem = q; kind = kindOf b; rest = bs; free = free }
 
+-- a refused command ends the run at the "offset of the command's first byte"
+pub refused-here : (rules : Rules) (k : ℕ) (q : Problem) (b : ℕ) (bs : List ℕ) (free at : ℕ) → T (not (eqb (refusalBy rules (context q b bs free)) 0))
+    → commands rules (suc k) q (b ∷ bs) free at .offset ≡ at
+refused-here rules k q b bs free at n = rw (T-false {b = eqb (refusalBy rules (context q b bs free)) 0} n)
+
 -- a claim on the run of some bytes from a problem, a free part and an offset on; and what it asks where the first command is refused,
 -- where it is the last, and where others follow
 abbrev pub OnRuns : Type 1
@@ -135,18 +147,20 @@ module _ (rules : Rules) (P : OnRuns) where
   IfRefused = (q : Problem) (b : ℕ) (bs : List ℕ) (free at : ℕ) → let x = context q b bs free in T (not (eqb (refusalBy rules x) 0)) → P q (b ∷ bs) free at (stop (refusalBy rules x) at (x ∷ []))
 
   abbrev pub IfEnds : Type 0
-  IfEnds = (q : Problem) (b : ℕ) (bs : List ℕ) (free at : ℕ) → let x = context q b bs free in Passed rules x → refusalBy rules x ≡ 0 → T (is (kindOf b) Kind.E) → P q (b ∷ bs) free at (answerThen rules x (stop 0 (at + 1) []))
+  IfEnds = (q : Problem) (b : ℕ) (bs : List ℕ) (free at : ℕ) → let x = context q b bs free in Passed rules x → refusalBy rules x ≡ 0 → T (is (kindOf b) Kind.E)
+      → P q (b ∷ bs) free at (answerThen rules x (stop 0 (at + 1) []))
 
   abbrev pub IfGoes : Type 0
   IfGoes = (q : Problem) (b : ℕ) (bs : List ℕ) (free at : ℕ) → let x = context q b bs free in Passed rules x → refusalBy rules x ≡ 0 → T (not (is (kindOf b) Kind.E))
       → (r : Run) → P (rules .after x) (drop (width (kindOf b)) bs) (free - length (bytesOf (rules .answer x))) (at + 1 + width (kindOf b)) r → P q (b ∷ bs) free at (answerThen rules x r)
 
 module _ (rules : Rules) (law : Lawful rules) (P : OnRuns) (short : IfShort rules P) (refused : IfRefused rules P) (ends : IfEnds rules P) (goes : IfGoes rules P) where
-  pub commands-ind : (k : ℕ) (q : Problem) (bs : List ℕ) (free at : ℕ) → length bs < k → P q bs free at (commands rules k q bs free at)
+  commands-ind : (k : ℕ) (q : Problem) (bs : List ℕ) (free at : ℕ) → length bs < k → P q bs free at (commands rules k q bs free at)
   commands-ind zero q bs free at l = absurd (omega arith)
   commands-ind (suc k) q [] free at l = short q free at
   commands-ind (suc k) q (b ∷ bs) free at l =
-      go (eqb (refusalBy rules x) 0) refl (is (x .kind) Kind.E) refl (commands-ind k (rules .after x) (drop w bs) (free - length (bytesOf (rules .answer x))) (at + 1 + w) (omega (arith, length-drop w bs)))
+      go (eqb (refusalBy rules x) 0) refl (is (x .kind) Kind.E) refl
+      (commands-ind k (rules .after x) (drop w bs) (free - length (bytesOf (rules .answer x))) (at + 1 + w) (omega (arith, length-drop w bs)))
     where
       x : Context
       x = context q b bs free
@@ -180,13 +194,13 @@ module _ (rules : Rules) (law : Lawful rules) (P : OnRuns) (short : IfShort rule
 -- ---- where a job stops, and how much it writes
 
 -- with `end` where the job's bytes end
-pub record Stops (end free : ℕ) (r : Run) : Type 0 where
-  pub accepted : r .number ≡ 0 → r .offset ≡ end
-  pub cut : r .number ≡ 2 → r .offset ≡ end
-  pub refused : 3 ≤ r .number → r .offset < end
-  pub numbers : (r .number ≡ 0) ⊎ (2 ≤ r .number)
-  pub number-le : r .number ≤ largestNumber
-  pub fits : length (join (map bytesOf (r .answers))) ≤ free
+record Stops (end free : ℕ) (r : Run) : Type 0 where
+  accepted : r .number ≡ 0 → r .offset ≡ end
+  cut : r .number ≡ 2 → r .offset ≡ end
+  refused : 3 ≤ r .number → r .offset < end
+  numbers : (r .number ≡ 0) ⊎ (2 ≤ r .number)
+  number-le : r .number ≤ largestNumber
+  fits : length (join (map bytesOf (r .answers))) ≤ free
 
 abbrev Where : OnRuns
 Where q bs free at r = Stops (at + length bs) free r
@@ -195,7 +209,14 @@ module _ (rules : Rules) (law : Lawful rules) where
   stops-refused : IfRefused rules Where
   stops-refused q b bs free at n =
       let g = refusal-ge rules law (context q b bs free) n in
-      record { accepted = λ e. absurd (omega (arith, g, e)); cut = λ e. absurd (omega (arith, g, e)); refused = λ h. omega arith; numbers = inr (omega (arith, g)); number-le = refusal-le rules law (context q b bs free); fits = omega arith }
+      record {
+        accepted = λ e. absurd (omega (arith, g, e));
+        cut = λ e. absurd (omega (arith, g, e));
+        refused = λ h. omega arith;
+        numbers = inr (omega (arith, g));
+        number-le = refusal-le rules law (context q b bs free);
+        fits = omega arith;
+      }
 
   stops-ends : IfEnds rules Where
   stops-ends q b bs free at h z i = record {
@@ -220,6 +241,10 @@ module _ (rules : Rules) (law : Lawful rules) where
       same : at + 1 + width (kindOf b) + length (drop (width (kindOf b)) bs) ≡ at + suc (length bs)
       same = omega (arith, h .operands, length-drop (width (kindOf b)) bs)
 
+not-one : (n : ℕ) → (n ≡ 0) ⊎ (2 ≤ n) → n ≡ 1 → ⊥
+not-one n (inl e) f = omega arith
+not-one n (inr h) f = omega arith
+
 pub record Ends (job : List ℕ) (room : ℕ) (r : Run) : Type 0 where
   pub accepted : r .number ≡ 0 → r .offset ≡ length job
   pub too-long : r .number ≡ 1 → (r .offset ≡ 0) × (length (written r) ≡ 0)
@@ -233,14 +258,40 @@ pub record Ends (job : List ℕ) (room : ℕ) (r : Run) : Type 0 where
 module _ (rules : Rules) (law : Lawful rules) where
   pub ends : (job : List ℕ) (room : ℕ) → Ends job room (runBy rules job room)
   unfolding written
-  ends job room = run-ind rules law Where (λ q free at. record { accepted = λ e. absurd (omega (arith, e)); cut = λ e. omega arith; refused = λ g. absurd (omega (arith, g)); numbers = inr (omega arith); number-le = omega arith; fits = omega arith }) (stops-refused rules law) (stops-ends rules law) (stops-goes rules law)
-      (Ends job room) job room
-      (λ l. record { accepted = λ e. absurd (omega (arith, e)); too-long = λ e. (refl, refl); cut = λ e. absurd (omega (arith, e)); refused = λ g. absurd (omega (arith, g)); fits = omega arith; number-small = omega arith; offset-small = omega arith; written-small = omega arith })
-      (λ l m r s. record { accepted = λ e. omega (arith, s .accepted e); too-long = λ e. absurd (not-one (r .number) (s .numbers) e); cut = λ e. omega (arith, s .cut e); refused = λ g. omega (arith, s .refused g); fits = s .fits; number-small = s .number-le; offset-small = offs r s l; written-small = omega (arith, s .fits) })
+  ends job room = run-ind rules law Where stops-short (stops-refused rules law) (stops-ends rules law) (stops-goes rules law) (Ends job room) job room
+      (λ l. none)
+      (λ l m r s. record {
+        accepted = λ e. omega (arith, s .accepted e);
+        too-long = λ e. absurd (not-one (r .number) (s .numbers) e);
+        cut = λ e. omega (arith, s .cut e);
+        refused = λ g. omega (arith, s .refused g);
+        fits = s .fits;
+        number-small = s .number-le;
+        offset-small = offs r s l;
+        written-small = omega (arith, s .fits);
+      })
     where
-      not-one : (n : ℕ) → (n ≡ 0) ⊎ (2 ≤ n) → n ≡ 1 → ⊥
-      not-one n (inl e) f = omega arith
-      not-one n (inr h) f = omega arith
+      stops-short : IfShort rules Where
+      stops-short q free at = record {
+        accepted = λ e. absurd (omega (arith, e));
+        cut = λ e. omega arith;
+        refused = λ g. absurd (omega (arith, g));
+        numbers = inr (omega arith);
+        number-le = omega arith;
+        fits = omega arith;
+      }
+
+      none : Ends job room (stop 1 0 [])
+      none = record {
+        accepted = λ e. absurd (omega (arith, e));
+        too-long = λ e. (refl, refl);
+        cut = λ e. absurd (omega (arith, e));
+        refused = λ g. absurd (omega (arith, g));
+        fits = omega arith;
+        number-small = omega arith;
+        offset-small = omega arith;
+        written-small = omega arith;
+      }
 
       offs : (r : Run) → Where empty job room 0 r → length job ≤ 32768 → r .offset ≤ 32768
       offs r s l = go (r .number) (s .numbers) (λ e. omega (arith, s .accepted e)) (λ e. omega (arith, s .cut e)) (λ g. omega (arith, s .refused g))
@@ -254,57 +305,65 @@ module _ (rules : Rules) (law : Lawful rules) where
 -- ---- the command that is refused
 
 module _ (rules : Rules) where
-  -- the last command, at the offset, is the one refused, by the number; those before it are answered
-  pub record Refused (at : ℕ) (bs : List ℕ) (r : Run) : Type 0 where
-    pub before : List Context
-    pub refused : Context
-    pub byte : ℕ
-    pub contexts : r .contexts ≡ before ++ (refused ∷ [])
-    pub answered : All (λ x. refusalBy rules x ≡ 0) before
-    pub number : refusalBy rules refused ≡ r .number
-    pub behind : at ≤ r .offset
-    pub there : drop (r .offset - at) bs ≡ byte ∷ refused .rest
-    pub kind : kindOf byte ≡ refused .kind
+  -- of bytes from `at` on
+  record JudgedFrom (at : ℕ) (bs : List ℕ) (r : Run) : Type 0 where
+    answered : r .number < 3 → All (λ x. refusalBy rules x ≡ 0) (r .contexts)
+    refused : 3 ≤ r .number → (at ≤ r .offset) × RefusedAt rules bs (r .contexts) (r .number) (r .offset - at)
 
-  abbrev Judged : OnRuns
-  Judged q bs free at r = (r .number ≡ 0 → All (λ x. refusalBy rules x ≡ 0) (r .contexts)) × (3 ≤ r .number → Refused at bs r)
+  abbrev Judges : OnRuns
+  Judges q bs free at r = JudgedFrom at bs r
 
 module _ (rules : Rules) (law : Lawful rules) where
-  judged-refused : IfRefused rules (Judged rules)
-  judged-refused q b bs free at n = (
-    (λ z. absurd (omega (arith, refusal-ge rules law (context q b bs free) n, z))),
-    λ g. record { before = []; refused = context q b bs free; byte = b; contexts = refl; answered = tt; number = refl; behind = le-refl at; there = ap (λ (i : ℕ). drop i (b ∷ bs)) none; kind = refl },
-  )
+  judged-refused : IfRefused rules (Judges rules)
+  judged-refused q b bs free at n = record {
+    answered = λ l. absurd (omega (arith, refusal-ge rules law x n, l));
+    refused = λ g. (le-refl at, record { before = []; refused = x; byte = b; read = refl; answered = tt; first = refl; there = ap (λ (i : ℕ). drop i (b ∷ bs)) none; kind = refl });
+  }
     where
+      x : Context
+      x = context q b bs free
+
       none : at - at ≡ 0
       none = omega arith
 
-  judged-goes : IfGoes rules (Judged rules)
-  judged-goes q b bs free at h z n r j = ((λ y. (z, j .0 y)), λ g. up (j .1 g))
+  judged-goes : IfGoes rules (Judges rules)
+  judged-goes q b bs free at h z n r j = record { answered = λ l. (z, j .answered l); refused = λ g. let f = j .refused g in (omega (arith, f .0), up (f .0) (f .1)) }
     where
+      x : Context
+      x = context q b bs free
+
       w : ℕ
       w = width (kindOf b)
 
-      up : Refused rules (at + 1 + w) (drop w bs) r → Refused rules at (b ∷ bs) (answerThen rules (context q b bs free) r)
-      up f = record {
-        before = context q b bs free ∷ f .before;
+      up : at + 1 + w ≤ r .offset → RefusedAt rules (drop w bs) (r .contexts) (r .number) (r .offset - (at + 1 + w)) → RefusedAt rules (b ∷ bs) (x ∷ r .contexts) (r .number) (r .offset - at)
+      up l f = record {
+        before = x ∷ f .before;
         refused = f .refused;
         byte = f .byte;
-        contexts = ap (λ (l : List Context). context q b bs free ∷ l) (f .contexts);
+        read = ap (λ (xs : List Context). x ∷ xs) (f .read);
         answered = (z, f .answered);
-        number = f .number;
-        behind = omega (arith, f .behind);
+        first = f .first;
         there = ap (λ (i : ℕ). drop i (b ∷ bs)) far ∙ sym (drop-drop (r .offset - (at + 1 + w)) w bs) ∙ f .there;
         kind = f .kind;
       }
         where
           far : r .offset - at ≡ suc (w + (r .offset - (at + 1 + w)))
-          far = omega (arith, f .behind)
+          far = omega (arith, l)
 
-  pub judged : (job : List ℕ) (room : ℕ) → (runBy rules job room .number ≡ 0 → All (λ x. refusalBy rules x ≡ 0) (runBy rules job room .contexts)) × (3 ≤ runBy rules job room .number → Refused rules 0 job (runBy rules job room))
-  judged job room = run-ind rules law (Judged rules) (λ q free at. (λ z. absurd (omega (arith, z)), λ g. absurd (omega (arith, g)))) judged-refused
-      (λ q b bs free at h z e. (λ y. (z, tt), λ g. absurd (omega (arith, g)))) judged-goes
-      (λ r. (r .number ≡ 0 → All (λ x. refusalBy rules x ≡ 0) (r .contexts)) × (3 ≤ r .number → Refused rules 0 job r)) job room (λ l. (λ z. tt, λ g. never g)) (λ l m r j. j)
+  -- every job: what its number and offset say of its commands
+  pub judged : (job : List ℕ) (room : ℕ) → let r = runBy rules job room in Judged rules job (r .contexts) (r .number) (r .offset)
+  judged job room = run-ind rules law (λ q bs free at r. Judges rules q bs free at r × ((r .number ≡ 0) ⊎ (2 ≤ r .number)))
+      (λ q free at. (record { answered = λ l. tt; refused = λ g. absurd (omega (arith, g)) }, inr (omega arith)))
+      (λ q b bs free at n. (judged-refused q b bs free at n, inr (omega (arith, refusal-ge rules law (context q b bs free) n))))
+      (λ q b bs free at h z e. (record { answered = λ l. (z, tt); refused = λ g. absurd (omega (arith, g)) }, inl refl))
+      (λ q b bs free at h z n r j. (judged-goes q b bs free at h z n r (j .0), j .1))
+      (λ r. Judged rules job (r .contexts) (r .number) (r .offset)) job room
+      (λ l. record { answered = λ l. tt; unread = λ e. refl; refused = λ g. absurd (omega (arith, g)) })
+      (λ l m r j. record {
+        answered = j .0 .answered;
+        unread = λ e. absurd (not-one (r .number) (j .1) e);
+        refused = λ g. subst (RefusedAt rules job (r .contexts) (r .number)) (all-of-it r) (j .0 .refused g .1);
+      })
     where
-      never : 3 ≤ 1 → Refused rules 0 job (stop 1 0 [])
-      never g = absurd (omega (arith, g))
+      all-of-it : (r : Run) → r .offset - 0 ≡ r .offset
+      all-of-it r = omega arith

@@ -1,6 +1,6 @@
 -- Behind the first L or C of a job neither the table nor the candidates change.
-use Prim.Native.Nat.{ℕ, _-_}
-use mathlib.Core.Path.{_≡_, refl, subst}
+use Prim.Native.Nat.{ℕ}
+use mathlib.Core.Path.{_≡_, refl, _∙_, subst}
 use mathlib.Core.Bool.{Bool, true, false, cond}
 use mathlib.Core.List.{List, [], _∷_}
 use lib.Dec.{T}
@@ -12,7 +12,7 @@ use Rattle.model.specs.Job.{run}
 use Rattle.model.specs.Demand3.{HasBasis, isQuery}
 use Rattle.model.specs.Whole.{queries}
 use Rattle.model.proofs.Lists.{and-l, all-filter}
-use Rattle.model.proofs.Codes.{any-query}
+use Rattle.model.proofs.Codes.{any-query, query-keeps}
 use Rattle.model.proofs.Runs.{context, OnRuns, IfGoes, run-ind}
 use Rattle.model.proofs.Sound.{engine-lawful}
 
@@ -23,7 +23,7 @@ record Settled (z : Basis) (q : Problem) : Type 0 where
 
 after-query : (z : Basis) (t : Context) → HasBasis z t → (k : Kind) → T (isQueryKind k) → Settled z (problemAfter t k)
 unfolding problemAfter
-after-query z t e = any-query (λ k. Settled z (problemAfter t k)) (record { place = refl; stands = e }, (record { place = refl; stands = e }, tt))
+after-query z t e k q = record { place = any-query (λ k. problemAfter t k .place ≡ queried) (refl, (refl, tt)) k q; stands = query-keeps t k q ∙ e }
 
 after-settled : (z : Basis) (t : Context) (k : Kind) → T (allowed k queried) → Settled z (t .problem) → Settled z (problemAfter t k)
 unfolding problemAfter
@@ -57,7 +57,8 @@ module _ (z : Basis) where
       t : Context
       t = context q b bs free
 
-      go : (d : Bool) → isQuery t ≡ d → First (HasBasis z) (cond d (t ∷ filter isQuery (r .contexts)) (filter isQuery (r .contexts))) → All (HasBasis z) (cond d (t ∷ filter isQuery (r .contexts)) (filter isQuery (r .contexts)))
+      go : (d : Bool) → isQuery t ≡ d → First (HasBasis z) (cond d (t ∷ filter isQuery (r .contexts)) (filter isQuery (r .contexts)))
+          → All (HasBasis z) (cond d (t ∷ filter isQuery (r .contexts)) (filter isQuery (r .contexts)))
       go true e g =
           let a : T (isQuery t) = rw e tt in
           let y = after-query z t g (kindOf b) (and-l (isQueryKind (kindOf b)) (allowed (kindOf b) (q .place)) a) in

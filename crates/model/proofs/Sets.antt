@@ -37,7 +37,7 @@ module _ {A : Type 0} where
       go false true f h r = List·Memᴰ·tail (r h)
       go false false f h r = r h
 
-  pub sum-more : (w : A → ℕ) (ts : List A) (a s : ℕ) → Within a s → sum w (members ts a) ≤ sum w (members ts s)
+  sum-more : (w : A → ℕ) (ts : List A) (a s : ℕ) → Within a s → sum w (members ts a) ≤ sum w (members ts s)
   sum-more w [] a s h = omega arith
   sum-more w (u ∷ us) a s h = go (bit 0 a) (bit 0 s) (h 0) (sum-more w us (a / 2) (s / 2) (λ i. h (suc i)))
     where
@@ -77,7 +77,7 @@ module _ {A X : Type 0} (holds : A → X → Bool) where
 
 -- ---- the first of least cost
 
-pub least-in : (f : ℕ → ℕ) (b : ℕ) (ss : List ℕ) → List·Memᴰ (least f b ss) (b ∷ ss)
+least-in : (f : ℕ → ℕ) (b : ℕ) (ss : List ℕ) → List·Memᴰ (least f b ss) (b ∷ ss)
 least-in f b [] = List·Memᴰ·head refl
 least-in f b (s ∷ ss) = go (ltb (f s) (f b)) (least-in f (cond (ltb (f s) (f b)) s b) ss)
   where
@@ -100,20 +100,29 @@ pub least-le-first : (f : ℕ → ℕ) (b : ℕ) (ss : List ℕ) → f (least f 
 least-le-first f b [] = le-refl _
 least-le-first f b (s ∷ ss) = omega (arith, least-le-first f (cond (ltb (f s) (f b)) s b) ss, pick-le f s b .0)
 
-pub least-le : (f : ℕ → ℕ) (b : ℕ) (ss : List ℕ) {x : ℕ} → List·Memᴰ x ss → f (least f b ss) ≤ f x
+least-le : (f : ℕ → ℕ) (b : ℕ) (ss : List ℕ) {x : ℕ} → List·Memᴰ x ss → f (least f b ss) ≤ f x
 least-le f b (s ∷ ss) {x} (List·Memᴰ·head e) = omega (arith, least-le-first f (cond (ltb (f s) (f b)) s b) ss, pick-le f s b .1, ap f e)
 least-le f b (s ∷ ss) (List·Memᴰ·tail h) = least-le f (cond (ltb (f s) (f b)) s b) ss h
 
-pub leastOf-le : (f : ℕ → ℕ) (ss : List ℕ) {x : ℕ} → List·Memᴰ x ss → f (leastOf f ss) ≤ f x
+leastOf-le : (f : ℕ → ℕ) (ss : List ℕ) {x : ℕ} → List·Memᴰ x ss → f (leastOf f ss) ≤ f x
 leastOf-le f (s ∷ ss) (List·Memᴰ·head e) = omega (arith, least-le-first f s ss, ap f e)
 leastOf-le f (s ∷ ss) (List·Memᴰ·tail h) = least-le f s ss h
 
-pub leastOf-in : (f : ℕ → ℕ) (ss : List ℕ) {x : ℕ} → List·Memᴰ x ss → List·Memᴰ (leastOf f ss) ss
+leastOf-in : (f : ℕ → ℕ) (ss : List ℕ) {x : ℕ} → List·Memᴰ x ss → List·Memᴰ (leastOf f ss) ss
 leastOf-in f (s ∷ ss) m = least-in f s ss
 
 -- ---- irredundant: the test and the proposition
 
 module _ {A X : Type 0} (k : Covering A X) where
+  -- "each wanted cell is held by a member", both ways
+  pub cover-e : (s : ℕ) → T (cover k s) → {x : X} → List·Memᴰ x (k .points) → (t : A) × List·Memᴰ t (members (k .cands) s) × T (k .holds t x)
+  unfolding cover
+  cover-e s c = covers-e (k .holds) (k .points) (members (k .cands) s) c
+
+  pub cover-i : (s : ℕ) → ((x : X) → List·Memᴰ x (k .points) → (t : A) × List·Memᴰ t (members (k .cands) s) × T (k .holds t x)) → T (cover k s)
+  unfolding cover
+  cover-i s f = covers-i (k .holds) (k .points) (members (k .cands) s) f
+
   pub cover-more : (a s : ℕ) → Within a s → T (cover k a) → T (cover k s)
   unfolding cover
   cover-more a s w t = covers-more (k .holds) (k .points) (members (k .cands) a) (members (k .cands) s) (λ u m. members-more (k .cands) a s w m) t

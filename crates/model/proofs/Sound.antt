@@ -1,5 +1,5 @@
 -- The engine's rules are lawful: the sizes that every problem of a job keeps, and so every answer: each fits its bytes.
-use Prim.Native.Nat.{ℕ, zero, suc, _-_, _*_, _/_, _^_, _≤_, _<_}
+use Prim.Native.Nat.{ℕ, zero, suc, _*_, _/_, _^_, _≤_, _<_}
 use native.Mathlib.Omega.{arith}
 use native.Mathlib.Nat.{mul-suc}
 use mathlib.Core.Path.{_≡_, subst}
@@ -8,22 +8,23 @@ use mathlib.Core.List.{List, [], _∷_, map}
 use lib.Dec.{T, leb, leb→le, nleb→lt, nltb→le}
 use lib.Pow.{pow-mono}
 use lib.Count.{ones-le}
-use lib.ListN.{getD, length, take, length-take, length-append}
-use Rattle.model.specs.Base.{bit, below, filter, join, sum, All, Bytes}
+use lib.ListN.{getD, length, length-take, length-append}
+use Rattle.model.specs.Base.{bit, below, join, sum, All, Bytes}
 use Rattle.model.specs.Table.{Table, Term, formed}
 use Rattle.model.specs.Primes.{primes}
 use Rattle.model.specs.Sets.{Covering, members, coverable, irredundant, irredundants, cost, cheapest}
 use Rattle.model.specs.Pages.{atOrAbove, page, more}
 use Rattle.model.specs.Candidates.{termCost}
-use Rattle.model.specs.Commands.{queried, Kind, kindOf, width, Problem, atPlace, Context, low, operand, operandTerm, start, count, coveringOf, problemAfter}
+use Rattle.model.specs.Commands.{queried, Kind, kindOf, width, Problem, empty, atPlace, Context, low, operand, operandTerm, start, count, coveringOf, problemAfter, tableOf}
 use Rattle.model.specs.Answers.{Answer, bytesOf, answerFor, answer}
 use Rattle.model.specs.Refusals.{size, refusalsOf}
 use Rattle.model.specs.Rules.{Rules, engine}
 use Rattle.model.specs.Job.{runBy, written}
 use Rattle.model.specs.Invariants.{Small, Sound}
-use Rattle.model.proofs.Lists.{twice, and-l, and-r, below-e, all-append, all-filter, all-take, all-drop, all-of}
+use Rattle.model.proofs.Lists.{twice, and-l, and-r, below-e, all-append, all-filter, all-drop, all-of}
 use Rattle.model.proofs.Bits.{within-le}
 use Rattle.model.proofs.Sets.{cheapest-irredundant}
+use Rattle.model.proofs.Pages.{all-page}
 use Rattle.model.proofs.Cubes.{Formed, formed-e, legal-formed, prime-e, primes-e}
 use Rattle.model.proofs.Codes.{is-kind}
 use Rattle.model.proofs.Runs.{Numbered, NoneApplies, Lawful, context, OnRuns, IfEnds, IfGoes, run-ind}
@@ -71,15 +72,18 @@ FitsBehind rest a = Fits a × (Bytes rest → Bytes (bytesOf a))
 
 -- a page of any list of 64-bit sets
 pub page-fits : (t : Context) (list : List ℕ) (m : Bool) → All (λ s. s < 2 ^ 64) list → FitsBehind (t .rest) (Answer.paged (page list (start t) (count t)) m)
-unfolding page atOrAbove
+unfolding page
 page-fits t list m a = (
-  all-take (λ (s : ℕ). s < 2 ^ 64) (count t) (filter (leb (start t)) list) (all-filter (λ (s : ℕ). s < 2 ^ 64) (leb (start t)) list a),
-  λ b. (omega arith, (omega (arith, length-take (count t) (filter (leb (start t)) list), getD-byte (t .rest) 8 b), (flag-byte m, sets-bytes (take (count t) (filter (leb (start t)) list))))),
+  all-page (λ (s : ℕ). s < 2 ^ 64) list (start t) (count t) a,
+  λ b. (omega arith, (omega (arith, length-take (count t) (atOrAbove list (start t)), getD-byte (t .rest) 8 b), (flag-byte m, sets-bytes (page list (start t) (count t))))),
 )
 
 pub listed-small : {A X : Type 0} (k : Covering A X) → length (k .cands) ≤ 64 → All (λ s. s < 2 ^ 64) (irredundants k)
 unfolding irredundants
-listed-small k l = all-filter (λ (s : ℕ). s < 2 ^ 64) (irredundant k) (below (2 ^ length (k .cands))) (all-of (λ (s : ℕ). s < 2 ^ 64) (below (2 ^ length (k .cands))) (λ s m. let h = pow-mono l in omega (arith, below-e (2 ^ length (k .cands)) m)))
+listed-small k l =
+    let sets = below (2 ^ length (k .cands)) in
+    let h = pow-mono l in
+    all-filter (λ (s : ℕ). s < 2 ^ 64) (irredundant k) sets (all-of (λ (s : ℕ). s < 2 ^ 64) sets (λ s m. omega (arith, h, below-e (2 ^ length (k .cands)) m)))
 
 cheapest-fits : (rest : List ℕ) (c s : ℕ) → c < 2 ^ 16 → s < 2 ^ 64 → FitsBehind rest (Answer.cheapestIs c s)
 cheapest-fits rest c s h l = ((h, l), λ b. (omega arith, all-append (λ (b : ℕ). b < 256) (low 2 c) (low 8 s) (low-bytes 2 c) (low-bytes 8 s)))
@@ -125,12 +129,17 @@ sound-T t a s = record {
   inputs = s .inputs;
   outputs = s .outputs;
   few = omega (arith, nleb→lt 64 (length (t .problem .cands)) (a .1 .1 .0), length-append (t .problem .cands) (operandTerm t ∷ []));
-  small = all-append Small (t .problem .cands) (operandTerm t ∷ []) (s .small) (formed-small (t .problem .table) (operandTerm t) (s .inputs) (s .outputs) (formed-e (t .problem .table) (operandTerm t) (twice (formed (t .problem .table) (operandTerm t)) (a .0))), tt);
+  small =
+      let p = tableOf (t .problem) in
+      let u = operandTerm t in
+      all-append Small (t .problem .cands) (u ∷ []) (s .small) (formed-small p u (s .inputs) (s .outputs) (formed-e p u (twice (formed p u) (a .0))), tt);
 }
 
 fits-P : (t : Context) → NoneApplies (refusalsOf t Kind.P) → Sound (t .problem) → FitsBehind (t .rest) (answerFor t Kind.P)
 unfolding refusalsOf answerFor
-fits-P t a s = (tt, λ b. (omega arith, (omega (arith, nltb→le 64 (length (primes (t .problem .table))) (a .0)), terms-bytes (primes (t .problem .table)) (primes-small (t .problem .table) (s .inputs) (s .outputs)))))
+fits-P t a s =
+    let p = tableOf (t .problem) in
+    (tt, λ b. (omega arith, (omega (arith, nltb→le 64 (length (primes p)) (a .0)), terms-bytes (primes p) (primes-small p (s .inputs) (s .outputs)))))
 
 fits-C : (t : Context) → NoneApplies (refusalsOf t Kind.C) → Sound (t .problem) → FitsBehind (t .rest) (answerFor t Kind.C)
 unfolding refusalsOf answerFor cost
@@ -143,11 +152,20 @@ fits-C t a s =
 lawful-at : (t : Context) (k : Kind) → LawfulAt t k
 unfolding refusalsOf problemAfter answerFor
 lawful-at t Kind.I = record { numbered = (omega arith, tt); sound = λ a s. sound-I t a; fits = λ a s. (tt, λ b. tt) }
-lawful-at t Kind.R = record { numbered = (omega arith, (omega arith, tt)); sound = λ a s. record { inputs = s .inputs; outputs = s .outputs; few = s .few; small = s .small }; fits = λ a s. (tt, λ b. tt) }
+lawful-at t Kind.R = record {
+  numbered = (omega arith, (omega arith, tt));
+  sound = λ a s. record { inputs = s .inputs; outputs = s .outputs; few = s .few; small = s .small };
+  fits = λ a s. (tt, λ b. tt);
+}
 lawful-at t Kind.T = record { numbered = (omega arith, (omega arith, (omega arith, tt))); sound = sound-T t; fits = λ a s. (tt, λ b. tt) }
 lawful-at t Kind.P = record {
   numbered = (omega arith, tt);
-  sound = λ a s. record { inputs = s .inputs; outputs = s .outputs; few = nltb→le 64 (length (primes (t .problem .table))) (a .0); small = primes-small (t .problem .table) (s .inputs) (s .outputs) };
+  sound = λ a s. record {
+    inputs = s .inputs;
+    outputs = s .outputs;
+    few = nltb→le 64 (length (primes (tableOf (t .problem)))) (a .0);
+    small = primes-small (tableOf (t .problem)) (s .inputs) (s .outputs);
+  };
   fits = fits-P t;
 }
 lawful-at t Kind.L = record {
@@ -202,7 +220,10 @@ module _ (rules : Rules) (law : Lawful rules) where
 
   fine : (job : List ℕ) (room : ℕ) → All Fits (runBy rules job room .answers) × (Bytes job → Bytes (join (map bytesOf (runBy rules job room .answers))))
   fine job room = run-ind rules law Fine (λ q free at s. (tt, λ y. tt)) (λ q b bs free at n s. (tt, λ y. tt)) fine-ends fine-goes
-      (λ r. All Fits (r .answers) × (Bytes job → Bytes (join (map bytesOf (r .answers))))) job room (λ l. (tt, λ y. tt)) (λ l m r f. f (record { inputs = omega arith; outputs = omega arith; few = omega arith; small = tt }))
+      (λ r. All Fits (r .answers) × (Bytes job → Bytes (join (map bytesOf (r .answers))))) job room (λ l. (tt, λ y. tt)) (λ l m r f. f none)
+    where
+      none : Sound empty
+      none = record { inputs = omega arith; outputs = omega arith; few = omega arith; small = tt }
 
   pub run-fits : (job : List ℕ) (room : ℕ) → All Fits (runBy rules job room .answers)
   run-fits job room = fine job room .0

@@ -1,33 +1,28 @@
--- What every problem of a job keeps: its rows are well formed and its candidates legal. So an L answers what the library call fills.
-use Prim.Native.Nat.{ℕ, _+_, _*_, _/_, _%_, _^_, _≤_, _<_}
+-- What every problem of a job keeps: its rows are well formed and its candidates legal.
+use Prim.Native.Nat.{ℕ, _^_, _≤_, _<_}
 use native.Mathlib.Omega.{arith}
-use native.Mathlib.Decide.{ℕ-discrete, decLt}
-use mathlib.Core.Path.{_≡_, refl, ap, ap₂, _∙_, subst, subst⁻¹}
+use native.Mathlib.Decide.{ℕ-discrete}
+use mathlib.Core.Path.{_≡_, refl, _∙_, subst, subst⁻¹}
 use mathlib.Core.Bool.{Bool, true, false, not, cond, _&&_, _||_}
-use mathlib.Core.List.{List, [], _∷_, _++_, map}
-use lib.Dec.{T, leb, ltb, eqb, leb→le, nleb→lt, eqb-refl, not-T, T-not}
-use lib.Arith.{le→nltb}
+use mathlib.Core.List.{List, [], _∷_, _++_}
+use lib.Dec.{T, leb, eqb, leb→le, nleb→lt}
 use lib.Bits.{and-zero-r}
 use lib.Pow.{pow-pos}
 use lib.Seq.{getD-set-same, getD-set-other}
-use lib.ListN.{getD, length, replicate, length-set, length-replicate, getD-replicate, List·getD-eq-default, length-map}
-use Rattle.model.specs.Base.{below, some, join, All}
+use lib.ListN.{length, length-set, length-replicate}
+use Rattle.model.specs.Base.{some, All}
 use Rattle.model.specs.Table.{Table, Term, formed, holdsNoOff, legal}
 use Rattle.model.specs.Primes.{primes}
-use Rattle.model.specs.Sets.{coverable}
-use Rattle.model.specs.Candidates.{basis, covering}
-use Rattle.model.specs.Commands.{atStart, begun, inRows, inTerms, queried, Kind, is, allowed, Problem, Context, operand, operandTerm, start, count, coveringOf, withRow, atPlace, withCands, problemAfter, empty}
-use Rattle.model.specs.Answers.{Answer, answerFor, answer}
-use Rattle.model.specs.Refusals.{size, badRow, Refusal, refuse, firstOf, refusalsOf}
+use Rattle.model.specs.Commands.{atStart, begun, inRows, inTerms, queried, Kind, is, allowed, Problem, Context, operand, operandTerm, withRow, withRows, atPlace, withCands, problemAfter, empty, tableOf}
+use Rattle.model.specs.Refusals.{size, badRow, refusalsOf}
 use Rattle.model.specs.Rules.{Rules, engine}
 use Rattle.model.specs.Job.{run, runBy}
-use Rattle.model.specs.Library.{unpack, badVertex, refusalsOfWord, callRefusals, listCovers, setsOf}
-use Rattle.model.specs.Invariants.{Small, Sound, Valid}
-use Rattle.model.proofs.Lists.{twice, and-l, and-r, and-i, some-e, all-append, all-of}
+use Rattle.model.specs.Library.{badVertex}
+use Rattle.model.specs.Invariants.{Sound, Valid}
+use Rattle.model.proofs.Lists.{zero-at, twice, and-l, and-r, and-i, all-append, all-of}
 use Rattle.model.proofs.Cubes.{prime-e, primes-e}
-use Rattle.model.proofs.Runs.{NoneApplies, Passed, Lawful, context, OnRuns, run-ind}
+use Rattle.model.proofs.Runs.{NoneApplies, Lawful, context, OnRuns, run-ind}
 use Rattle.model.proofs.Sound.{after-sound, engine-lawful}
-use Rattle.model.proofs.Library.{listed-told}
 
 -- ---- rows
 
@@ -38,19 +33,13 @@ zeros-good m = rw (and-zero-r 0) (go (leb (2 ^ m) 0) refl)
     go true e = absurd (omega (arith, pow-pos m, leb→le (2 ^ m) 0 (rw e tt)))
     go false e = tt
 
-zero-row : (n v : ℕ) → _≡_ {A = ℕ} (getD (replicate n 0) v 0) 0
-zero-row n v = go (decLt v n)
+set-good : (q : Problem) (u x y : ℕ) → u < length (q .rows .on) → u < length (q .rows .dc) → T (not (badRow (q .settings .m) x y)) → ((v : ℕ) → T (not (badVertex (tableOf q) v)))
+    → (v : ℕ) → T (not (badVertex (tableOf (withRows (withRow (q .rows) u x y) q)) v))
+set-good q u x y h k g f v = go (ℕ-discrete v u)
   where
-    go : Dec (v < n) → _≡_ {A = ℕ} (getD (replicate n 0) v 0) 0
-    go (yes h) = getD-replicate n v 0 0 h
-    go (no h) = List·getD-eq-default (replicate n 0) 0 (omega (arith, length-replicate {A = ℕ} n 0))
-
-set-good : (p : Table) (u x y : ℕ) → u < length (p .on) → u < length (p .dc) → T (not (badRow (p .m) x y)) → ((v : ℕ) → T (not (badVertex p v))) → (v : ℕ) → T (not (badVertex (withRow p u x y) v))
-set-good p u x y h k g f v = go (ℕ-discrete v u)
-  where
-    go : Dec (v ≡ u) → T (not (badVertex (withRow p u x y) v))
-    go (yes e) = rw (e, getD-set-same (p .on) u x 0 h, getD-set-same (p .dc) u y 0 k) g
-    go (no d) = rw (getD-set-other (p .on) u v x 0 d, getD-set-other (p .dc) u v y 0 d) (f v)
+    go : Dec (v ≡ u) → T (not (badVertex (tableOf (withRows (withRow (q .rows) u x y) q)) v))
+    go (yes e) = rw (e, getD-set-same (q .rows .on) u x 0 h, getD-set-same (q .rows .dc) u y 0 k) g
+    go (no d) = rw (getD-set-other (q .rows .on) u v x 0 d, getD-set-other (q .rows .dc) u v y 0 d) (f v)
 
 -- ---- one command
 
@@ -76,7 +65,7 @@ valid-I t a s =
       sound = after-sound t Kind.I a (s .sound);
       sizes = λ l. (and-l (size (operand t 0)) (size (operand t 1)) h, and-r (size (operand t 0)) (size (operand t 1)) h);
       rows = λ l. (length-replicate (2 ^ operand t 0) 0, length-replicate (2 ^ operand t 0) 0);
-      good = λ v. rw (zero-row (2 ^ operand t 0) v) (zeros-good (operand t 1));
+      good = λ v. rw (zero-at (2 ^ operand t 0) v) (zeros-good (operand t 1));
       early = λ l. refl;
       legal = tt;
     }
@@ -85,25 +74,26 @@ valid-R : (t : Context) → T (allowed Kind.R (t .problem .place)) → NoneAppli
 unfolding refusalsOf problemAfter
 valid-R t p a s =
     let o = place-one Kind.R (t .problem .place) tt p in
-    let l = nleb→lt (2 ^ t .problem .table .n) (operand t 0) (not-or-l (leb (2 ^ t .problem .table .n) (operand t 0)) (some (eqb (operand t 0)) (t .problem .rowsAt)) (a .0)) in
+    let l = nleb→lt (2 ^ t .problem .settings .n) (operand t 0) (not-or-l (leb (2 ^ t .problem .settings .n) (operand t 0)) (some (eqb (operand t 0)) (t .problem .rows .given)) (a .0)) in
     let none = s .early (place-low (t .problem .place) p) in
     record {
       sound = after-sound t Kind.R a (s .sound);
       sizes = λ q. s .sizes o;
-      rows = λ q. (length-set (t .problem .table .on) (operand t 0) (operand t 1) ∙ s .rows o .0, length-set (t .problem .table .dc) (operand t 0) (operand t 2) ∙ s .rows o .1);
-      good = set-good (t .problem .table) (operand t 0) (operand t 1) (operand t 2) (omega (arith, s .rows o .0)) (omega (arith, s .rows o .1)) (a .1 .0) (s .good);
+      rows = λ q. (length-set (t .problem .rows .on) (operand t 0) (operand t 1) ∙ s .rows o .0, length-set (t .problem .rows .dc) (operand t 0) (operand t 2) ∙ s .rows o .1);
+      good = set-good (t .problem) (operand t 0) (operand t 1) (operand t 2) (omega (arith, s .rows o .0)) (omega (arith, s .rows o .1)) (a .1 .0) (s .good);
       early = λ q. none;
-      legal = subst⁻¹ (All (λ u. T (legal (withRow (t .problem .table) (operand t 0) (operand t 1) (operand t 2)) u))) none tt;
+      legal = subst⁻¹ (All (λ u. T (legal (tableOf (problemAfter t Kind.R)) u))) none tt;
     }
 
 -- other candidates, behind the rows
-valid-cands : (q : Problem) (place : ℕ) (ts : List Term) → inTerms ≤ place → begun ≤ q .place → Valid q → All (λ u. T (legal (q .table) u)) ts → Sound (atPlace place (withCands ts q)) → Valid (atPlace place (withCands ts q))
+valid-cands : (q : Problem) (place : ℕ) (ts : List Term) → inTerms ≤ place → begun ≤ q .place → Valid q → All (λ u. T (legal (tableOf q) u)) ts
+    → Sound (atPlace place (withCands ts q)) → Valid (atPlace place (withCands ts q))
 valid-cands q place ts i o v l s = record { sound = s; sizes = λ h. v .sizes o; rows = λ h. v .rows o; good = v .good; early = λ h. absurd (omega (arith, h)); legal = l }
 
-legal-term : (t : Context) → NoneApplies (refusalsOf t Kind.T) → T (legal (t .problem .table) (operandTerm t))
+legal-term : (t : Context) → NoneApplies (refusalsOf t Kind.T) → T (legal (tableOf (t .problem)) (operandTerm t))
 unfolding refusalsOf legal
 legal-term t a =
-    let p = t .problem .table in
+    let p = tableOf (t .problem) in
     and-i (formed p (operandTerm t)) (holdsNoOff p (operandTerm t)) (twice (formed p (operandTerm t)) (a .0)) (twice (holdsNoOff p (operandTerm t)) (a .1 .0))
 
 primes-legal : (p : Table) → All (λ u. T (legal p u)) (primes p)
@@ -115,8 +105,10 @@ after-valid t Kind.I p a s = valid-I t a s
 after-valid t Kind.R p a s = valid-R t p a s
 after-valid t Kind.T p a s =
     valid-cands (t .problem) inTerms (t .problem .cands ++ (operandTerm t ∷ [])) (omega arith) (place-one Kind.T (t .problem .place) tt p) s
-    (all-append (λ (u : Term). T (legal (t .problem .table) u)) (t .problem .cands) (operandTerm t ∷ []) (s .legal) (legal-term t a, tt)) (after-sound t Kind.T a (s .sound))
-after-valid t Kind.P p a s = valid-cands (t .problem) queried (primes (t .problem .table)) (omega arith) (place-one Kind.P (t .problem .place) tt p) s (primes-legal (t .problem .table)) (after-sound t Kind.P a (s .sound))
+    (all-append (λ (u : Term). T (legal (tableOf (t .problem)) u)) (t .problem .cands) (operandTerm t ∷ []) (s .legal) (legal-term t a, tt)) (after-sound t Kind.T a (s .sound))
+after-valid t Kind.P p a s =
+    let ts = primes (tableOf (t .problem)) in
+    valid-cands (t .problem) queried ts (omega arith) (place-one Kind.P (t .problem .place) tt p) s (primes-legal (tableOf (t .problem))) (after-sound t Kind.P a (s .sound))
 after-valid t Kind.L p a s = valid-cands (t .problem) queried (t .problem .cands) (omega arith) (place-one Kind.L (t .problem .place) tt p) s (s .legal) (after-sound t Kind.L a (s .sound))
 after-valid t Kind.C p a s = valid-cands (t .problem) queried (t .problem .cands) (omega arith) (place-one Kind.C (t .problem .place) tt p) s (s .legal) (after-sound t Kind.C a (s .sound))
 after-valid t Kind.E p a s = s
@@ -146,87 +138,3 @@ valid-by rules law keeps job room = run-ind rules law Keeps (λ q free at v. tt)
 
 pub valid : (job : List ℕ) (room : ℕ) → All (λ x. Valid (x .problem)) (run job room .contexts)
 valid = valid-by engine engine-lawful (λ x. after-valid x (x .kind))
-
--- ---- the library call on what a job has
-
--- a term as a 32-bit number
-abbrev pub pack : Term → ℕ
-pack t = t .care + 256 * t .value + 65536 * t .outputs
-
-low-byte : (x y : ℕ) → x < 256 → (x + 256 * y) % 256 ≡ x
-low-byte x y h = omega arith
-
-unpack-pack : (t : Term) → Small t → unpack (pack t) ≡ t
-unpack-pack t s =
-    let a : pack t % 256 ≡ t .care = omega (arith, s .0) in
-    let h : pack t / 256 ≡ t .value + 256 * t .outputs = omega (arith, s .0) in
-    let b : pack t / 256 % 256 ≡ t .value = ap (λ (x : ℕ). x % 256) h ∙ low-byte (t .value) (t .outputs) (s .1) in
-    let k : pack t / 65536 ≡ t .outputs + 256 * 0 = omega (arith, s .0, s .1) in
-    let c : pack t / 65536 % 256 ≡ t .outputs = ap (λ (x : ℕ). x % 256) k ∙ low-byte (t .outputs) 0 (s .2) in
-    rw (a, b, c)
-
-unpack-all : (ts : List Term) → All Small ts → map unpack (map pack ts) ≡ ts
-unpack-all [] a = refl
-unpack-all (t ∷ ts) a = ap₂ (λ (u : Term) (us : List Term). u ∷ us) (unpack-pack t (a .0)) (unpack-all ts (a .1))
-
-none-first : (rs : List Refusal) → NoneApplies rs → firstOf rs ≡ 0
-none-first [] a = refl
-none-first (r ∷ rs) a = go (r .applies) (a .0) (none-first rs (a .1))
-  where
-    go : (b : Bool) → T (not b) → firstOf rs ≡ 0 → cond b (r .no) (firstOf rs) ≡ 0
-    go true t e = absurd t
-    go false t e = e
-
-not-not : (b : Bool) → T b → T (not (not b))
-not-not true t = tt
-not-not false t = t
-
-words-pass : (p : Table) (ts : List Term) → All Small ts → All (λ t. T (legal p t)) ts → All (λ r. T (not (r .applies))) (join (map (refusalsOfWord p) (map pack ts)))
-unfolding legal
-words-pass p [] s l = tt
-words-pass p (t ∷ ts) s l =
-    let top : pack t / 2 ^ 24 ≡ 0 = omega (arith, s .0 .0, s .0 .1, s .0 .2) in
-    let f = and-l (formed p t) (holdsNoOff p t) (l .0) in
-    let h = and-r (formed p t) (holdsNoOff p t) (l .0) in
-    (rw (top, unpack-pack t (s .0)) (not-not (formed p t) f), (rw (unpack-pack t (s .0)) (not-not (holdsNoOff p t) h), words-pass p ts (s .1) (l .1)))
-
--- no refusal of the library call applies where none applies to an L
-library-passes : (q : Problem) → Valid q → begun ≤ q .place → T (coverable (covering (basis (q .table) (q .cands)))) → firstOf (callRefusals (q .table) (map pack (q .cands))) ≡ 0
-unfolding callRefusals
-library-passes q v o c = none-first (callRefusals p words) (not-not (size (p .n) && size (p .m) && (eqb (length (p .on)) (2 ^ p .n) && eqb (length (p .dc)) (2 ^ p .n))) shape, (clean, (few, rest)))
-  where
-    p : Table
-    p = q .table
-
-    words : List ℕ
-    words = map pack (q .cands)
-
-    full : (xs : List ℕ) → length xs ≡ 2 ^ p .n → T (eqb (length xs) (2 ^ p .n))
-    full xs e = rw e (eqb-refl (2 ^ p .n))
-
-    shape : T (size (p .n) && size (p .m) && (eqb (length (p .on)) (2 ^ p .n) && eqb (length (p .dc)) (2 ^ p .n)))
-    shape =
-        and-i (size (p .n) && size (p .m)) (eqb (length (p .on)) (2 ^ p .n) && eqb (length (p .dc)) (2 ^ p .n)) (and-i (size (p .n)) (size (p .m)) (v .sizes o .0) (v .sizes o .1))
-        (and-i (eqb (length (p .on)) (2 ^ p .n)) (eqb (length (p .dc)) (2 ^ p .n)) (full (p .on) (v .rows o .0)) (full (p .dc) (v .rows o .1)))
-
-    clean : T (not (some (badVertex p) (below (2 ^ p .n))))
-    clean = not-T (some (badVertex p) (below (2 ^ p .n))) (λ t. let e = some-e (badVertex p) (below (2 ^ p .n)) t in T-not (badVertex p (e .0)) (v .good (e .0)) (e .2))
-
-    few : T (not (ltb 64 (length words)))
-    few = le→nltb 64 (length words) (omega (arith, length-map (q .cands) pack, v .sound .few))
-
-    rest : All (λ r. T (not (r .applies))) (join (map (refusalsOfWord p) words) ++ (refuse 12 (not (coverable (covering (basis p (map unpack words))))) ∷ []))
-    rest = all-append (λ (r : Refusal). T (not (r .applies))) (join (map (refusalsOfWord p) words)) (refuse 12 (not (coverable (covering (basis p (map unpack words))))) ∷ [])
-        (words-pass p (q .cands) (v .sound .small) (v .legal))
-        (subst⁻¹ (λ (ts : List Term). T (not (not (coverable (covering (basis p ts)))))) (unpack-all (q .cands) (v .sound .small)) (not-not (coverable (covering (basis p (q .cands)))) c), tt)
-
--- an L answers what the library call fills into a row of `count` entries
-pub page-library : (t : Context) → t .kind ≡ Kind.L → Valid (t .problem) → Passed engine t → (old : List ℕ) → length old ≡ count t
-    → let l = listCovers (t .problem .table) (map pack (t .problem .cands)) (start t) old in (l .number ≡ 0) × (answer t ≡ Answer.paged (setsOf l) (l .above))
-unfolding answer answerFor refusalsOf
-page-library t e v h old n =
-    let a : T (allowed Kind.L (t .problem .place)) = subst (λ (k : Kind). T (allowed k (t .problem .place))) e (h .place) in
-    let w : NoneApplies (refusalsOf t Kind.L) = subst (λ (k : Kind). NoneApplies (refusalsOf t k)) e (h .own) in
-    let z = library-passes (t .problem) v (place-one Kind.L (t .problem .place) tt a) (twice (coverable (coveringOf t)) (w .0)) in
-    let d = listed-told (t .problem .table) (map pack (t .problem .cands)) (start t) old z in
-    (d .number, rw (e, d .sets, d .above, unpack-all (t .problem .cands) (v .sound .small), n))

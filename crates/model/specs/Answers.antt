@@ -8,7 +8,7 @@ use Rattle.model.specs.Table.{Term}
 use Rattle.model.specs.Primes.{primes}
 use Rattle.model.specs.Sets.{irredundants, cheapest, cost}
 use Rattle.model.specs.Pages.{page, more}
-use Rattle.model.specs.Commands.{Kind, Context, low, start, count, coveringOf}
+use Rattle.model.specs.Commands.{Kind, Context, low, start, count, coveringOf, tableOf}
 
 -- I, R and T answer nothing
 pub data Answer : Type 0 where
@@ -39,7 +39,7 @@ unfoldable pub answerFor : Context → Kind → Answer
 answerFor x Kind.I = nothing
 answerFor x Kind.R = nothing
 answerFor x Kind.T = nothing
-answerFor x Kind.P = primesAre (primes (x .problem .table))
+answerFor x Kind.P = primesAre (primes (tableOf (x .problem)))
 answerFor x Kind.L =
     let all = irredundants (coveringOf x) in
     paged (page all (start x) (count x)) (more all (start x) (count x))

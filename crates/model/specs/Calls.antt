@@ -87,7 +87,7 @@ module _ (rules : Rules) where
     pub rest : drop (writtenOf c) (c .after) ≡ drop (writtenOf c) (c .before)
     pub whole : length (c .after) ≡ length (c .before)
     pub small : Bytes (c .job) → Bytes (c .before) → Bytes (c .after)
-    -- "an accepted result or one numbered refusal with its offset"
+    -- demand 1: an accepted result, or one numbered refusal with its offset
     pub numbered : numberOf c ≤ largestNumber
     pub accepted : numberOf c ≡ 0 → offsetOf c ≡ length (c .job)
     pub too-long : numberOf c ≡ 1 → (offsetOf c ≡ 0) × (writtenOf c ≡ 0)

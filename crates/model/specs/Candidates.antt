@@ -1,10 +1,12 @@
 -- Paper 01, "Sets": product terms as candidates, the first instance of `Covering`.
 use Prim.Native.Nat.{ℕ, _+_}
-use mathlib.Core.List.{List}
+use mathlib.Core.Logic.{_↔_}
+use mathlib.Core.List.{List, List·Memᴰ}
+use lib.Dec.{T}
 use lib.Count.{ones}
-use Rattle.model.specs.Base.{sum}
-use Rattle.model.specs.Table.{Table, Cell, Term, onCells, holds}
-use Rattle.model.specs.Sets.{Covering}
+use Rattle.model.specs.Base.{sum, All}
+use Rattle.model.specs.Table.{Table, Cell, Term, cells, isOn, isOff, onCells, holds, legal}
+use Rattle.model.specs.Sets.{Covering, members, cover}
 
 -- "the cost of a term is 1 plus its literals (the ones in care)"
 unfoldable pub termCost : Term → ℕ
@@ -20,9 +22,19 @@ pub record Basis : Type 0 where
 abbrev pub basis : Table → List Term → Basis
 basis p ts = record { table = p; cands = ts; weight = termCost }
 
--- "of a list, the sum over its entries"
+-- the cost "of a set or list, the sum over its entries"
 unfoldable pub listCost : Basis → List Term → ℕ
 listCost b ts = sum (b .weight) ts
 
 abbrev pub covering : Basis → Covering Term Cell
 covering b = record { points = onCells (b .table); holds = holds; weight = b .weight; cands = b .cands }
+
+-- demand 2: "a set is a cover when it holds every wanted cell and no off cell"; a set holds what its members hold
+pub record HoldsExactly (b : Basis) (s : ℕ) : Type 0 where
+  pub every-wanted : (c : Cell) → List·Memᴰ c (cells (b .table)) → T (isOn (b .table) c) → (t : Term) × List·Memᴰ t (members (b .cands) s) × T (holds t c)
+  pub no-off : (c : Cell) → List·Memᴰ c (cells (b .table)) → T (isOff (b .table) c) → (t : Term) → List·Memᴰ t (members (b .cands) s) → T (holds t c) → ⊥
+
+-- "candidates are legal", so the covers are the sets that do so
+pub record LegalBasis (b : Basis) : Type 0 where
+  pub legal-cands : All (λ t. T (legal (b .table) t)) (b .cands)
+  pub covers : (s : ℕ) → T (cover (covering b) s) ↔ HoldsExactly b s

@@ -1,8 +1,9 @@
--- Paper 01, "The two-output example of document 003": the marked cases as one table, and the job with all its bytes
--- (theorems: proofs/Marked).
-use Prim.Native.Nat.{ℕ, zero, suc}
+-- Paper 01, "The two-output example of document 003": the marked cases as one table, and the job with all its bytes;
+-- and tables of jobs and library calls that pin the order of refusals (theorems: proofs/Marked).
+use Prim.Native.Nat.{ℕ, zero, suc, _+_}
 use mathlib.Core.Bool.{cond}
 use mathlib.Core.List.{List, [], _∷_, _++_, map}
+use lib.ListN.{replicate}
 use Rattle.model.specs.Table.{Table, Term, term}
 use Rattle.model.specs.Primes.{primes}
 use Rattle.model.specs.Sets.{coverable, irredundants, cost, cheapest}
@@ -89,7 +90,7 @@ exampleAnswers =
     ∷ 0x00 ∷ 0x00 ∷ 0x00 ∷ 0x34 ∷ 0x00 ∷ 0x00 ∷ 0x00 ∷ 0x00 ∷ 0x00 ∷ 0x00 ∷ 0x00 ∷ 0x38 ∷ 0x00 ∷ 0x00 ∷ 0x00 ∷ 0x00
     ∷ 0x00 ∷ 0x00 ∷ 0x00 ∷ 0x63 ∷ 0x06 ∷ 0x00 ∷ 0x29 ∷ 0x00 ∷ 0x00 ∷ 0x00 ∷ 0x00 ∷ 0x00 ∷ 0x00 ∷ 0x00 ∷ 0x65 ∷ []
 
--- ---- refusals: jobs that stop, each with its number, offset and written. Where two refusals apply, the first in the paper's order is given
+-- ---- jobs with their number, offset and written. Where two refusals apply, the first in the paper's order is given
 
 pub record Stopped : Type 0 where
   pub job : List ℕ
@@ -115,10 +116,21 @@ t care value outputs bs = 0x54 ∷ care ∷ value ∷ outputs ∷ bs
 abbrev l : ℕ → List ℕ → List ℕ
 l count bs = 0x4c ∷ 0 ∷ 0 ∷ 0 ∷ 0 ∷ 0 ∷ 0 ∷ 0 ∷ 0 ∷ count ∷ bs
 
--- k times the same term, both cells free
-abbrev times : ℕ → List ℕ → List ℕ
-times zero bs = bs
-times (suc k) bs = t 0 0 1 (times k bs)
+-- k times the same term
+abbrev times : ℕ → (List ℕ → List ℕ) → List ℕ → List ℕ
+times zero one bs = bs
+times (suc k) one bs = one (times k one bs)
+
+-- 64 candidates: one term each, both cells free; and vertex 0 free, vertex 1 off
+abbrev sixtyFour : List ℕ → List ℕ
+sixtyFour bs = i11 (row 0 0 1 (row 1 0 1 (times 64 (t 0 0 1) bs)))
+
+abbrev sixtyFourAtZero : List ℕ → List ℕ
+sixtyFourAtZero bs = i11 (row 0 0 1 (times 64 (t 1 0 1) bs))
+
+-- an L of count 0, and E
+abbrev pub countZeroJob : List ℕ
+countZeroJob = i11 (l 0 (0x45 ∷ []))
 
 abbrev pub stops : List Stopped
 stops =
@@ -155,15 +167,65 @@ stops =
     ∷ stopped (i11 (t 0 1 1 [])) 9 9 3 0
     ∷ stopped (i11 (t 0 0 0 [])) 9 9 3 0
     ∷ stopped (i11 (t 0 0 2 [])) 9 9 3 0
-    -- 10: before 11: vertex 1 is off
+    -- 9: before 11: 64 candidates stand
+    ∷ stopped (sixtyFour (t 0 0 0 [])) 9 9 267 0
+    -- 10: vertex 1 is off
     ∷ stopped (i11 (row 0 1 0 (t 0 0 1 []))) 9 10 7 0
-    -- 11: the 65th candidate
-    ∷ stopped (i11 (row 0 0 1 (row 1 0 1 (times 65 [])))) 9 11 267 0
-    -- 12: before 14
+    -- 10: before 11: 64 candidates stand
+    ∷ stopped (sixtyFourAtZero (t 0 0 1 [])) 9 10 263 0
+    -- 11: the 65th candidate. That 11 is before 14 at P is the law `primes-before-room`: 65 primes are too many for this table
+    ∷ stopped (sixtyFour (t 0 0 1 [])) 9 11 267 0
+    -- 12: before 14, at L, at an L of count 0, at C
     ∷ stopped (i11 (row 0 1 0 (l 1 []))) 0 12 7 0
+    ∷ stopped (i11 (row 0 1 0 (l 0 []))) 0 12 7 0
     ∷ stopped (i11 (row 0 1 0 (0x43 ∷ []))) 0 12 7 0
     -- 13: before 14; the offset is E's
     ∷ stopped (i11 (0x45 ∷ 0x45 ∷ [])) 0 13 3 0
-    -- 14: the finished C stands
+    -- 14: the finished C stands; an L of count 0 has three bytes
     ∷ stopped (i11 (0x43 ∷ l 1 [])) 21 14 4 11
+    ∷ stopped (i11 (l 0 [])) 2 14 3 0
+    -- 0: that L where it fits
+    ∷ stopped countZeroJob 4 0 14 4
+    ∷ []
+
+-- "count 0 holds none and tells whether one stands there"
+abbrev pub countZeroAnswers : List ℕ
+countZeroAnswers = 0x6c ∷ 0 ∷ 1 ∷ 0x65 ∷ []
+
+-- ---- library calls that are refused, each with its number. Where two refusals apply, the first in the paper's order is given
+
+pub record RefusedCall : Type 0 where
+  pub of : Table
+  pub words : List ℕ
+  pub number : ℕ
+
+abbrev refusedCall : Table → List ℕ → ℕ → RefusedCall
+refusedCall p words n = record { of = p; words = words; number = n }
+
+-- outputs 1 and care 0: both vertices; outputs 0 is malformed
+abbrev whole : ℕ
+whole = 65536
+
+abbrev malformed : ℕ
+malformed = 0
+
+abbrev pub refusedCalls : List RefusedCall
+refusedCalls =
+    -- 6: before 8: a row not 2^n long; nine outputs
+    refusedCall (table 1 1 (1 ∷ []) (1 ∷ [])) [] 6
+    ∷ refusedCall (table 1 9 (0 ∷ 0 ∷ []) (0 ∷ 0 ∷ [])) [] 6
+    -- 8: before 11
+    ∷ refusedCall (table 1 1 (0 ∷ 1 ∷ []) (0 ∷ 1 ∷ [])) (replicate 65 whole) 8
+    -- 11: before 9
+    ∷ refusedCall bothOn (replicate 65 malformed) 11
+    -- 9: before 10, by the top byte; before 12
+    ∷ refusedCall noRows ((0x1000000 + whole) ∷ []) 9
+    ∷ refusedCall bothOn (malformed ∷ []) 9
+    -- 9 and 10 term by term
+    ∷ refusedCall noRows (malformed ∷ whole ∷ []) 9
+    ∷ refusedCall noRows (whole ∷ malformed ∷ []) 10
+    -- 10: before 12
+    ∷ refusedCall (table 1 1 (1 ∷ 0 ∷ []) (0 ∷ 0 ∷ [])) (whole ∷ []) 10
+    -- 12
+    ∷ refusedCall bothOn [] 12
     ∷ []

@@ -1,10 +1,10 @@
 -- Paper 01, "Job stream": the commands, the problem so far, and what a command makes of it.
 use Prim.Native.Nat.{ℕ, zero, suc, _+_, _*_, _/_, _%_, _^_}
-use mathlib.Core.Bool.{Bool, cond, _&&_}
+use mathlib.Core.Bool.{Bool, true, false, cond, _&&_}
 use mathlib.Core.List.{List, [], _∷_, _++_}
 use lib.Dec.{leb, eqb}
 use lib.ListN.{getD, take, replicate, set}
-use Rattle.model.specs.Base.{some}
+use Rattle.model.specs.Base.{filter}
 use Rattle.model.specs.Table.{Table, Cell, Term, term}
 use Rattle.model.specs.Primes.{primes}
 use Rattle.model.specs.Sets.{Covering}
@@ -41,30 +41,32 @@ queried = 4
 
 -- ---- commands
 
--- "commands of one byte"; none is a byte that is no command
+-- "commands of one byte"; `none` is a byte that is no command
 pub data Kind : Type 0 where
   I R T P L C E none : Kind
 
--- "one byte with operands of fixed widths": the byte, the width, and the last place at which the command may stand
+-- "one byte with operands of fixed widths": the byte, the width, the last place at which the command may stand, and whether it is a
+-- query, which asks for covers
 pub record Form : Type 0 where
   pub code : ℕ
   pub width : ℕ
   pub last : ℕ
+  pub query : Bool
 
-abbrev form : ℕ → ℕ → ℕ → Form
-form code width last = record { code = code; width = width; last = last }
+abbrev form : ℕ → ℕ → ℕ → Bool → Form
+form code width last query = record { code = code; width = width; last = last; query = query }
 
 -- I "first, once"; R "after I, before any T, P, L or C"; T "after I and any R, not after P, L or C"; P "at most once, no T before it, not
 -- after L or C"; L, C and E "after I"
 abbrev pub formOf : Kind → Form
-formOf I = form 0x49 2 atStart
-formOf R = form 0x52 3 inRows
-formOf T = form 0x54 3 inTerms
-formOf P = form 0x50 0 inRows
-formOf L = form 0x4c 9 queried
-formOf C = form 0x43 0 queried
-formOf E = form 0x45 0 queried
-formOf none = form 0 0 atStart
+formOf I = form 0x49 2 atStart false
+formOf R = form 0x52 3 inRows false
+formOf T = form 0x54 3 inTerms false
+formOf P = form 0x50 0 inRows false
+formOf L = form 0x4c 9 queried true
+formOf C = form 0x43 0 queried true
+formOf E = form 0x45 0 queried false
+formOf none = form 0 0 atStart false
 
 abbrev pub width : Kind → ℕ
 width k = formOf k .width
@@ -80,30 +82,57 @@ abbrev pub firstKind : ℕ → List Kind → Kind
 firstKind b [] = none
 firstKind b (k ∷ ks) = let r = firstKind b ks in cond (eqb b (formOf k .code)) k r
 
+-- all commands
+abbrev pub kinds : List Kind
+kinds = I ∷ R ∷ T ∷ P ∷ L ∷ C ∷ E ∷ []
+
 unfoldable pub kindOf : ℕ → Kind
-kindOf b = firstKind b (I ∷ R ∷ T ∷ P ∷ L ∷ C ∷ E ∷ [])
+kindOf b = firstKind b kinds
+
+abbrev pub isQueryKind : Kind → Bool
+isQueryKind k = formOf k .query
 
 -- the queries
 abbrev pub queryKinds : List Kind
-queryKinds = L ∷ C ∷ []
-
-abbrev pub isQueryKind : Kind → Bool
-isQueryKind k = some (is k) queryKinds
+queryKinds = filter isQueryKind kinds
 
 -- ---- the problem so far
 
--- "the problem so far is one record that holds its rows and its candidates": rowsAt are the vertices that have a row
+-- what I sets: "n, m"
+pub record Settings : Type 0 where
+  pub n : ℕ
+  pub m : ℕ
+
+-- the rows: on and dc of vertex v stand at v, 0 and 0 for "a vertex with no row"; given are the vertices that have one
+pub record TableRows : Type 0 where
+  pub on : List ℕ
+  pub dc : List ℕ
+  pub given : List ℕ
+
+-- "the problem so far is one record that holds its rows and its candidates"
 pub record Problem : Type 0 where
   pub place : ℕ
-  pub table : Table
-  pub rowsAt : List ℕ
+  pub settings : Settings
+  pub rows : TableRows
   pub cands : List Term
 
+-- no row yet
+abbrev pub emptyRows : ℕ → TableRows
+emptyRows k = record { on = replicate k 0; dc = replicate k 0; given = [] }
+
+-- n inputs and m outputs, with no row for any of so many vertices
+abbrev pub started : ℕ → ℕ → ℕ → ℕ → Problem
+started place n m vertices = record { place = place; settings = record { n = n; m = m }; rows = emptyRows vertices; cands = [] }
+
 abbrev pub empty : Problem
-empty = record { place = atStart; table = record { n = 0; m = 0; on = []; dc = [] }; rowsAt = []; cands = [] }
+empty = started atStart 0 0 0
+
+-- the table so far
+abbrev pub tableOf : Problem → Table
+tableOf q = record { n = q .settings .n; m = q .settings .m; on = q .rows .on; dc = q .rows .dc }
 
 abbrev pub basisOf : Problem → Basis
-basisOf q = basis (q .table) (q .cands)
+basisOf q = basis (tableOf q) (q .cands)
 
 -- the context of a command: the problem it finds, its kind, the job's bytes behind the command byte, and the length of the free
 -- part of the answer buffer
@@ -135,30 +164,24 @@ count x = operand x 8
 
 -- ---- the problem after a command that is answered
 
--- I: "n, m", and no rows yet
-abbrev pub emptyTable : ℕ → ℕ → Table
-emptyTable n m = record { n = n; m = m; on = replicate (2 ^ n) 0; dc = replicate (2 ^ n) 0 }
-
 -- R: "vertex, on, dc"
-abbrev pub withRow : Table → ℕ → ℕ → ℕ → Table
-withRow p v x y = record { n = p .n; m = p .m; on = set (p .on) v x; dc = set (p .dc) v y }
+abbrev pub withRow : TableRows → ℕ → ℕ → ℕ → TableRows
+withRow rows v x y = record { on = set (rows .on) v x; dc = set (rows .dc) v y; given = v ∷ rows .given }
 
 abbrev pub atPlace : ℕ → Problem → Problem
-atPlace place q = record { place = place; table = q .table; rowsAt = q .rowsAt; cands = q .cands }
+atPlace place q = record { place = place; settings = q .settings; rows = q .rows; cands = q .cands }
+
+abbrev pub withRows : TableRows → Problem → Problem
+withRows rows q = record { place = q .place; settings = q .settings; rows = rows; cands = q .cands }
 
 abbrev pub withCands : List Term → Problem → Problem
-withCands ts q = record { place = q .place; table = q .table; rowsAt = q .rowsAt; cands = ts }
+withCands ts q = record { place = q .place; settings = q .settings; rows = q .rows; cands = ts }
 
 unfoldable pub problemAfter : Context → Kind → Problem
-problemAfter x I = record { place = begun; table = emptyTable (operand x 0) (operand x 1); rowsAt = []; cands = [] }
-problemAfter x R = record {
-  place = inRows;
-  table = withRow (x .problem .table) (operand x 0) (operand x 1) (operand x 2);
-  rowsAt = operand x 0 ∷ x .problem .rowsAt;
-  cands = x .problem .cands;
-}
+problemAfter x I = started begun (operand x 0) (operand x 1) (2 ^ operand x 0)
+problemAfter x R = atPlace inRows (withRows (withRow (x .problem .rows) (operand x 0) (operand x 1) (operand x 2)) (x .problem))
 problemAfter x T = atPlace inTerms (withCands (x .problem .cands ++ (operandTerm x ∷ [])) (x .problem))
-problemAfter x P = atPlace queried (withCands (primes (x .problem .table)) (x .problem))
+problemAfter x P = atPlace queried (withCands (primes (tableOf (x .problem))) (x .problem))
 problemAfter x L = atPlace queried (x .problem)
 problemAfter x C = atPlace queried (x .problem)
 problemAfter x E = x .problem

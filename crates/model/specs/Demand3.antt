@@ -3,7 +3,7 @@ use Prim.Native.Nat.{ℕ, _≤_}
 use mathlib.Core.Path.{_≡_}
 use mathlib.Core.Logic.{_↔_}
 use mathlib.Core.Bool.{Bool, _&&_}
-use mathlib.Core.List.{List, List·Memᴰ}
+use mathlib.Core.List.{List, [], _∷_, List·Memᴰ}
 use lib.Dec.{T}
 use lib.ListN.{length}
 use Rattle.model.specs.Base.{All}
@@ -11,7 +11,7 @@ use Rattle.model.specs.Table.{Term, represents}
 use Rattle.model.specs.Primes.{prime}
 use Rattle.model.specs.Sets.{Irredundant, coverable, irredundants, Best}
 use Rattle.model.specs.Pages.{page, more}
-use Rattle.model.specs.Candidates.{Basis, covering, listCost}
+use Rattle.model.specs.Candidates.{Basis, covering, listCost, HoldsExactly, LegalBasis}
 use Rattle.model.specs.Commands.{Kind, is, isQueryKind, allowed, width, basisOf, Context, start, count}
 use Rattle.model.specs.Answers.{Answer, bytesOf, hasBytes, answer}
 use Rattle.model.specs.Rules.{engine}
@@ -41,11 +41,11 @@ StandsOn b e = T (isAsked e) × HasBasis b (e .context)
 abbrev pub coversOf : Basis → List ℕ
 coversOf b = irredundants (covering b)
 
--- "where the candidates are the primes": "every prime stands among them and nothing else does"
+-- "the candidates are the primes when every prime stands among them and nothing else does"
 abbrev pub ArePrimes : Basis → Type 0
 ArePrimes b = (t : Term) → T (prime (b .table) t) ↔ List·Memᴰ t (b .cands)
 
--- then no list of product terms that represents the table is cheaper than c
+-- where they are, no list of product terms that represents the table is cheaper than c
 abbrev pub NoCheaperList : Basis → ℕ → Type 0
 NoCheaperList b c = ArePrimes b → (qs : List Term) → T (represents (b .table) qs) → c ≤ listCost b qs
 
@@ -60,8 +60,19 @@ pub record Correct (b : Basis) (x : Context) (a : Answer) : Type 0 where
   pub page : T (is (x .kind) Kind.L) → a ≡ Answer.paged (page (coversOf b) (start x) (count x)) (more (coversOf b) (start x) (count x))
   pub cheapest : T (is (x .kind) Kind.C) → (c : ℕ) × (s : ℕ) × (a ≡ Answer.cheapestIs c s) × Best (covering b) c s × NoCheaperList b c
 
--- it is answered exactly where no refusal applies, and the answer is right
+-- the sets that an answer gives
+abbrev pub setsIn : Answer → List ℕ
+setsIn Answer.nothing = []
+setsIn (Answer.primesAre ts) = []
+setsIn (Answer.paged ss m) = ss
+setsIn (Answer.cheapestIs c s) = s ∷ []
+setsIn Answer.ended = []
+
+-- every candidate that it finds is legal, and each set that it is answered holds every wanted cell and no off cell; it is answered
+-- exactly where no refusal applies, and the answer is right
 pub record CorrectExchange (b : Basis) (e : Exchange) : Type 0 where
+  pub legal : LegalBasis b
+  pub exactly : All (HoldsExactly b) (setsIn (e .reply))
   pub answered : T (hasBytes (e .reply)) ↔ Acceptable b (e .context)
   pub correct : Acceptable b (e .context) → Correct b (e .context) (e .reply)
 

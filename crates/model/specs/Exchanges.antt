@@ -1,17 +1,19 @@
 -- Demand 3 of paper 01, by any rules: the commands that answer, each with its reply, and the pages among them.
 use Prim.Native.Nat.{ℕ}
 use mathlib.Core.Path.{_≡_}
+use mathlib.Core.Logic.{_↔_}
 use mathlib.Core.Bool.{Bool, cond}
 use mathlib.Core.List.{List, [], _∷_, _++_, map, Sublistᴰ}
+use lib.Dec.{T}
 use Rattle.model.specs.Base.{filter, join, All}
 use Rattle.model.specs.Pages.{Rising, Page, PageOf, InOrder, Joined}
 use Rattle.model.specs.Commands.{Kind, is, Context, start, count}
 use Rattle.model.specs.Answers.{Answer, hasBytes}
-use Rattle.model.specs.Rules.{Rules}
-use Rattle.model.specs.Job.{Run}
-use Rattle.model.specs.Calls.{Call, ranBy, replies}
+use Rattle.model.specs.Rules.{Rules, refusalBy}
+use Rattle.model.specs.Job.{Run, Judged}
+use Rattle.model.specs.Calls.{Call, ranBy, numberOf, offsetOf, replies}
 
--- a command and its reply, `nothing` where none came: "a refused command gives no page and no cheapest"
+-- a command and its reply, `nothing` where none came: "a refused command .. gives no page and no cheapest"
 pub record Exchange : Type 0 where
   pub context : Context
   pub reply : Answer
@@ -47,12 +49,23 @@ module _ (rules : Rules) where
   abbrev pub allRead : List Call → List Exchange
   allRead calls = join (map readIn calls)
 
+  -- a command has a reply exactly where no refusal applies to it
+  abbrev pub Answered : Exchange → Type 0
+  Answered e = T (hasBytes (e .reply)) ↔ (refusalBy rules (e .context) ≡ 0)
+
+  -- and where one applies, the call tells: "a refused command .. ends its job", with its number and its offset
+  abbrev pub JudgedCall : Call → Type 0
+  JudgedCall c = Judged rules (c .job) (ranBy rules c .contexts) (numberOf c) (offsetOf c)
+
   -- a demand on the commands of some calls: any of those that stand so, in the order of the jobs. "The list may end early", and "may go
-  -- on in a further job". Of the answers of the jobs, and of the replies that the bytes hold, which are all that the bytes hold
+  -- on in a further job". Of the answers of the jobs, and of the replies in the bytes, where none is left over; a command without a reply
+  -- is a refused one, and what its call returned names it
   pub record Claim (Stands : Exchange → Type 0) (Demand : List Exchange → Type 0) (calls : List Call) : Type 0 where
     pub answers : (es : List Exchange) → Sublistᴰ es (allAnswered calls) → All Stands es → Demand es
     pub bytes : (es : List Exchange) → Sublistᴰ es (allRead calls) → All Stands es → Demand es
     pub none-over : All NoneOver calls
+    pub answered : All Answered (allRead calls)
+    pub judged : All JudgedCall calls
 
 -- ---- pages
 

@@ -1,10 +1,11 @@
--- Paper 01, "Job stream": a whole job by some rules, its result and the answer buffer after it.
-use Prim.Native.Nat.{ℕ, zero, suc, _+_, _-_, _*_, _^_}
+-- Paper 01, "Job stream": a whole job by some rules, its result, which command is refused, and the answer buffer after it.
+use Prim.Native.Nat.{ℕ, zero, suc, _+_, _-_, _*_, _^_, _≤_, _<_}
+use mathlib.Core.Path.{_≡_}
 use mathlib.Core.Bool.{cond, _||_}
 use mathlib.Core.List.{List, [], _∷_, _++_, map}
 use lib.Dec.{ltb, eqb}
 use lib.ListN.{length, drop}
-use Rattle.model.specs.Base.{join}
+use Rattle.model.specs.Base.{join, All}
 use Rattle.model.specs.Commands.{Kind, is, kindOf, width, Problem, empty, Context}
 use Rattle.model.specs.Answers.{Answer, bytesOf}
 use Rattle.model.specs.Rules.{Rules, engine, refusalBy}
@@ -44,6 +45,25 @@ module _ (rules : Rules) where
   runBy job room =
       let r : Run = commands (suc (length job)) empty job room 0 in
       cond (ltb 32768 (length job) || ltb 32768 room) (stop 1 0 []) r
+
+  -- a job refused at a command: the last of the commands read, its first refusal the number. "Offset of the command's first byte": there
+  -- stands its command byte, and behind it the bytes that it finds. Those before it are answered
+  pub record RefusedAt (job : List ℕ) (xs : List Context) (n offset : ℕ) : Type 0 where
+    pub before : List Context
+    pub refused : Context
+    pub byte : ℕ
+    pub read : xs ≡ before ++ (refused ∷ [])
+    pub answered : All (λ x. refusalBy rules x ≡ 0) before
+    pub first : refusalBy rules refused ≡ n
+    pub there : drop offset job ≡ byte ∷ refused .rest
+    pub kind : kindOf byte ≡ refused .kind
+
+  -- what a job's number and offset say of the commands read (law `judged`): below 3 each is answered, and none is read where the number
+  -- is 1; from 3 on all but the last
+  pub record Judged (job : List ℕ) (xs : List Context) (n offset : ℕ) : Type 0 where
+    pub answered : n < 3 → All (λ x. refusalBy rules x ≡ 0) xs
+    pub unread : n ≡ 1 → xs ≡ []
+    pub refused : 3 ≤ n → RefusedAt job xs n offset
 
 abbrev pub run : List ℕ → ℕ → Run
 run job room = runBy engine job room

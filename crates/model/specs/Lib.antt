@@ -1,19 +1,19 @@
--- Paper 01 as definitions, in its order.
+-- Paper 01 as definitions, in its order, but the refusals before the job that they stop; last what only the engine's contracts cite.
 pub mod Base
 pub mod Table
 pub mod Primes
 pub mod Sets
-pub mod Pages
 pub mod Candidates
+pub mod Pages
 pub mod Commands
 pub mod Answers
 pub mod Refusals
 pub mod Rules
 pub mod Job
-pub mod Library
-pub mod Invariants
 pub mod Calls
 pub mod Exchanges
 pub mod Demand3
 pub mod Whole
+pub mod Library
 pub mod Cases
+pub mod Invariants

@@ -40,7 +40,8 @@ pub record Listed : Type 0 where
   pub above : Bool
   pub row : List ℕ
 
--- "as many as fit; the rest of the row stays"; "a refusal gives its number, with 0 filled and none above", and "changes no row entry"
+-- "as many as fit; the rest of the row stays"; "a refusal gives its number, with 0 filled" and "none above"; "it changes no row entry on
+-- refusal"
 unfoldable pub listCovers : Table → List ℕ → ℕ → List ℕ → Listed
 listCovers p words start old =
     let n = firstOf (callRefusals p words) in

@@ -46,7 +46,7 @@ pub record Page : Type 0 where
 abbrev pub PageOf : List ℕ → Page → Type 0
 PageOf list p = (p .sets ≡ page list (p .start) (p .count)) × (p .above ≡ more list (p .start) (p .count))
 
--- "a page with more 0"
+-- a page with more 0
 abbrev pub isLast : Page → Bool
 isLast p = not (p .above)
 
@@ -70,8 +70,8 @@ abbrev pub PagesBehind : List ℕ → List ℕ → List Page → Type 0
 PagesBehind list g [] = Unit {0}
 PagesBehind list g (p ∷ ps) = PageBehind list g p × PagesBehind list (g ++ p .sets) ps
 
--- "the pages joined are exactly the irredundant covers in order, 'no more' is said exactly when none is missing"; up to the next
--- start where "the list ends early"
+-- demand 3, of any list: the pages joined are exactly the list in order, and 'no more' is said exactly when none is missing. "The list may
+-- end early": then they are those up to the next start
 pub record Joined (list : List ℕ) (ps : List Page) : Type 0 where
   pub each : PagesBehind list [] ps
   pub upto : joinedSets ps ≡ filter (λ s. ltb s (nextStart (joinedSets ps))) list

@@ -9,7 +9,7 @@ use Rattle.model.specs.Base.{some}
 use Rattle.model.specs.Table.{formed, holdsNoOff}
 use Rattle.model.specs.Primes.{primes}
 use Rattle.model.specs.Sets.{coverable}
-use Rattle.model.specs.Commands.{Kind, Context, operand, operandTerm, coveringOf}
+use Rattle.model.specs.Commands.{Kind, Context, operand, operandTerm, coveringOf, tableOf}
 
 -- the last of them
 abbrev pub largestNumber : ℕ
@@ -44,15 +44,15 @@ badRow m on dc = ltb 0 (bitAnd on dc) || (leb (2 ^ m) on || leb (2 ^ m) dc)
 unfoldable pub refusalsOf : Context → Kind → List Refusal
 refusalsOf x Kind.I = refuse 6 (not (size (operand x 0) && size (operand x 1))) ∷ []
 refusalsOf x Kind.R =
-    refuse 7 (leb (2 ^ x .problem .table .n) (operand x 0) || some (eqb (operand x 0)) (x .problem .rowsAt))
-    ∷ refuse 8 (badRow (x .problem .table .m) (operand x 1) (operand x 2))
+    refuse 7 (leb (2 ^ x .problem .settings .n) (operand x 0) || some (eqb (operand x 0)) (x .problem .rows .given))
+    ∷ refuse 8 (badRow (x .problem .settings .m) (operand x 1) (operand x 2))
     ∷ []
 refusalsOf x Kind.T =
-    refuse 9 (not (formed (x .problem .table) (operandTerm x)))
-    ∷ refuse 10 (not (holdsNoOff (x .problem .table) (operandTerm x)))
+    refuse 9 (not (formed (tableOf (x .problem)) (operandTerm x)))
+    ∷ refuse 10 (not (holdsNoOff (tableOf (x .problem)) (operandTerm x)))
     ∷ refuse 11 (leb 64 (length (x .problem .cands)))
     ∷ []
-refusalsOf x Kind.P = refuse 11 (ltb 64 (length (primes (x .problem .table)))) ∷ []
+refusalsOf x Kind.P = refuse 11 (ltb 64 (length (primes (tableOf (x .problem))))) ∷ []
 refusalsOf x Kind.L = refuse 12 (not (coverable (coveringOf x))) ∷ []
 refusalsOf x Kind.C = refuse 12 (not (coverable (coveringOf x))) ∷ []
 refusalsOf x Kind.E = refuse 13 (ltb 0 (length (x .rest))) ∷ []

@@ -35,7 +35,7 @@ module _ {A X : Type 0} where
   covers holds xs ts = every (λ x. some (λ t. holds t x) ts) xs
 
 module _ {A X : Type 0} (k : Covering A X) where
-  -- "it is a cover when each wanted cell is held by a member"
+  -- "it is a cover when each wanted cell is held by a member (candidates are legal)"; what legal candidates add: `LegalBasis`
   unfoldable pub cover : ℕ → Bool
   cover s = covers (k .holds) (k .points) (members (k .cands) s)
 
@@ -65,7 +65,7 @@ module _ {A X : Type 0} (k : Covering A X) where
 
   -- ---- costs
 
-  -- "the cost of a set: the sum over its entries"
+  -- "of a set or list, the sum over its entries"
   unfoldable pub cost : ℕ → ℕ
   cost s = sum (k .weight) (members (k .cands) s)
 

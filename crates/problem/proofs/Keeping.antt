@@ -7,7 +7,7 @@ use mathlib.Core.Path.{_≡_, refl, sym, ap, _∙_}
 use mathlib.Core.Bool.{false}
 use mathlib.Core.List.{List, [], _∷_, _++_}
 use borrow.Author.Tests.{eq-eqb, ne-eqb}
-use lib.Dec.{ltb, eqb}
+use lib.Dec.{T, ltb, eqb}
 use lib.ListN.{getD, length, set, replicate, length-set, length-append, length-replicate, getD-replicate, List·getD-eq-default}
 use lib.Pow.{pow-mono}
 use lib.Seq.{getD-set-same, getD-set-other, take-suc-set}
@@ -15,14 +15,21 @@ use Rattle.model.specs.Base.{some}
 use Rattle.model.specs.declared.Term.{Term}
 use Rattle.model.specs.Primes.{primes}
 use Rattle.model.specs.Commands as model
-use Rattle.model.specs.Commands.{Context, operand, operandTerm, problemAfter}
+use Rattle.model.specs.Commands.{Context, operand, operandTerm, tableOf, isQueryKind, problemAfter}
 use Rattle.model.specs.Invariants.{Valid}
+use Rattle.model.proofs.Codes.{any-query}
 use Rattle.table.specs.Lists.{Filled}
+use Rattle.problem.specs.declared.TableRows.{TableRows}
+use Rattle.problem.specs.declared.Candidates.{Candidates}
 use Rattle.problem.specs.declared.Problem.{Problem}
-use Rattle.problem.specs.Problems.{startedWith, noProblem, rowPut, termPut, candidatesPut, queried, Sized, Holds, Reached}
+use Rattle.problem.specs.Problems.{noRows, listed, startedWith, noProblem, atPlace, withRows, withCandidates, rowPut, termPut, Sized, HoldsRows, HoldsCands, Holds, Reached}
 
 pub sized : (p : Problem) (q : model.Problem) → Holds p q → Valid q → Sized p
-sized p q h v = record { inputs = omega (arith, h .inputs, v .sound .inputs); outputs = omega (arith, h .outputs, v .sound .outputs); few = omega (arith, h .cands .counted, v .sound .few) }
+sized p q h v = record {
+  inputs = omega (arith, h .settings .inputs, v .sound .inputs);
+  outputs = omega (arith, h .settings .outputs, v .sound .outputs);
+  few = omega (arith, h .cands .counted, v .sound .few);
+}
 
 pub reached-sized : (p : Problem) → Reached p → Sized p
 reached-sized p r = sized p (r .problem) (r .holds) (r .valid)
@@ -39,35 +46,27 @@ zero-at k v = go (decLt v k)
 pub none-given : (v : ℕ) → ltb 0 (getD (replicate 256 0) v 0) ≡ false
 none-given v = rw (zero-at 256 v)
 
-pub holds-empty : Holds noProblem model.empty
-unfolding startedWith
-holds-empty = record {
-  place = refl;
-  inputs = refl;
-  outputs = refl;
+-- no row, whatever the vertices are
+holds-none : (k : ℕ) → HoldsRows noRows (model.emptyRows k)
+holds-none k = record {
   on-size = length-replicate {A = ℕ} 256 0;
   dc-size = length-replicate {A = ℕ} 256 0;
   given-size = length-replicate {A = ℕ} 256 0;
-  on-bytes = λ v l. zero-at 256 v;
-  dc-bytes = λ v l. zero-at 256 v;
-  rows = λ v l. none-given v;
-  cands = record { size = refl; counted = refl; same = refl };
+  on-bytes = λ v l. zero-at 256 v ∙ sym (zero-at k v);
+  dc-bytes = λ v l. zero-at 256 v ∙ sym (zero-at k v);
+  given = λ v l. none-given v;
 }
 
-pub after-I : (x : Context) (n m : ℕ) → operand x 0 ≡ n → operand x 1 ≡ m → Holds (startedWith n m 1) (problemAfter x model.Kind.I)
-unfolding startedWith problemAfter
-after-I x n m e f = record {
-  place = refl;
-  inputs = sym e;
-  outputs = sym f;
-  on-size = length-replicate {A = ℕ} 256 0;
-  dc-size = length-replicate {A = ℕ} 256 0;
-  given-size = length-replicate {A = ℕ} 256 0;
-  on-bytes = λ v l. zero-at 256 v ∙ sym (zero-at (2 ^ operand x 0) v);
-  dc-bytes = λ v l. zero-at 256 v ∙ sym (zero-at (2 ^ operand x 0) v);
-  rows = λ v l. none-given v;
-  cands = record { size = refl; counted = refl; same = refl };
-}
+holds-started : (n m k place : ℕ) → Holds (startedWith n m place) (model.started place n m k)
+unfolding startedWith
+holds-started n m k place = record { place = refl; settings = record { inputs = refl; outputs = refl }; rows = holds-none k; cands = record { size = refl; counted = refl; same = refl } }
+
+pub holds-empty : Holds noProblem model.empty
+holds-empty = holds-started 0 0 0 model.atStart
+
+pub after-I : (x : Context) (n m : ℕ) → operand x 0 ≡ n → operand x 1 ≡ m → Holds (startedWith n m model.begun) (problemAfter x model.Kind.I)
+unfolding problemAfter
+after-I x n m e f = rw (e, f) (holds-started n m (2 ^ n) model.begun)
 
 -- ---- R
 
@@ -85,56 +84,56 @@ given-more xs at v w h e = go (ℕ-discrete w v)
     go (yes q) = rw (eq-eqb w v q) (ap (λ (u : ℕ). ltb 0 (getD (set xs v 1) u 0)) q ∙ ap (λ (y : ℕ). ltb 0 y) (getD-set-same xs v 1 0 h))
     go (no d) = rw (ne-eqb w v d) (ap (λ (y : ℕ). ltb 0 y) (getD-set-other xs v w 1 0 d) ∙ e)
 
-pub after-R : (x : Context) (p : Problem) (v on dc : ℕ) → Holds p (x .problem) → Valid (x .problem) → 1 ≤ x .problem .place → operand x 0 ≡ v → operand x 1 ≡ on → operand x 2 ≡ dc → v < 2 ^ x .problem .table .n
-    → Holds (rowPut p v on dc) (problemAfter x model.Kind.R)
-unfolding rowPut problemAfter
+holds-row : (r : TableRows) (t : model.TableRows) (v on dc : ℕ) → HoldsRows r t → v < 256 → v < length (t .on) → v < length (t .dc) → HoldsRows (rowPut r v on dc) (model.withRow t v on dc)
+unfolding rowPut
+holds-row r t v on dc h l a b = record {
+  on-size = length-set (r .on) v on ∙ h .on-size;
+  dc-size = length-set (r .dc) v dc ∙ h .dc-size;
+  given-size = length-set (r .given) v 1 ∙ h .given-size;
+  on-bytes = λ u k. set-both (r .on) (t .on) 256 v on u (omega (arith, l, h .on-size)) a k (h .on-bytes);
+  dc-bytes = λ u k. set-both (r .dc) (t .dc) 256 v dc u (omega (arith, l, h .dc-size)) b k (h .dc-bytes);
+  given = λ u k. given-more (r .given) (t .given) v u (omega (arith, l, h .given-size)) (h .given u k);
+}
+
+pub after-R : (x : Context) (p : Problem) (v on dc : ℕ) → Holds p (x .problem) → Valid (x .problem) → model.begun ≤ x .problem .place
+    → operand x 0 ≡ v → operand x 1 ≡ on → operand x 2 ≡ dc → v < 2 ^ x .problem .settings .n
+    → Holds (atPlace model.inRows (withRows (rowPut (p .rows) v on dc) p)) (problemAfter x model.Kind.R)
+unfolding problemAfter
 after-R x p v on dc h w o e f g l = rw (e, f, g) record {
   place = refl;
-  inputs = h .inputs;
-  outputs = h .outputs;
-  on-size = length-set (p .on) v on ∙ h .on-size;
-  dc-size = length-set (p .dc) v dc ∙ h .dc-size;
-  given-size = length-set (p .given) v 1 ∙ h .given-size;
-  on-bytes = λ u k. set-both (p .on) (x .problem .table .on) 256 v on u (omega (arith, small, h .on-size)) (omega (arith, w .rows o .0)) k (h .on-bytes);
-  dc-bytes = λ u k. set-both (p .dc) (x .problem .table .dc) 256 v dc u (omega (arith, small, h .dc-size)) (omega (arith, w .rows o .1)) k (h .dc-bytes);
-  rows = λ u k. given-more (p .given) (x .problem .rowsAt) v u (omega (arith, small, h .given-size)) (h .rows u k);
+  settings = h .settings;
+  rows = holds-row (p .rows) (x .problem .rows) v on dc (h .rows) (omega (arith, pow-mono (w .sound .inputs))) (omega (arith, w .rows o .0)) (omega (arith, w .rows o .1));
   cands = h .cands;
 }
-  where
-    small : v < 256
-    small = omega (arith, pow-mono (w .sound .inputs))
 
--- ---- T
+-- ---- other candidates: T and P
 
-pub after-T : (x : Context) (p : Problem) (t : Term) → Holds p (x .problem) → operandTerm x ≡ t → p .count < 64 → Holds (termPut p t) (problemAfter x model.Kind.T)
-unfolding termPut problemAfter
-after-T x p t h e l = rw e record {
-  place = refl;
-  inputs = h .inputs;
-  outputs = h .outputs;
-  on-size = h .on-size;
-  dc-size = h .dc-size;
-  given-size = h .given-size;
-  on-bytes = h .on-bytes;
-  dc-bytes = h .dc-bytes;
-  rows = h .rows;
-  cands = record {
-    size = length-set (p .terms) (p .count) t ∙ h .cands .size;
-    counted = omega (arith, length-append (x .problem .cands) (t ∷ []), h .cands .counted);
-    same = rw (add-one (p .count)) (take-suc-set (p .terms) (p .count) t (omega (arith, h .cands .size)) ∙ ap (λ (ts : List Term). ts ++ (t ∷ [])) (h .cands .same));
-  };
+pub holds-candidates : (place : ℕ) (p : Problem) (q : model.Problem) (cs : Candidates) (ts : List Term) → Holds p q → HoldsCands cs ts → Holds (atPlace place (withCandidates cs p)) (model.atPlace place (model.withCands ts q))
+holds-candidates place p q cs ts h c = record { place = refl; settings = h .settings; rows = h .rows; cands = c }
+
+holds-term : (cs : Candidates) (ts : List Term) (t : Term) → HoldsCands cs ts → cs .count < 64 → HoldsCands (termPut cs t) (ts ++ (t ∷ []))
+unfolding termPut
+holds-term cs ts t h l = record {
+  size = length-set (cs .terms) (cs .count) t ∙ h .size;
+  counted = omega (arith, length-append ts (t ∷ []), h .counted);
+  same = rw (add-one (cs .count)) (take-suc-set (cs .terms) (cs .count) t (omega (arith, h .size)) ∙ ap (λ (us : List Term). us ++ (t ∷ [])) (h .same));
 }
 
--- ---- P, L and C
+pub after-T : (x : Context) (p : Problem) (t : Term) → Holds p (x .problem) → operandTerm x ≡ t → p .candidates .count < 64
+    → Holds (atPlace model.inTerms (withCandidates (termPut (p .candidates) t) p)) (problemAfter x model.Kind.T)
+unfolding problemAfter
+after-T x p t h e l = rw e (holds-candidates model.inTerms p (x .problem) (termPut (p .candidates) t) (x .problem .cands ++ (t ∷ [])) h (holds-term (p .candidates) (x .problem .cands) t (h .cands) l))
 
-pub after-P : (x : Context) (p : Problem) (terms : List Term) (count : ℕ) → Holds p (x .problem) → Filled 64 (primes (x .problem .table)) terms count → Holds (candidatesPut p terms count) (problemAfter x model.Kind.P)
-unfolding candidatesPut problemAfter
-after-P x p terms count h f = record { place = refl; inputs = h .inputs; outputs = h .outputs; on-size = h .on-size; dc-size = h .dc-size; given-size = h .given-size; on-bytes = h .on-bytes; dc-bytes = h .dc-bytes; rows = h .rows; cands = f }
+pub after-P : (x : Context) (p : Problem) (terms : List Term) (count : ℕ) → Holds p (x .problem) → Filled 64 (primes (tableOf (x .problem))) terms count
+    → Holds (atPlace model.queried (withCandidates (listed terms count) p)) (problemAfter x model.Kind.P)
+unfolding problemAfter
+after-P x p terms count h f = holds-candidates model.queried p (x .problem) (listed terms count) (primes (tableOf (x .problem))) h f
 
-pub after-L : (x : Context) (p : Problem) → Holds p (x .problem) → Holds (queried p) (problemAfter x model.Kind.L)
-unfolding candidatesPut problemAfter
-after-L x p h = record { place = refl; inputs = h .inputs; outputs = h .outputs; on-size = h .on-size; dc-size = h .dc-size; given-size = h .given-size; on-bytes = h .on-bytes; dc-bytes = h .dc-bytes; rows = h .rows; cands = h .cands }
+-- ---- queries
 
-pub after-C : (x : Context) (p : Problem) → Holds p (x .problem) → Holds (queried p) (problemAfter x model.Kind.C)
-unfolding candidatesPut problemAfter
-after-C x p h = after-L x p h
+pub after-query : (x : Context) (p : Problem) (k : model.Kind) → T (isQueryKind k) → Holds p (x .problem) → Holds (atPlace model.queried p) (problemAfter x k)
+unfolding problemAfter
+after-query x p k t h = any-query (λ k. Holds (atPlace model.queried p) (problemAfter x k)) (kept, (kept, tt)) k t
+  where
+    kept : Holds (atPlace model.queried p) (model.atPlace model.queried (x .problem))
+    kept = holds-candidates model.queried p (x .problem) (p .candidates) (x .problem .cands) h (h .cands)

@@ -1,3 +1,3 @@
-pub mod Testing
+pub mod Refusing
 pub mod Preparing
 pub mod Keeping

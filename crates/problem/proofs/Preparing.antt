@@ -15,7 +15,7 @@ use Rattle.model.specs.Table.{holds, onCells}
 use Rattle.model.specs.Sets.{covers, cover, coverable, irredundants, cheapest, ofRows, rowOf, members}
 use Rattle.model.specs.Candidates.{Basis, basis, covering}
 use Rattle.model.specs.Commands as model
-use Rattle.model.specs.Commands.{basisOf}
+use Rattle.model.specs.Commands.{basisOf, tableOf}
 use Rattle.model.proofs.Matrix.{irredundants-same, rows-irredundants, rows-cheapest, rows-coverable, from-length}
 use Rattle.rows.specs.Reduction.{Reduced}
 use Rattle.rows.proofs.Same.{reduced-irredundants, reduced-cheapest, reduced-coverable}
@@ -25,21 +25,21 @@ use Rattle.rows.proofs.Ordering.{ordered-irredundants, ordered-cheapest, ordere
 use Rattle.table.specs.Lists.{Filled}
 use Rattle.incidence.specs.Rows.{OnBytes, Put, AllRows, TellsCoverable}
 use Rattle.incidence.proofs.Uses.{put-front, some-on-table}
-use Rattle.codec.specs.Kinds.{isQueryKind}
 use Rattle.problem.specs.declared.Problem.{Problem}
 use Rattle.problem.specs.Problems.{Sized, Holds}
-use Rattle.problem.specs.Matrix.{TellsCovered, RowsOf, Prepares, Refreshed}
+use Rattle.problem.specs.declared.matrix.Matrix.{Matrix}
+use Rattle.problem.specs.Matrix.{TellsCovered, RowsOf, PutsRows, Prepares}
 
 -- the on bytes of the table that p holds
-pub held-on : (p : Problem) (q : model.Problem) → Sized p → Holds p q → OnBytes (q .table) (p .n) (p .m) (p .on)
-held-on p q z h = record { inputs = sym (h .inputs); outputs = sym (h .outputs); bytes = λ v l. h .on-bytes v (omega (arith, pow-mono (z .inputs))) }
+pub held-on : (p : Problem) (q : model.Problem) → Sized p → Holds p q → OnBytes (tableOf q) (p .settings .n) (p .settings .m) (p .rows .on)
+held-on p q z h = record { inputs = sym (h .settings .inputs); outputs = sym (h .settings .outputs); bytes = λ v l. h .rows .on-bytes v (omega (arith, pow-mono (z .inputs))) }
 
 -- the candidates are those that p holds
-held-cands : (p : Problem) (q : model.Problem) → Holds p q → take (p .count) (p .terms) ≡ q .cands
+held-cands : (p : Problem) (q : model.Problem) → Holds p q → take (p .candidates .count) (p .candidates .terms) ≡ q .cands
 held-cands p q h = h .cands .same
 
-pub covered : (p : Problem) (r : Bool) → Sized p → TellsCoverable (p .on) (p .n) (p .m) (take (p .count) (p .terms)) r → TellsCovered p r
-covered p r z c q h = c (q .table) (held-on p q z h) ∙ ap (λ (ts : List Term). coverable (covering (basis (q .table) ts))) (held-cands p q h)
+pub covered : (p : Problem) (r : Bool) → Sized p → TellsCoverable (p .rows .on) (p .settings .n) (p .settings .m) (take (p .candidates .count) (p .candidates .terms)) r → TellsCovered p r
+covered p r z c q h = c (tableOf q) (held-on p q z h) ∙ ap (λ (ts : List Term). coverable (covering (basis (tableOf q) ts))) (held-cands p q h)
 
 -- ---- costs play no part in the listing
 
@@ -77,38 +77,32 @@ rows-ordered b rows sorted r d = record {
   covered = r .covered ∙ ordered-coverable (map (b .weight) (b .cands)) rows sorted d;
 }
 
-module _ (p : Problem) (z : Sized p) (old all : List ℕ) (k : ℕ) (a : AllRows (p .on) (p .n) (p .m) (take (p .count) (p .terms)) old all k) where
-  some-put : Put (map (rowOf holds (take (p .count) (p .terms))) (onCells (record { n = p .n; m = p .m; on = p .on; dc = [] }))) old all k
-  some-put = a (record { n = p .n; m = p .m; on = p .on; dc = [] }) (some-on-table (p .on) (p .n) (p .m))
+module _ (p : Problem) (z : Sized p) (old all : List ℕ) (k : ℕ) (a : AllRows (p .rows .on) (p .settings .n) (p .settings .m) (take (p .candidates .count) (p .candidates .terms)) old all k) where
+  some-put : Put (map (rowOf holds (take (p .candidates .count) (p .candidates .terms))) (onCells (record { n = p .settings .n; m = p .settings .m; on = p .rows .on; dc = [] }))) old all k
+  some-put = a (record { n = p .settings .n; m = p .settings .m; on = p .rows .on; dc = [] }) (some-on-table (p .rows .on) (p .settings .n) (p .settings .m))
 
   pub few-rows : k ≤ 2048
   few-rows = some-put .most
 
-  pub prepared : (out last new : List ℕ) (r : ℕ) → length out ≡ 2048 → length new ≡ 2048 → Reduced (take k all) out r → SameRows (take r out) last → take r new ≡ last → Prepares p new r
+  pub prepared : (out last new : List ℕ) (r : ℕ) → length out ≡ 2048 → length new ≡ 2048 → Reduced (take k all) out r → SameRows (take r out) last → take r new ≡ last → PutsRows p new r
   prepared out last new r l m d s e = record {
     size = m;
     within = omega (arith, d .within);
     rows = λ q h. rows-ordered (basisOf q) (take r out) (take r new) (rows-of (basisOf q) (take k all) out r (rows-are q h) d) (subst⁻¹ (SameRows (take r out)) e s);
   }
     where
-      rows-are : (q : model.Problem) → Holds p q → take k all ≡ map (rowOf holds (q .cands)) (onCells (q .table))
-      rows-are q h = put-front _ old all k (a (q .table) (held-on p q z h)) ∙ ap (λ (ts : List Term). map (rowOf holds ts) (onCells (q .table))) (held-cands p q h)
+      rows-are : (q : model.Problem) → Holds p q → take k all ≡ map (rowOf holds (q .cands)) (onCells (tableOf q))
+      rows-are q h = put-front _ old all k (a (tableOf q) (held-on p q z h)) ∙ ap (λ (ts : List Term). map (rowOf holds ts) (onCells (tableOf q))) (held-cands p q h)
 
 -- the covers of the rows are those of the problem
-pub rows-listed : (p : Problem) (q : model.Problem) (rows : List ℕ) (n : ℕ) → Holds p q → RowsOf (basisOf q) rows → n ≡ p .count → rowCovers n rows ≡ irredundants (covering (basisOf q))
+pub rows-listed : (p : Problem) (q : model.Problem) (rows : List ℕ) (n : ℕ) → Holds p q → RowsOf (basisOf q) rows → n ≡ p .candidates .count → rowCovers n rows ≡ irredundants (covering (basisOf q))
 unfolding rowCovers
 rows-listed p q rows n h d m = ap (λ (i : ℕ). irredundants (ofRows (replicate i 0) rows)) (m ∙ h .cands .counted) ∙ sym (d .listed)
 
--- ---- rows that stand, rows made anew, and a command that looks at none
+-- ---- the matrix
 
-pub refreshed-none : (p : Problem) (k : model.Kind) (ready : Bool) (count : ℕ) (rows : List ℕ) (b : Bool) → length rows ≡ 2048 → count ≤ 2048 → b ≡ isQueryKind k → b ≡ false → Refreshed p k ready count rows rows count
-refreshed-none p k ready count rows b s l e z = record { size = s; within = l; rows = λ q h f t. absurd (subst (λ (x : Bool). T x) (sym e ∙ z) t) }
-
-pub refreshed-same : (p : Problem) (k : model.Kind) (ready : Bool) (count : ℕ) (rows : List ℕ) → length rows ≡ 2048 → count ≤ 2048 → ready ≡ true → Refreshed p k ready count rows rows count
-refreshed-same p k ready count rows s l z = record { size = s; within = l; rows = λ q h f t. f z }
-
-pub refreshed-anew : (p : Problem) (k : model.Kind) (ready : Bool) (count : ℕ) (old new : List ℕ) (r : ℕ) → Prepares p new r → Refreshed p k ready count old new r
-refreshed-anew p k ready count old new r d = record { size = d .size; within = d .within; rows = λ q h f t. d .rows q h }
+pub prepared-all : (p : Problem) (m : Matrix) (out : List ℕ) → PutsRows p out (m .count) → TellsCovered p (m .covered) → Prepares p out m
+prepared-all p m out d c = record { size = d .size; within = d .within; matrix = λ q h. record { rows-of = d .rows q h; told = c q h } }
 
 -- ---- an array that a loop fills entry by entry
 

@@ -1,3 +1,3 @@
 pub mod Problems
-pub mod Tests
+pub mod Refusing
 pub mod Matrix

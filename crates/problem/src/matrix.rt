@@ -1,62 +1,67 @@
-// The covering matrix of a problem: what L and C search.
+// The covering matrix of a problem: what L and C search, and refusal 12.
 ghost use mathlib.Core.Path.{_≡_};
 ghost use mathlib.Core.List.{map};
 ghost use Prim.Native.Nat.{_≤_};
 ghost use lib.Count.{ones};
 ghost use lib.ListN.{length, take};
 ghost use Rattle.model.specs.Candidates.{termCost};
-ghost use Rattle.codec.specs.Kinds.{kindIs};
 ghost use Rattle.problem.specs.Problems.{Sized};
-ghost use Rattle.problem.specs.Matrix.{TellsCovered, Prepares, Refreshed, Costs};
+ghost use Rattle.problem.specs.Matrix.{TellsCovered, PutsRows, Prepares, Costs};
 use crate::Problem;
-use codec::kinds;
-use codec::kinds::Kind;
 use incidence::presence;
 use model::Term;
 use rows::order;
 use rows::reduction;
 
-// Whether each on cell is held by a candidate: 12 does not apply.
-pub fn is_covered(p: Problem) -> bool
+// How many rows stand in front of the array that they were put into, and whether each on cell is held by a candidate: 12 does not apply.
+pub struct Matrix {
+    pub count: usize,
+    pub covered: bool,
+}
+
+// Whether each on cell is held by a candidate.
+fn is_covered(p: Problem) -> bool
     requires { ⌜ Sized p ⌝ }
     ensures { λ r. ⌜ TellsCovered p r ⌝ }
 {
-    let on = p.on;
-    let terms = p.terms;
-    let count = p.count;
-    presence::coverable(&on, terms, count, p.n, p.m)
+    let on = p.rows.on;
+    let terms = p.candidates.terms;
+    presence::coverable(&on, terms, p.candidates.count, p.settings.n, p.settings.m)
 }
 
 // Puts the rows that contain no other row in front of `out`, those with few members first, and returns how many.
-pub fn prepare(p: Problem, out: &mut [u64]) -> usize
+fn put_rows(p: Problem, out: &mut [u64]) -> usize
     requires { ⌜ Sized p ⌝ }
     requires { ⌜ length (now out) ≡ 2048 ⌝ }
-    ensures { λ r. ⌜ Prepares p (now (out .exit)) r ⌝ }
+    ensures { λ r. ⌜ PutsRows p (now (out .exit)) r ⌝ }
 {
-    let on = p.on;
-    let terms = p.terms;
-    let count = p.count;
+    let on = p.rows.on;
+    let terms = p.candidates.terms;
     let mut all = [0u64; 2048];
-    let n = incidence::rows::rows(&on, terms, count, p.n, p.m, &mut all);
+    let n = incidence::rows::rows(
+        &on,
+        terms,
+        p.candidates.count,
+        p.settings.n,
+        p.settings.m,
+        &mut all,
+    );
     let r = reduction::reduce(&all[..n], out);
     order::by_size(&mut out[..r]);
     r
 }
 
-// The rows that command k looks at, and how many: as they stand where the command before was a query too, else made anew. Other
-// commands look at none.
-pub fn refresh(p: Problem, k: Kind, ready: bool, count: usize, rows: &mut [u64]) -> usize
+// The covering matrix, its rows in front of `out`.
+pub fn prepare(p: Problem, out: &mut [u64]) -> Matrix
     requires { ⌜ Sized p ⌝ }
-    requires { ⌜ (length (now rows) ≡ 2048) × (count ≤ 2048) ⌝ }
-    ensures { λ r. ⌜ Refreshed p (kindIs k) ready count (now (rows .entry)) (now (rows .exit)) r ⌝ }
+    requires { ⌜ length (now out) ≡ 2048 ⌝ }
+    ensures { λ r. ⌜ Prepares p (now (out .exit)) r ⌝ }
 {
-    if kinds::is_query(k) {
-        if ready {
-            return count;
-        }
-        return prepare(p, rows);
+    let covered = is_covered(p);
+    Matrix {
+        count: put_rows(p, out),
+        covered: covered,
     }
-    count
 }
 
 // The costs of the candidates.

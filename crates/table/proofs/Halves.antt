@@ -19,9 +19,8 @@ use Rattle.model.specs.Sets.{Within}
 use Rattle.model.proofs.Lists.{bool-ext}
 use Rattle.model.proofs.Bits.{bit0-e, bit0-i, bit0-n, bit-le, bit-lt, within-le}
 use Rattle.model.proofs.Cubes.{bits-ext, Agree, setBit, set-here, set-other, set-lt}
-use Rattle.model.proofs.Drives.{drives-e, drives-i, drives-halves}
+use Rattle.model.proofs.Drives.{bit-or, drives-e, drives-i, drives-halves}
 use Rattle.table.specs.Cubes.{Allowed, MayOf, Cube, Free, Drives, DrivesFree}
-use Rattle.model.proofs.Drives.{bit-or}
 use Rattle.bits.specs.Bits.{Single, Member}
 use Rattle.bits.proofs.Shifts.{set-is-or}
 use Rattle.bits.proofs.Digits.{digit-bit}

@@ -5,21 +5,25 @@
 
 mod engine;
 mod exact;
+mod format;
 mod generate;
 mod reference;
+mod report;
 mod rng;
 mod selftest;
 mod stored;
+mod tally;
 
 use generate::Case;
 use reference::Outcome;
+use report::{hex, matches, report};
 use rng::Rng;
 use std::process::ExitCode;
 use std::time::{Duration, Instant};
+use tally::Tally;
 
 const SEED: u64 = 20_240_229;
 const COUNT: usize = 24_000;
-const REFUSALS: usize = 15;
 /// Each case of this stride is asked twice and, with no more room than this, kept for the threads.
 const STRIDE: usize = 50;
 const MOST_ROOM_KEPT: usize = 1_000;
@@ -29,7 +33,7 @@ const THREADS: usize = 4;
 struct Run {
     passed: usize,
     skipped: usize,
-    numbers: [usize; REFUSALS],
+    tally: Tally,
     slowest: Duration,
     kept: Vec<(Case, Outcome)>,
     trace: bool,
@@ -44,7 +48,7 @@ fn main() -> ExitCode {
     let mut run = Run {
         passed: 0,
         skipped: 0,
-        numbers: [0; REFUSALS],
+        tally: Tally::new(),
         slowest: Duration::ZERO,
         kept: Vec::new(),
         trace: words.iter().any(|word| word == "trace"),
@@ -143,7 +147,7 @@ fn one(run: &mut Run, case: &Case, turn: usize) -> bool {
         return false;
     }
     run.passed += 1;
-    run.numbers[expected.number as usize] += 1;
+    run.tally.add(&case.job, &expected);
     if turn % STRIDE == 0 && case.room <= MOST_ROOM_KEPT {
         run.kept.push((
             case.clone(),
@@ -156,15 +160,8 @@ fn one(run: &mut Run, case: &Case, turn: usize) -> bool {
     true
 }
 
-fn matches(expected: &Outcome, seen: &engine::Seen) -> bool {
-    expected.packed() == seen.packed
-        && expected.buffer == seen.buffer
-        && seen.guards_kept
-        && seen.job_kept
-}
-
-/// Each refusal must have come, few jobs may have been skipped, and threads must not disturb
-/// each other.
+/// Each number must have come, and each command with each of its own; few jobs may have been
+/// skipped, and threads must not disturb each other.
 fn after_jobs(run: &Run) -> usize {
     let mut failures = 0;
     let mut complain = |wrong: bool, what: String| {
@@ -173,15 +170,9 @@ fn after_jobs(run: &Run) -> usize {
             failures += 1;
         }
     };
-    let times: Vec<String> = run
-        .numbers
-        .iter()
-        .enumerate()
-        .map(|(i, n)| format!("{i}: {n}"))
-        .collect();
-    println!("how often each number came: {}", times.join(", "));
-    for (number, &times) in run.numbers.iter().enumerate() {
-        complain(times == 0, format!("number {number} never came"));
+    run.tally.print();
+    for complaint in run.tally.complaints() {
+        complain(true, complaint);
     }
     complain(
         run.skipped * 20 > run.passed,
@@ -211,81 +202,4 @@ fn threads_agree(kept: &[(Case, Outcome)]) -> bool {
             .into_iter()
             .all(|thread| thread.join().unwrap_or(false))
     })
-}
-
-// Reports.
-
-fn hex(bytes: &[u8]) -> String {
-    bytes.iter().map(|byte| format!("{byte:02x}")).collect()
-}
-
-/// True when engine and reference differ on this case.
-fn differs(case: &Case, before: &[u8]) -> bool {
-    let expected = reference::run(&case.job, before);
-    expected.is_some_and(|expected| !matches(&expected, &engine::call(case, before)))
-}
-
-/// Takes bytes out of the job, large pieces first, as long as the two still differ.
-fn shrink(case: &Case, before: &[u8]) -> Case {
-    let mut small = case.clone();
-    for piece in [4_096, 512, 64, 10, 4, 1] {
-        let mut at = 0;
-        while at + piece <= small.job.len() {
-            let mut tried = small.clone();
-            tried.job.drain(at..at + piece);
-            if differs(&tried, before) {
-                small = tried;
-            } else {
-                at += piece;
-            }
-        }
-    }
-    small
-}
-
-fn report(case: &Case, before: &[u8]) {
-    describe("MISMATCH", case, before);
-    if differs(case, before) {
-        describe("the same, shrunk", &shrink(case, before), before);
-    } else {
-        println!("the first call and the second one differ");
-    }
-}
-
-fn describe(title: &str, case: &Case, before: &[u8]) {
-    let expected = reference::run(&case.job, before).expect("it was run before");
-    let seen = engine::call(case, before);
-    println!(
-        "{title}: job of {} bytes, answer buffer of {}",
-        case.job.len(),
-        case.room
-    );
-    println!("  job       {}", hex(&case.job));
-    println!("  behind it {}", hex(&case.behind));
-    println!(
-        "  reference {} {} {}",
-        expected.number, expected.offset, expected.written
-    );
-    println!("            {}", hex(&expected.buffer[..expected.written]));
-    let (number, offset, written) = (
-        seen.packed >> 32,
-        seen.packed >> 16 & 0xffff,
-        seen.packed & 0xffff,
-    );
-    println!("  engine    {number} {offset} {written}");
-    println!(
-        "            {}",
-        hex(&seen.buffer[..seen.buffer.len().min(written as usize)])
-    );
-    let first = (0..before.len()).find(|&i| expected.buffer[i] != seen.buffer[i]);
-    first.into_iter().for_each(|i| {
-        println!(
-            "  first differing byte: {i}, reference {:02x}, engine {:02x}",
-            expected.buffer[i], seen.buffer[i]
-        );
-    });
-    println!(
-        "  guards kept: {}, job kept: {}",
-        seen.guards_kept, seen.job_kept
-    );
 }

@@ -1,6 +1,7 @@
 //! The paper's example and marked cases, held against the reference before any engine is asked.
 
 use crate::exact::Search;
+use crate::format::COMMANDS;
 use crate::generate::{draft, page, row, term, Draft};
 use crate::reference::{self, Covers, Table, Term, LONGEST};
 use crate::rng::Rng;
@@ -136,6 +137,7 @@ pub fn run(rng: &mut Rng) -> Checks {
         passed: 0,
         wrong: Vec::new(),
     };
+    table_of_commands(&mut checks);
     example(&mut checks);
     marked_cases(&mut checks);
     parity(&mut checks);
@@ -145,6 +147,15 @@ pub fn run(rng: &mut Rng) -> Checks {
         two_ways(&mut checks, rng);
     }
     checks
+}
+
+/// The good operands are as long as the operands, and no byte stands for two commands.
+fn table_of_commands(checks: &mut Checks) {
+    for (i, command) in COMMANDS.iter().enumerate() {
+        let alone = COMMANDS[..i].iter().all(|other| other.byte != command.byte);
+        checks.check("good operands", command.good.len() == command.width());
+        checks.check("a byte of its own", alone);
+    }
 }
 
 fn example(checks: &mut Checks) {

@@ -6,6 +6,7 @@
 
 use crate::engine;
 use crate::exact::{GivenUp, Search};
+use crate::format;
 use crate::generate::{page, Case};
 use crate::reference::{self, Table, Term, LONGEST};
 use std::fs;
@@ -103,7 +104,7 @@ fn paths() -> Result<Vec<PathBuf>, String> {
 }
 
 fn check(job: &[u8]) -> Result<Depth, String> {
-    let commands = commands(job)?;
+    let commands = format::cut(job).ok_or("it is not a list of whole commands")?;
     let is_query = |command: &&[u8]| matches!(command[0], b'L' | b'C');
     let head = commands
         .iter()
@@ -119,21 +120,6 @@ fn check(job: &[u8]) -> Result<Depth, String> {
         depth = depth.min(check_query(&problem, &mut search, &query)?);
     }
     Ok(depth)
-}
-
-/// The job cut into its commands.
-fn commands(job: &[u8]) -> Result<Vec<&[u8]>, String> {
-    let mut list = Vec::new();
-    let mut rest = job;
-    while let Some(&byte) = rest.first() {
-        let width = 1 + reference::operands(byte).ok_or("a byte is no command")?;
-        if rest.len() < width {
-            return Err("operands are missing".into());
-        }
-        list.push(&rest[..width]);
-        rest = &rest[width..];
-    }
-    Ok(list)
 }
 
 /// Table and candidates by the paper: terms as they came, or the primes.
@@ -154,7 +140,8 @@ fn problem(head: &[&[u8]]) -> Result<Problem, String> {
                 value,
                 outputs,
             }),
-            _ => candidates = table.primes(),
+            [b'P'] => candidates = table.primes(),
+            _ => return Err("a command before the queries has no meaning here".into()),
         }
     }
     Ok(Problem {

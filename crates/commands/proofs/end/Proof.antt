@@ -3,48 +3,34 @@ use Rattle.commands.proofs.Handling.{end-early, end-long, end-written}
 use borrow.Author.Needs.{needs}
 use Rattle.commands.proofs.end.Statement.{statement}
 use Rattle.commands.proofs.end.Tie as tie
-use Rattle.commands.proofs.end.Reads as reads
-use Rattle.commands.proofs.end.Lts as lts
-use Rattle.commands.proofs.refused.Reads as refused-reads
-use Rattle.answers.proofs.writers.put_end.Reads as put-end-reads
 
--- src/lib.rt:114:9
 refused-requires : tie.Need-refused-requires
 refused-requires c κs = search needs
 
--- src/lib.rt:114:9
 returns : tie.Need-returns
 returns c = end-early (c .before .before .before .args .p) (c .before .before .before .args .rest) _ _ (c .before .if1 .taken) (c .refused .ensures)
 
--- src/lib.rt:116:11
 put-end-requires : tie.Need-put-end-requires
 put-end-requires c κs = search needs
 
--- src/lib.rt:117:27
 enum-told : tie.Need-enum-told
 enum-told c = search needs
 
--- src/lib.rt:117:27
 refused-requires-2 : tie.Need-refused-requires-2
 refused-requires-2 c κs = search needs
 
--- src/lib.rt:118:24
 enum-known-n : tie.Need-enum-known-n
 enum-known-n c = search needs
 
--- src/lib.rt:110:1
 same-length : tie.Need-same-length
 same-length c = search needs
 
--- src/lib.rt:110:1
 returns-2 : tie.Need-returns-2
 returns-2 c = end-long (c .before .before .before .before .before .before .before .before .before .args .p) (c .before .before .before .before .before .before .before .before .before .args .rest) _ _ _ (c .before .before .before .before .before .before .before .if1 .left) (c .before .before .before .before .before .put-end .ensures) _ (c .before .enum-told .given .1) (c .refused2 .ensures)
 
--- src/lib.rt:110:1
 same-length-2 : tie.Need-same-length-2
 same-length-2 c = search needs
 
--- src/lib.rt:110:1
 returns-3 : tie.Need-returns-3
 returns-3 c = end-written (c .before .before .before .before .before .before .before .before .before .args .p) (c .before .before .before .before .before .before .before .before .before .args .rest) _ _ _ (c .before .before .before .before .before .before .before .if1 .left) (c .before .before .before .before .before .put-end .ensures) _ (c .before .n .given .1)
 

@@ -3,29 +3,19 @@ use Rattle.commands.proofs.Handling.{init-refused, init-good}
 use borrow.Author.Needs.{needs}
 use Rattle.commands.proofs.init.Statement.{statement}
 use Rattle.commands.proofs.init.Tie as tie
-use Rattle.commands.proofs.init.Reads as reads
-use Rattle.commands.proofs.init.Lts as lts
-use Rattle.commands.proofs.refused.Reads as refused-reads
-use Rattle.problem.proofs.started.Reads as started-reads
-use Rattle.problem.proofs.tests.init_refusal.Reads as init-refusal-reads
 
--- src/lib.rt:42:9
 init-refusal-requires : tie.Need-init-refusal-requires
 init-refusal-requires c κs = search needs
 
--- src/lib.rt:44:9
 refused-requires : tie.Need-refused-requires
 refused-requires c κs = search needs
 
--- src/lib.rt:44:9
 returns : tie.Need-returns
 returns c = init-refused (c .before .before .before .args .p) (c .before .before .before .args .n) (c .before .before .before .args .m) _ _ (c .before .before .init-refusal .ensures) (c .before .if1 .taken) (c .refused .ensures)
 
--- src/lib.rt:49:18
 started-requires : tie.Need-started-requires
 started-requires c κs = search needs
 
--- src/lib.rt:39:1
 returns-2 : tie.Need-returns-2
 returns-2 c = init-good (c .before .before .before .args .n) (c .before .before .before .args .m) _ _ (c .before .before .init-refusal .ensures) (c .before .if1 .left) (c .started .ensures)
 

@@ -4,63 +4,43 @@ use Rattle.commands.proofs.Handling.{primes-many, few-primes, primes-lo
 use borrow.Author.Needs.{needs}
 use Rattle.commands.proofs.primes.Statement.{statement}
 use Rattle.commands.proofs.primes.Tie as tie
-use Rattle.commands.proofs.primes.Reads as reads
-use Rattle.commands.proofs.primes.Lts as lts
-use Rattle.commands.proofs.refused.Reads as refused-reads
-use Rattle.problem.proofs.with_primes.Reads as with-primes-reads
-use Rattle.answers.proofs.writers.put_primes.Reads as put-primes-reads
-use Rattle.table.proofs.cells.allowed.Reads as allowed-reads
-use Rattle.table.proofs.prime_list.primes.Reads as primes-reads
 
--- src/lib.rt:92:15
 allowed-requires : tie.Need-allowed-requires
 allowed-requires c κs = search needs
 
--- src/lib.rt:93:9
 primes-requires : tie.Need-primes-requires
 primes-requires c κs = reached-sized _ (c .before .before .before .before .before .before .before .pre) .inputs
 
--- src/lib.rt:95:9
 refused-requires : tie.Need-refused-requires
 refused-requires c κs = search needs
 
--- src/lib.rt:95:9
 returns : tie.Need-returns
 returns c = primes-many (c .before .before .before .before .before .before .before .before .before .before .args .p) (reached-sized _ (c .before .before .before .before .before .before .before .before .before .before .pre)) _ (c .before .before .before .before .allowed .ensures) _ (c .before .before .primes .ensures) _ _ (c .before .if1 .taken) (c .refused .ensures)
 
--- src/lib.rt:99:11
 put-primes-requires : tie.Need-put-primes-requires
 put-primes-requires c κs = few-primes (c .before .before .before .before .before .before .before .before .before .before .before .args .p) (reached-sized _ (c .before .before .before .before .before .before .before .before .before .before .before .pre)) _ (c .before .before .before .before .before .allowed .ensures) _ (c .before .before .before .primes .ensures) (c .before .before .before .before .before .before .before .before .before .before .before .pre)
 
--- src/lib.rt:100:27
 enum-told : tie.Need-enum-told
 enum-told c = search needs
 
--- src/lib.rt:100:27
 refused-requires-2 : tie.Need-refused-requires-2
 refused-requires-2 c κs = search needs
 
--- src/lib.rt:101:24
 enum-known-n : tie.Need-enum-known-n
 enum-known-n c = search needs
 
--- src/lib.rt:104:22
 with-primes-requires : tie.Need-with-primes-requires
 with-primes-requires c κs = search needs
 
--- src/lib.rt:86:1
 same-length : tie.Need-same-length
 same-length c = search needs
 
--- src/lib.rt:86:1
 returns-2 : tie.Need-returns-2
 returns-2 c = primes-long (c .before .before .before .before .before .before .before .before .before .before .before .before .before .before .before .before .before .args .p) (reached-sized _ (c .before .before .before .before .before .before .before .before .before .before .before .before .before .before .before .before .before .pre)) _ (c .before .before .before .before .before .before .before .before .before .before .before .allowed .ensures) _ (c .before .before .before .before .before .before .before .before .before .primes .ensures) _ _ _ (c .before .before .before .before .before .before .before .before .if1 .left) (c .before .before .before .before .before .put-primes .ensures) _ (c .before .enum-told .given .1) (c .refused2 .ensures)
 
--- src/lib.rt:86:1
 same-length-2 : tie.Need-same-length-2
 same-length-2 c = search needs
 
--- src/lib.rt:86:1
 returns-3 : tie.Need-returns-3
 returns-3 c = primes-kept (c .before .before .before .before .before .before .before .before .before .before .before .before .before .before .before .before .before .before .args .p) (reached-sized _ (c .before .before .before .before .before .before .before .before .before .before .before .before .before .before .before .before .before .before .pre)) _ (c .before .before .before .before .before .before .before .before .before .before .before .before .allowed .ensures) _ (c .before .before .before .before .before .before .before .before .before .before .primes .ensures) _ _ _ (c .before .before .before .before .before .before .before .before .before .if1 .left) (c .before .before .before .before .before .before .put-primes .ensures) _ _ (c .before .before .n .given .1) (c .with-primes .ensures)
 

@@ -7,8 +7,6 @@ use Rattle.answers.proofs.Bytes.{none-yet}
 use Rattle.library.proofs.Calling.{PaddedBelow, padded-long, padded-next, padded-all}
 use Rattle.library.proofs.padded.Statement.{statement}
 use Rattle.library.proofs.padded.Tie as tie
-use Rattle.library.proofs.padded.Reads as reads
-use Rattle.library.proofs.padded.Lts as lts
 
 abbrev Inv-loop : tie.InvT-loop
 Inv-loop row all₀ i₀ all i = PaddedBelow row i all
@@ -16,31 +14,24 @@ Inv-loop row all₀ i₀ all i = PaddedBelow row i all
 abbrev μ-loop : tie.MeasureT-loop
 μ-loop row all₀ i₀ all i = length row - i
 
--- src/lib.rt:81:5
 loop-holds : tie.Need-loop-holds Inv-loop μ-loop
 loop-holds c = (omega arith, none-yet (replicate 256 0))
 
--- src/lib.rt:82:18
 shared-slice-read-all : tie.Need-shared-slice-read-all Inv-loop μ-loop
 shared-slice-read-all c = omega arith
 
--- src/lib.rt:82:9
 array-write-all : tie.Need-array-write-all Inv-loop μ-loop
 array-write-all c = omega (arith, padded-long (now (c .before .before .before .args .row)) (c .before .before .loop .i) (c .before .before .loop .all) (c .before .before .before .pre) (c .before .before .loop .inv), c .before .before .before .pre)
 
--- src/lib.rt:83:9
 add-i : tie.Need-add-i Inv-loop μ-loop
 add-i c = omega arith
 
--- src/lib.rt:81:5
 loop-less : tie.Need-loop-less Inv-loop μ-loop
 loop-less c = omega arith
 
--- src/lib.rt:81:5
 loop-again : tie.Need-loop-again Inv-loop μ-loop
 loop-again c = padded-next (now (c .before .before .before .args .row)) (c .before .before .loop .i) (c .before .before .loop .all) (c .before .before .before .pre) (c .before .before .loop .inv) (c .before .loop-test .taken)
 
--- src/lib.rt:75:1
 returns : tie.Need-returns Inv-loop μ-loop
 returns c = padded-all (now (c .before .before .args .row)) (c .before .loop .i) (c .before .loop .all) (c .before .before .pre) (c .before .loop .inv) (c .loop-test .left)
 

@@ -4,26 +4,18 @@ use Rattle.library.proofs.Calling.{call-holds}
 use borrow.Author.Needs.{needs}
 use Rattle.library.proofs.problem_of.Statement.{statement}
 use Rattle.library.proofs.problem_of.Tie as tie
-use Rattle.library.proofs.problem_of.Reads as reads
-use Rattle.library.proofs.problem_of.Lts as lts
-use Rattle.library.proofs.padded.Reads as padded-reads
-use Rattle.library.proofs.terms_of.Reads as terms-of-reads
 
--- src/lib.rt:122:9
 padded-requires : tie.Need-padded-requires
 padded-requires c κs = search needs
 
--- src/lib.rt:123:9
 padded-requires-2 : tie.Need-padded-requires-2
 padded-requires-2 c κs = search needs
 
--- src/lib.rt:124:9
 terms-of-requires : tie.Need-terms-of-requires
 terms-of-requires c κs = search needs
 
--- src/lib.rt:118:1
 returns : tie.Need-returns
-returns c = call-holds (c .before .before .before .before .before .before .args .n) (c .before .before .before .before .before .before .args .m) (now (c .before .before .before .before .before .before .args .on)) (now (c .before .before .before .before .before .before .args .dc)) (now (c .before .before .before .before .before .before .args .words)) _ _ _ (c .before .before .before .before .before .before .pre .0) (c .before .before .before .before .before .before .pre .1) (c .before .before .padded .ensures) (c .before .padded2 .ensures) (c .terms-of .ensures)
+returns c = call-holds (now (c .before .before .before .before .before .before .args .words)) (c .before .before .before .before .before .before .pre .0) (c .before .before .before .before .before .before .pre .1) (c .before .before .padded .ensures) (c .before .padded2 .ensures) (c .terms-of .ensures)
 
 pub problem-of-spec : {M : Type 1} → statement M
 problem-of-spec = tie.close (tie.spec padded-requires padded-requires-2 terms-of-requires returns)

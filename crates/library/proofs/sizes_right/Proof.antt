@@ -3,36 +3,25 @@ use Rattle.library.proofs.Calling.{size-le, sizes-inputs, sizes-outputs
 use borrow.Author.Needs.{needs}
 use Rattle.library.proofs.sizes_right.Statement.{statement}
 use Rattle.library.proofs.sizes_right.Tie as tie
-use Rattle.library.proofs.sizes_right.Reads as reads
-use Rattle.library.proofs.sizes_right.Lts as lts
-use Rattle.bits.proofs.byte.bound.Reads as bound-reads
-use Rattle.problem.proofs.tests.is_size.Reads as is-size-reads
 
--- src/lib.rt:32:8
 is-size-requires : tie.Need-is-size-requires
 is-size-requires c κs = search needs
 
--- src/lib.rt:33:12
 is-size-requires-2 : tie.Need-is-size-requires-2
 is-size-requires-2 c κs = search needs
 
--- src/lib.rt:34:17
 bound-requires : tie.Need-bound-requires
 bound-requires c κs = size-le _ _ (c .before .before .before .is-size .ensures) (c .before .before .if1 .taken)
 
--- src/lib.rt:36:17
 returns : tie.Need-returns
 returns c = sizes-dc (c .before .before .before .before .before .before .args .n) (c .before .before .before .before .before .before .args .m) (c .before .before .before .before .before .before .args .on) (c .before .before .before .before .before .before .args .dc) _ (c .before .before .before .before .before .is-size .ensures) _ (c .before .before .before .is-size2 .ensures) (c .before .before .before .before .if1 .taken) (c .before .before .if2 .taken) _ (c .before .bound .ensures) (c .if3 .taken)
 
--- src/lib.rt:29:1
 returns-2 : tie.Need-returns-2
 returns-2 c = sizes-on (c .before .before .before .before .before .before .args .n) (c .before .before .before .before .before .before .args .m) (c .before .before .before .before .before .before .args .on) (c .before .before .before .before .before .before .args .dc) _ (c .before .before .before .before .before .is-size .ensures) _ (c .before .before .before .is-size2 .ensures) (c .before .before .before .before .if1 .taken) (c .before .before .if2 .taken) _ (c .before .bound .ensures) (c .if3 .left)
 
--- src/lib.rt:29:1
 returns-3 : tie.Need-returns-3
 returns-3 c = sizes-outputs (c .before .before .before .before .args .n) (c .before .before .before .before .args .m) (c .before .before .before .before .args .on) (c .before .before .before .before .args .dc) _ (c .before .before .before .is-size .ensures) _ (c .before .is-size2 .ensures) (c .before .before .if1 .taken) (c .if2 .left)
 
--- src/lib.rt:29:1
 returns-4 : tie.Need-returns-4
 returns-4 c = sizes-inputs (c .before .before .args .n) (c .before .before .args .m) (c .before .before .args .on) (c .before .before .args .dc) _ (c .before .is-size .ensures) (c .if1 .left)
 

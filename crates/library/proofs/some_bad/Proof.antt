@@ -6,9 +6,6 @@ use lib.ListN.{length}
 use Rattle.library.proofs.Calling.{GoodBelow, good-first, bad-here, good-next, good-all}
 use Rattle.library.proofs.some_bad.Statement.{statement}
 use Rattle.library.proofs.some_bad.Tie as tie
-use Rattle.library.proofs.some_bad.Reads as reads
-use Rattle.library.proofs.some_bad.Lts as lts
-use Rattle.problem.proofs.tests.bad_row.Reads as bad-row-reads
 
 abbrev Inv-loop : tie.InvT-loop
 Inv-loop m on dc v₀ v = GoodBelow m on dc v
@@ -16,39 +13,30 @@ Inv-loop m on dc v₀ v = GoodBelow m on dc v
 abbrev μ-loop : tie.MeasureT-loop
 μ-loop m on dc v₀ v = length on - v
 
--- src/lib.rt:49:5
 loop-holds : tie.Need-loop-holds Inv-loop μ-loop
 loop-holds c = good-first (c .before .before .args .m) (now (c .before .before .args .on)) (now (c .before .before .args .dc))
 
--- src/lib.rt:50:30
 shared-slice-read-bad-row : tie.Need-shared-slice-read-bad-row Inv-loop μ-loop
 shared-slice-read-bad-row c = omega arith
 
--- src/lib.rt:50:37
 shared-slice-read-bad-row-2 : tie.Need-shared-slice-read-bad-row-2 Inv-loop μ-loop
 shared-slice-read-bad-row-2 c = omega (arith, c .before .before .before .before .before .before .pre .1)
 
--- src/lib.rt:50:12
 bad-row-requires : tie.Need-bad-row-requires Inv-loop μ-loop
 bad-row-requires c κs = c .before .before .before .before .before .before .pre .0
 
--- src/lib.rt:51:13
 returns : tie.Need-returns Inv-loop μ-loop
 returns c = bad-here (c .before .before .before .before .before .before .before .before .args .m) (now (c .before .before .before .before .before .before .before .before .args .on)) (now (c .before .before .before .before .before .before .before .before .args .dc)) (c .before .before .before .before .before .loop .v) _ (c .before .before .before .before .loop-test .taken) (c .before .bad-row .ensures) (c .if1 .taken) (c .before .before .before .before .before .loop .inv)
 
--- src/lib.rt:53:9
 add-v : tie.Need-add-v Inv-loop μ-loop
 add-v c = omega arith
 
--- src/lib.rt:49:5
 loop-less : tie.Need-loop-less Inv-loop μ-loop
 loop-less c = omega arith
 
--- src/lib.rt:49:5
 loop-again : tie.Need-loop-again Inv-loop μ-loop
 loop-again c = good-next (c .before .before .before .before .before .before .before .before .args .m) (now (c .before .before .before .before .before .before .before .before .args .on)) (now (c .before .before .before .before .before .before .before .before .args .dc)) (c .before .before .before .before .before .loop .v) _ (c .before .before .before .before .loop-test .taken) (c .before .bad-row .ensures) (c .if1 .left) (c .before .before .before .before .before .loop .inv)
 
--- src/lib.rt:44:1
 returns-2 : tie.Need-returns-2 Inv-loop μ-loop
 returns-2 c = good-all (c .before .before .before .before .args .m) (now (c .before .before .before .before .args .on)) (now (c .before .before .before .before .args .dc)) (c .before .loop .v) (c .loop-test .left) (c .before .loop .inv)
 

@@ -8,9 +8,6 @@ use Rattle.model.specs.Library.{unpack}
 use Rattle.problem.proofs.Preparing.{MappedBelow, mapped-next, mapped-all}
 use Rattle.library.proofs.terms_of.Statement.{statement}
 use Rattle.library.proofs.terms_of.Tie as tie
-use Rattle.library.proofs.terms_of.Reads as reads
-use Rattle.library.proofs.terms_of.Lts as lts
-use Rattle.library.proofs.unpacked.Reads as unpacked-reads
 
 abbrev Inv-loop : tie.InvT-loop
 Inv-loop words all₀ i₀ all i = (i ≤ length words) × MappedBelow unpack 64 words i all
@@ -18,43 +15,33 @@ Inv-loop words all₀ i₀ all i = (i ≤ length words) × MappedBelow unpack 64
 abbrev μ-loop : tie.MeasureT-loop
 μ-loop words all₀ i₀ all i = length words - i
 
--- src/lib.rt:110:5
 loop-holds : tie.Need-loop-holds Inv-loop μ-loop
 loop-holds c = (omega arith, (refl, refl))
 
--- src/lib.rt:111:27
 mul-unpacked : tie.Need-mul-unpacked Inv-loop μ-loop
 mul-unpacked c = omega (arith, c .before .before .before .pre)
 
--- src/lib.rt:111:27
 shared-slice-read-unpacked : tie.Need-shared-slice-read-unpacked Inv-loop μ-loop
 shared-slice-read-unpacked c = omega arith
 
--- src/lib.rt:111:18
 unpacked-requires : tie.Need-unpacked-requires Inv-loop μ-loop
 unpacked-requires c κs = tt
 
--- src/lib.rt:111:9
 mul-all : tie.Need-mul-all Inv-loop μ-loop
 mul-all c = omega (arith, c .before .before .before .before .before .pre)
 
--- src/lib.rt:111:9
 array-set-from-all : tie.Need-array-set-from-all Inv-loop μ-loop
 array-set-from-all c = omega (arith, c .before .before .before .loop .inv .1 .0, c .before .before .before .before .before .pre)
 
--- src/lib.rt:112:9
 add-i : tie.Need-add-i Inv-loop μ-loop
 add-i c = omega arith
 
--- src/lib.rt:110:5
 loop-less : tie.Need-loop-less Inv-loop μ-loop
 loop-less c = omega arith
 
--- src/lib.rt:110:5
 loop-again : tie.Need-loop-again Inv-loop μ-loop
 loop-again c = (omega arith, mapped-next unpack 64 0 (now (c .before .before .before .before .before .args .words)) (c .before .before .before .loop .i) (c .before .before .before .loop .all) _ (omega (arith, c .before .before .before .before .before .pre)) (c .before .before .loop-test .taken) (c .unpacked .ensures) (c .before .before .before .loop .inv .1))
 
--- src/lib.rt:100:1
 returns : tie.Need-returns Inv-loop μ-loop
 returns c = mapped-all unpack 64 (now (c .before .before .before .args .words)) (c .before .loop .i) (c .before .loop .all) (c .loop-test .left) (c .before .loop .inv .0) (c .before .loop .inv .1)
 

@@ -4,37 +4,25 @@ use Rattle.codec.proofs.Reading.{early-none, early-place, early-short, 
 use borrow.Author.Needs.{needs}
 use Rattle.codec.proofs.kinds.early_refusal.Statement.{statement}
 use Rattle.codec.proofs.kinds.early_refusal.Tie as tie
-use Rattle.codec.proofs.kinds.early_refusal.Reads as reads
-use Rattle.codec.proofs.kinds.early_refusal.Lts as lts
-use Rattle.codec.proofs.kinds.is_allowed.Reads as is-allowed-reads
-use Rattle.codec.proofs.kinds.is_none.Reads as is-none-reads
-use Rattle.codec.proofs.kinds.width_of.Reads as width-of-reads
 
--- src/kinds.rt:131:8
 is-none-requires : tie.Need-is-none-requires
 is-none-requires c κs = search needs
 
--- src/kinds.rt:132:9
 returns : tie.Need-returns
 returns c = early-none (kindIs (c .before .before .args .k)) (c .before .before .args .place) (c .before .before .args .rest) _ (c .before .is-none .ensures) (c .if1 .taken)
 
--- src/kinds.rt:134:8
 is-allowed-requires : tie.Need-is-allowed-requires
 is-allowed-requires c κs = search needs
 
--- src/kinds.rt:135:19
 width-of-requires : tie.Need-width-of-requires
 width-of-requires c κs = search needs
 
--- src/kinds.rt:136:13
 returns-2 : tie.Need-returns-2
 returns-2 c = early-short (kindIs (c .before .before .before .before .before .before .args .k)) (c .before .before .before .before .before .before .args .place) (c .before .before .before .before .before .before .args .rest) _ _ _ (c .before .before .before .before .before .is-none .ensures) (c .before .before .before .before .if1 .left) (c .before .before .before .is-allowed .ensures) (c .before .before .if2 .taken) (c .before .width-of .ensures) (c .if3 .taken)
 
--- src/kinds.rt:138:9
 returns-3 : tie.Need-returns-3
 returns-3 c = early-passed (kindIs (c .before .before .before .before .before .before .args .k)) (c .before .before .before .before .before .before .args .place) (c .before .before .before .before .before .before .args .rest) _ _ _ (c .before .before .before .before .before .is-none .ensures) (c .before .before .before .before .if1 .left) (c .before .before .before .is-allowed .ensures) (c .before .before .if2 .taken) (c .before .width-of .ensures) (c .if3 .left)
 
--- src/kinds.rt:128:1
 returns-4 : tie.Need-returns-4
 returns-4 c = early-place (kindIs (c .before .before .before .before .args .k)) (c .before .before .before .before .args .place) (c .before .before .before .before .args .rest) _ _ (c .before .before .before .is-none .ensures) (c .before .before .if1 .left) (c .before .is-allowed .ensures) (c .if2 .left)
 

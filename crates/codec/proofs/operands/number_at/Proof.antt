@@ -5,9 +5,6 @@ use native.Mathlib.Omega.{arith}
 use Rattle.codec.proofs.Reading.{ReadFrom, read-none, read-next, read-room, read-all}
 use Rattle.codec.proofs.operands.number_at.Statement.{statement}
 use Rattle.codec.proofs.operands.number_at.Tie as tie
-use Rattle.codec.proofs.operands.number_at.Reads as reads
-use Rattle.codec.proofs.operands.number_at.Lts as lts
-use Rattle.codec.proofs.operands.long.Reads as long-reads
 
 abbrev Inv-loop : tie.InvT-loop
 Inv-loop job at x₀ i₀ x i = ReadFrom job at i x
@@ -15,43 +12,33 @@ Inv-loop job at x₀ i₀ x i = ReadFrom job at i x
 abbrev μ-loop : tie.MeasureT-loop
 μ-loop job at x₀ i₀ x i = i
 
--- src/operands.rt:23:5
 loop-holds : tie.Need-loop-holds Inv-loop μ-loop
 loop-holds c = read-none (now (c .before .args .job)) (c .before .args .at)
 
--- src/operands.rt:24:9
 sub-i : tie.Need-sub-i Inv-loop μ-loop
 sub-i c = omega arith
 
--- src/operands.rt:25:13
 mul-x : tie.Need-mul-x Inv-loop μ-loop
 mul-x c = omega (arith, read-room _ _ _ _ (c .loop-test .taken) (c .before .loop .inv))
 
--- src/operands.rt:25:32
 add-long : tie.Need-add-long Inv-loop μ-loop
 add-long c = omega (arith, c .before .loop .inv .within, c .before .before .before .pre)
 
--- src/operands.rt:25:28
 shared-slice-read-long : tie.Need-shared-slice-read-long Inv-loop μ-loop
 shared-slice-read-long c = omega (arith, c .before .before .loop .inv .within, c .before .before .before .before .pre, c .before .loop-test .taken)
 
--- src/operands.rt:25:23
 long-requires : tie.Need-long-requires Inv-loop μ-loop
 long-requires c κs = tt
 
--- src/operands.rt:25:13
 add-x : tie.Need-add-x Inv-loop μ-loop
 add-x c = omega (arith, read-room _ _ _ _ (c .before .before .loop-test .taken) (c .before .before .before .loop .inv), c .long .ensures .1)
 
--- src/operands.rt:23:5
 loop-less : tie.Need-loop-less Inv-loop μ-loop
 loop-less c = omega arith
 
--- src/operands.rt:23:5
 loop-again : tie.Need-loop-again Inv-loop μ-loop
 loop-again c = read-next _ _ _ _ _ _ (c .before .before .before .before .before .pre) (c .before .before .loop-test .taken) (c .before .before .before .loop .inv) (c .long .ensures .0) (c .long .ensures .1) refl
 
--- src/operands.rt:17:1
 returns : tie.Need-returns Inv-loop μ-loop
 returns c = read-all _ _ _ _ (c .loop-test .left) (c .before .loop .inv)
 

@@ -1,82 +1,72 @@
 -- `commands::queries::least_cost` meets its contract.
+use borrow.Author.Tests.{not-true, not-false}
 use denote.Ref.{now}
 use mathlib.Core.Path.{sym}
 use native.Mathlib.Omega.{arith}
 use lib.Seq.{length-take-le}
 use Rattle.problem.proofs.Keeping.{reached-sized}
-use Rattle.commands.proofs.Querying.{cheapest-none, cheapest-answered}
+use Rattle.commands.proofs.Querying.{cheapest-uncovered, cheapest-none, cheapest-answered}
 use borrow.Author.Needs.{needs}
 use Rattle.commands.proofs.queries.least_cost.Statement.{statement}
 use Rattle.commands.proofs.queries.least_cost.Tie as tie
-use Rattle.commands.proofs.queries.least_cost.Reads as reads
-use Rattle.commands.proofs.queries.least_cost.Lts as lts
-use Rattle.commands.proofs.refused.Reads as refused-reads
-use Rattle.problem.proofs.matrix.costs.Reads as costs-reads
-use Rattle.commands.proofs.queries.replied.Reads as replied-reads
-use Rattle.answers.proofs.writers.put_cheapest.Reads as put-cheapest-reads
-use Rattle.cheapest.proofs.search.cheapest.Reads as cheapest-reads
 
--- src/queries.rt:65:17
-costs-requires : tie.Need-costs-requires
-costs-requires c κs = search needs
-
--- src/queries.rt:66:36
-array-share-prefix-costs : tie.Need-array-share-prefix-costs
-array-share-prefix-costs c = search needs
-
--- src/queries.rt:66:36
-slice-aggregate-cheapest : tie.Need-slice-aggregate-cheapest
-slice-aggregate-cheapest c = sym (length-take-le _ _ (array-share-prefix-costs (c .before)))
-
--- src/queries.rt:66:11
-cheapest-requires : tie.Need-cheapest-requires
-cheapest-requires c κs = (c .before .before .before .before .before .pre .1, omega (arith, slice-aggregate-cheapest c, reached-sized _ (c .before .before .before .before .before .pre .0) .few))
-
--- src/queries.rt:67:29
-enum-told : tie.Need-enum-told
-enum-told c = search needs
-
--- src/queries.rt:67:29
 refused-requires : tie.Need-refused-requires
 refused-requires c κs = search needs
 
--- src/queries.rt:68:24
+returns : tie.Need-returns
+returns c = let a = c .before .before .before .before .args in cheapest-uncovered (a .p) (now (a .rows)) _ (now (a .free)) _ (not-true (a .covered) (c .before .if1 .taken)) (c .refused .ensures)
+
+costs-requires : tie.Need-costs-requires
+costs-requires c κs = search needs
+
+array-share-prefix-costs : tie.Need-array-share-prefix-costs
+array-share-prefix-costs c = search needs
+
+slice-aggregate-cheapest : tie.Need-slice-aggregate-cheapest
+slice-aggregate-cheapest c = sym (length-take-le _ _ (array-share-prefix-costs (c .before)))
+
+cheapest-requires : tie.Need-cheapest-requires
+cheapest-requires c κs = (c .before .before .before .before .before .before .pre .1, omega (arith, slice-aggregate-cheapest c, reached-sized _ (c .before .before .before .before .before .before .pre .0) .few))
+
+enum-told : tie.Need-enum-told
+enum-told c = search needs
+
+refused-requires-2 : tie.Need-refused-requires-2
+refused-requires-2 c κs = search needs
+
 enum-known-set : tie.Need-enum-known-set
 enum-known-set c = search needs
 
--- src/queries.rt:68:49
 put-cheapest-requires : tie.Need-put-cheapest-requires
 put-cheapest-requires c κs = search needs
 
--- src/queries.rt:68:38
 replied-requires : tie.Need-replied-requires
 replied-requires c κs = search needs
 
--- src/queries.rt:59:1
-returns : tie.Need-returns
-returns c = cheapest-none (c .before .before .before .before .before .before .before .before .before .args .p) (now (c .before .before .before .before .before .before .before .before .before .args .rows)) _ (c .before .before .before .before .before .costs .ensures .costs) (now (c .before .before .before .before .before .before .before .before .before .args .free)) _ _ (c .before .enum-told .given .1) (c .before .before .before .cheapest .ensures) (c .refused .ensures)
+returns-2 : tie.Need-returns-2
+returns-2 c = let a = c .before .before .before .before .before .before .before .before .before .before .args in cheapest-none (a .p) (now (a .rows)) _ _ (c .before .before .before .before .before .costs .ensures .costs) (now (a .free)) _ _ (not-false (a .covered) (c .before .before .before .before .before .before .before .if1 .left)) (c .before .enum-told .given .1) (c .before .before .before .cheapest .ensures)
 
--- src/queries.rt:59:1
 same-length : tie.Need-same-length
 same-length c = search needs
 
--- src/queries.rt:59:1
-returns-2 : tie.Need-returns-2
-returns-2 c = cheapest-answered (c .before .before .before .before .before .before .before .before .before .before .before .before .before .before .args .p) (now (c .before .before .before .before .before .before .before .before .before .before .before .before .before .before .args .rows)) _ (c .before .before .before .before .before .before .before .before .before .before .costs .ensures .costs) _ _ _ (c .before .before .before .before .before .before .set .given .1) (c .before .before .before .before .before .before .before .before .cheapest .ensures) (now (c .before .before .before .before .before .before .before .before .before .before .before .before .before .before .args .free)) _ (c .before .before .before .put-cheapest .result) _ (c .before .before .before .put-cheapest .ensures) (c .replied .ensures)
+returns-3 : tie.Need-returns-3
+returns-3 c = let a = c .before .before .before .before .before .before .before .before .before .before .before .before .before .before .before .args in cheapest-answered (a .p) (now (a .rows)) _ _ (c .before .before .before .before .before .before .before .before .before .before .costs .ensures .costs) _ _ _ (c .before .before .before .before .before .before .set .given .1) (c .before .before .before .before .before .before .before .before .cheapest .ensures) (now (a .free)) _ (c .before .before .before .put-cheapest .result) _ (not-false (a .covered) (c .before .before .before .before .before .before .before .before .before .before .before .before .if1 .left)) (c .before .before .before .put-cheapest .ensures) (c .replied .ensures)
 
 pub least-cost-spec : {M : Type 1} → statement M
 least-cost-spec =
     tie.close
     (tie.spec
+    refused-requires
+    returns
     costs-requires
     array-share-prefix-costs
     slice-aggregate-cheapest
     cheapest-requires
     enum-told
-    refused-requires
+    refused-requires-2
     enum-known-set
     put-cheapest-requires
     replied-requires
-    returns
+    returns-2
     same-length
-    returns-2)
+    returns-3)

@@ -6,28 +6,19 @@ use Rattle.commands.proofs.Querying.{page-within, page-answer}
 use borrow.Author.Needs.{needs}
 use Rattle.commands.proofs.queries.page_into.Statement.{statement}
 use Rattle.commands.proofs.queries.page_into.Tie as tie
-use Rattle.commands.proofs.queries.page_into.Reads as reads
-use Rattle.commands.proofs.queries.page_into.Lts as lts
-use Rattle.answers.proofs.writers.put_page.Reads as put-page-reads
-use Rattle.lister.proofs.cursor.fill.Reads as fill-reads
 
--- src/queries.rt:39:9
 fill-requires : tie.Need-fill-requires
 fill-requires c κs = search needs
 
--- src/queries.rt:41:5
 put-page-requires : tie.Need-put-page-requires
 put-page-requires c κs = let w = page-within (rowCovers (c .before .before .before .before .before .before .before .before .before .args .n) (now (c .before .before .before .before .before .before .before .before .before .args .rows))) (c .before .before .before .before .before .before .before .before .before .args .start) (now (c .before .before .before .before .before .before .before .before .before .args .row)) _ _ (c .before .before .before .before .fill .ensures) in (w .1, omega (arith, w .0, c .before .before .before .before .before .before .before .before .before .pre .1))
 
--- src/queries.rt:35:1
 same-length : tie.Need-same-length
 same-length c = search needs
 
--- src/queries.rt:35:1
 same-length-2 : tie.Need-same-length-2
 same-length-2 c = search needs
 
--- src/queries.rt:35:1
 returns : tie.Need-returns
 returns c = page-answer (rowCovers (c .before .before .before .before .before .before .before .before .before .before .before .before .args .n) (now (c .before .before .before .before .before .before .before .before .before .before .before .before .args .rows))) (c .before .before .before .before .before .before .before .before .before .before .before .before .args .start) (now (c .before .before .before .before .before .before .before .before .before .before .before .before .args .row)) _ _ (c .before .before .before .before .before .before .before .fill .ensures) (now (c .before .before .before .before .before .before .before .before .before .before .before .before .args .free)) (c .before .before .put-page .last .0) (c .before .before .put-page .result) (c .before .before .put-page .ensures)
 

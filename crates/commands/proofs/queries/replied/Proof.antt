@@ -2,32 +2,22 @@
 use borrow.Author.Needs.{needs}
 use Rattle.commands.proofs.queries.replied.Statement.{statement}
 use Rattle.commands.proofs.queries.replied.Tie as tie
-use Rattle.commands.proofs.queries.replied.Reads as reads
-use Rattle.commands.proofs.queries.replied.Lts as lts
-use Rattle.commands.proofs.refused.Reads as refused-reads
-use Rattle.problem.proofs.after_query.Reads as after-query-reads
 
--- src/queries.rt:25:27
 enum-told : tie.Need-enum-told
 enum-told c = search needs
 
--- src/queries.rt:25:27
 refused-requires : tie.Need-refused-requires
 refused-requires c κs = search needs
 
--- src/queries.rt:26:24
 enum-known-reply : tie.Need-enum-known-reply
 enum-known-reply c = search needs
 
--- src/queries.rt:29:22
 after-query-requires : tie.Need-after-query-requires
 after-query-requires c κs = search needs
 
--- src/queries.rt:21:1
 returns : tie.Need-returns
 returns c = rw (c .before .enum-told .given .1) (c .refused .ensures)
 
--- src/queries.rt:21:1
 returns-2 : tie.Need-returns-2
 returns-2 c = rw (c .before .before .reply .given .1, c .after-query .ensures)
 

@@ -3,19 +3,13 @@ use Rattle.model.specs.Candidates.{termCost}
 use borrow.Author.Needs.{needs}
 use Rattle.problem.proofs.matrix.cost.Statement.{statement}
 use Rattle.problem.proofs.matrix.cost.Tie as tie
-use Rattle.problem.proofs.matrix.cost.Reads as reads
-use Rattle.problem.proofs.matrix.cost.Lts as lts
-use Rattle.problem.proofs.matrix.literals.Reads as literals-reads
 
--- src/matrix.rt:82:9
 literals-requires : tie.Need-literals-requires
 literals-requires c κs = search needs
 
--- src/matrix.rt:82:5
 add-result : tie.Need-add-result
 add-result c = search needs
 
--- src/matrix.rt:79:1
 returns : tie.Need-returns
 unfolding termCost
 returns c = rw (c .literals .ensures .0)

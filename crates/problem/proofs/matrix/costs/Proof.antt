@@ -9,9 +9,6 @@ use native.Mathlib.Omega.{arith}
 use Rattle.problem.proofs.Preparing.{MappedBelow, mapped-next}
 use Rattle.problem.proofs.matrix.costs.Statement.{statement}
 use Rattle.problem.proofs.matrix.costs.Tie as tie
-use Rattle.problem.proofs.matrix.costs.Reads as reads
-use Rattle.problem.proofs.matrix.costs.Lts as lts
-use Rattle.problem.proofs.matrix.cost.Reads as cost-reads
 
 abbrev Inv-loop : tie.InvT-loop
 Inv-loop count terms all₀ i₀ all i = (i ≤ count) × MappedBelow termCost 64 terms i all
@@ -19,43 +16,33 @@ Inv-loop count terms all₀ i₀ all i = (i ≤ count) × MappedBelow termCost 6
 abbrev μ-loop : tie.MeasureT-loop
 μ-loop count terms all₀ i₀ all i = count - i
 
--- src/matrix.rt:70:5
 loop-holds : tie.Need-loop-holds Inv-loop μ-loop
 loop-holds c = (omega arith, (refl, refl))
 
--- src/matrix.rt:71:17
 mul-t : tie.Need-mul-t Inv-loop μ-loop
 mul-t c = omega (arith, c .before .loop .inv .0)
 
--- src/matrix.rt:71:17
 array-copy-out-t : tie.Need-array-copy-out-t Inv-loop μ-loop
 array-copy-out-t c = omega (arith, c .before .loop .inv .0, c .before .before .pre)
 
--- src/matrix.rt:72:18
 cost-requires : tie.Need-cost-requires Inv-loop μ-loop
 cost-requires c κs = tt
 
--- src/matrix.rt:72:9
 mul-all : tie.Need-mul-all Inv-loop μ-loop
 mul-all c = omega (arith, c .before .before .before .loop .inv .0)
 
--- src/matrix.rt:72:9
 array-write-all : tie.Need-array-write-all Inv-loop μ-loop
 array-write-all c = omega (arith, c .before .before .before .loop .inv .0, c .before .before .before .before .pre)
 
--- src/matrix.rt:73:9
 add-i : tie.Need-add-i Inv-loop μ-loop
 add-i c = omega arith
 
--- src/matrix.rt:70:5
 loop-less : tie.Need-loop-less Inv-loop μ-loop
 loop-less c = omega arith
 
--- src/matrix.rt:70:5
 loop-again : tie.Need-loop-again Inv-loop μ-loop
 loop-again c = (omega arith, mapped-next termCost 64 (term 0 0 0) (c .before .before .before .before .args .t1) (c .before .before .before .loop .i) (c .before .before .before .loop .all) _ (omega (arith, c .before .before .before .before .pre)) (omega (arith, c .before .before .before .before .good .0 .1, c .before .before .before .before .pre)) (c .cost .ensures) (c .before .before .before .loop .inv .1))
 
--- src/matrix.rt:64:1
 returns : tie.Need-returns Inv-loop μ-loop
 returns c = record { size = c .before .loop .inv .1 .0; costs = let e : c .before .loop .i ≡ c .before .before .args .count = omega (arith, c .before .loop .inv .0) in subst (λ (k : ℕ). take k (c .before .loop .all) ≡ map termCost (take k (c .before .before .args .t1))) e (c .before .loop .inv .1 .1) }
 

@@ -5,14 +5,10 @@ use mathlib.Core.Path.{refl}
 use lib.Count.{ones-le}
 use Rattle.problem.proofs.matrix.literals.Statement.{statement}
 use Rattle.problem.proofs.matrix.literals.Tie as tie
-use Rattle.problem.proofs.matrix.literals.Reads as reads
-use Rattle.problem.proofs.matrix.literals.Lts as lts
 
--- src/matrix.rt:89:5
 cast-result : tie.Need-cast-result
 cast-result c = let h : c .args .care < 256 = omega arith in omega (arith, ones-le 8 (c .args .care) h)
 
--- src/matrix.rt:86:1
 returns : tie.Need-returns
 returns c = let h : c .args .care < 256 = omega arith in (refl, ones-le 8 (c .args .care) h)
 

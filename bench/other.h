@@ -1,0 +1,39 @@
+/*
+ * What the engine is compared with, one call with the contract of cover_job: the plain C engine of baseline.c or,
+ * where FORMER is defined, cover_job of a former library, which bench/common has renamed.
+ */
+#ifndef OTHER_H
+#define OTHER_H
+
+#include <stdbool.h>
+#include <stddef.h>
+#include <stdint.h>
+#include <string.h>
+
+#ifdef FORMER
+
+#define OTHER "former"
+
+uint64_t former_job(const uint8_t *job, size_t job_len, uint8_t *answers, size_t answers_len);
+#define other_job former_job
+
+/* Which commands a former library has is not known here; and it counts no nodes. */
+static inline bool must_know(uint8_t command) { return (void)command, false; }
+static inline void clear_nodes(void) {}
+static inline uint64_t counted_nodes(void) { return 0; }
+
+#else
+
+#include "baseline.h"
+
+#define OTHER "plain C"
+#define other_job baseline_job
+
+/* The seven commands of paper 01. */
+static inline bool must_know(uint8_t command) { return command != 0 && strchr("IRTPLCE", command) != NULL; }
+static inline void clear_nodes(void) { baseline_nodes = (BaselineNodes){0, 0}; }
+static inline uint64_t counted_nodes(void) { return baseline_nodes.pages + baseline_nodes.cheapest; }
+
+#endif
+
+#endif

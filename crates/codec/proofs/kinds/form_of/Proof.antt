@@ -1,0 +1,106 @@
+-- `codec::kinds::form_of` meets its contract.
+use Rattle.codec.proofs.Reading.{described-as}
+use borrow.Author.Needs.{needs}
+use Rattle.codec.proofs.kinds.form_of.Statement.{statement}
+use Rattle.codec.proofs.kinds.form_of.Tie as tie
+
+enum-told : tie.Need-enum-told
+enum-told c = search needs
+
+described-requires : tie.Need-described-requires
+described-requires c κs = search needs
+
+enum-told-2 : tie.Need-enum-told-2
+enum-told-2 c = search needs
+
+described-requires-2 : tie.Need-described-requires-2
+described-requires-2 c κs = search needs
+
+enum-told-3 : tie.Need-enum-told-3
+enum-told-3 c = search needs
+
+described-requires-3 : tie.Need-described-requires-3
+described-requires-3 c κs = search needs
+
+enum-told-4 : tie.Need-enum-told-4
+enum-told-4 c = search needs
+
+described-requires-4 : tie.Need-described-requires-4
+described-requires-4 c κs = search needs
+
+enum-told-5 : tie.Need-enum-told-5
+enum-told-5 c = search needs
+
+described-requires-5 : tie.Need-described-requires-5
+described-requires-5 c κs = search needs
+
+enum-told-6 : tie.Need-enum-told-6
+enum-told-6 c = search needs
+
+described-requires-6 : tie.Need-described-requires-6
+described-requires-6 c κs = search needs
+
+enum-told-7 : tie.Need-enum-told-7
+enum-told-7 c = search needs
+
+described-requires-7 : tie.Need-described-requires-7
+described-requires-7 c κs = search needs
+
+enum-told-8 : tie.Need-enum-told-8
+enum-told-8 c = search needs
+
+described-requires-8 : tie.Need-described-requires-8
+described-requires-8 c κs = search needs
+
+returns : tie.Need-returns
+returns c = described-as _ _ _ (c .before .enum-told .given .1) (c .described .ensures)
+
+returns-2 : tie.Need-returns-2
+returns-2 c = described-as _ _ _ (c .before .enum-told2 .given .1) (c .described2 .ensures)
+
+returns-3 : tie.Need-returns-3
+returns-3 c = described-as _ _ _ (c .before .enum-told3 .given .1) (c .described3 .ensures)
+
+returns-4 : tie.Need-returns-4
+returns-4 c = described-as _ _ _ (c .before .enum-told4 .given .1) (c .described4 .ensures)
+
+returns-5 : tie.Need-returns-5
+returns-5 c = described-as _ _ _ (c .before .enum-told5 .given .1) (c .described5 .ensures)
+
+returns-6 : tie.Need-returns-6
+returns-6 c = described-as _ _ _ (c .before .enum-told6 .given .1) (c .described6 .ensures)
+
+returns-7 : tie.Need-returns-7
+returns-7 c = described-as _ _ _ (c .before .enum-told7 .given .1) (c .described7 .ensures)
+
+returns-8 : tie.Need-returns-8
+returns-8 c = described-as _ _ _ (c .before .enum-told8 .given .1) (c .described8 .ensures)
+
+pub form-of-spec : {M : Type 1} → statement M
+form-of-spec =
+    tie.close
+    (tie.spec
+    enum-told
+    described-requires
+    enum-told-2
+    described-requires-2
+    enum-told-3
+    described-requires-3
+    enum-told-4
+    described-requires-4
+    enum-told-5
+    described-requires-5
+    enum-told-6
+    described-requires-6
+    enum-told-7
+    described-requires-7
+    enum-told-8
+    described-requires-8
+    returns
+    returns-2
+    returns-3
+    returns-4
+    returns-5
+    returns-6
+    returns-7
+    returns-8)

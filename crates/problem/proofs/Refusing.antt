@@ -1,0 +1,132 @@
+-- The laws behind the tests of operands.
+use Prim.Native.Nat.{ℕ, _^_, _≤_, _<_}
+use native.Mathlib.Omega.{arith}
+use native.Mathlib.Decide.{decLt}
+use mathlib.Core.Path.{_≡_, refl, sym, ap, _∙_, subst, subst⁻¹}
+use mathlib.Core.Bool.{Bool, true, false, not, _&&_, _||_}
+use mathlib.Core.List.{List, [], _∷_}
+use borrow.Author.Tests.{lt-ltb, le-ltb, le-leb, lt-leb}
+use lib.Bits.{bitAnd}
+use lib.Dec.{T, leb, ltb}
+use lib.ListN.{getD, length}
+use lib.Pow.{pow-mono}
+use Rattle.model.specs.declared.Term.{Term}
+use Rattle.model.specs.Table.{Table, formed, holdsNoOff}
+use Rattle.model.specs.Commands as model
+use Rattle.model.specs.Commands.{Context, operand, tableOf}
+use Rattle.model.specs.Refusals.{refuse, firstOf, size, badRow, refusalsOf}
+use Rattle.model.specs.Invariants.{Valid}
+use Rattle.model.specs.Library.{badVertex}
+use Rattle.model.proofs.Cubes.{formed-e}
+use Rattle.table.specs.Cubes.{Allowed, TableBytes, MayOf, TellsFormed, TellsNoOff}
+use Rattle.table.proofs.Uses.{small-bytes}
+use Rattle.problem.specs.declared.Problem.{Problem}
+use Rattle.problem.specs.Problems.{Sized, Holds}
+use Rattle.problem.specs.Refusing.{isTaken, rowRefusals, termRefusals, TermRefusal}
+
+-- ---- sizes
+
+pub size-yes : (k : ℕ) → 1 ≤ k → leb k 8 ≡ size k
+size-yes k l = rw (le-leb 1 k l)
+
+pub size-no : (k : ℕ) → k < 1 → false ≡ size k
+size-no k l = rw (lt-leb 1 k l)
+
+pub init-passed : (n m : ℕ) (a b : Bool) → a ≡ size n → b ≡ size m → a ≡ true → b ≡ true → 0 ≡ firstOf (refuse 6 (not (size n && size m)) ∷ [])
+init-passed n m a b e f p q = rw (← e, ← f, p, q)
+
+pub init-outputs : (n m : ℕ) (a b : Bool) → a ≡ size n → b ≡ size m → a ≡ true → b ≡ false → 6 ≡ firstOf (refuse 6 (not (size n && size m)) ∷ [])
+init-outputs n m a b e f p q = rw (← e, ← f, p, q)
+
+pub init-inputs : (n m : ℕ) (a : Bool) → a ≡ size n → a ≡ false → 6 ≡ firstOf (refuse 6 (not (size n && size m)) ∷ [])
+init-inputs n m a e p = rw (← e, p)
+
+-- ---- rows
+
+pub bad-shared : (m on dc : ℕ) → 0 < bitAnd on dc → true ≡ badRow m on dc
+bad-shared m on dc l = rw (lt-ltb 0 (bitAnd on dc) l)
+
+or-true : (a : Bool) → (a || true) ≡ true
+or-true true = refl
+or-true false = refl
+
+pub bad-on : (m on dc top w : ℕ) → top ≡ 2 ^ m → w ≡ on → top ≤ w → true ≡ badRow m on dc
+bad-on m on dc top w e f l = rw (← e, ← f, le-leb top w l) (sym (or-true (ltb 0 (bitAnd w dc))))
+
+pub bad-dc : (m on dc top w u : ℕ) → bitAnd on dc ≤ 0 → top ≡ 2 ^ m → w ≡ on → w < top → u ≡ dc → leb top u ≡ badRow m on dc
+bad-dc m on dc top w u n e f l g = rw (le-ltb 0 (bitAnd on dc) n, ← e, ← f, lt-leb top w l, g)
+
+pub taken-past : (n : ℕ) (given : List ℕ) (v top i : ℕ) → top ≡ 2 ^ n → i ≡ v → top ≤ i → true ≡ isTaken n given v
+unfolding isTaken
+taken-past n given v top i e f l = rw (le-leb (2 ^ n) v (omega (arith, e)))
+
+pub taken-row : (n : ℕ) (given : List ℕ) (v top i : ℕ) → top ≡ 2 ^ n → i ≡ v → i < top → ltb 0 (getD given i 0) ≡ isTaken n given v
+unfolding isTaken
+taken-row n given v top i e f l = rw (lt-leb (2 ^ n) v (omega (arith, e)), f)
+
+module _ (n m : ℕ) (given : List ℕ) (v on dc : ℕ) (t : Bool) (taken : t ≡ isTaken n given v) where
+  pub row-taken : t ≡ true → 7 ≡ firstOf (rowRefusals n m given v on dc)
+  row-taken e = rw (← taken, e)
+
+  module _ (e : t ≡ false) (b : Bool) (bad : b ≡ badRow m on dc) where
+    pub row-bad : b ≡ true → 8 ≡ firstOf (rowRefusals n m given v on dc)
+    row-bad f = rw (← taken, e, ← bad, f)
+
+    pub row-good : b ≡ false → 0 ≡ firstOf (rowRefusals n m given v on dc)
+    row-good f = rw (← taken, e, ← bad, f)
+
+-- in the problem that p holds; a vertex of 256 or more is none of it
+pub row-refusal : (p : Problem) (x : Context) (v on dc : ℕ) → Sized p → Holds p (x .problem) → operand x 0 ≡ v → operand x 1 ≡ on → operand x 2 ≡ dc
+    → firstOf (rowRefusals (p .settings .n) (p .settings .m) (p .rows .given) v on dc) ≡ firstOf (refusalsOf x model.Kind.R)
+unfolding refusalsOf isTaken
+row-refusal p x v on dc z h a b c = go (decLt v 256)
+  where
+    go : Dec (v < 256) → firstOf (rowRefusals (p .settings .n) (p .settings .m) (p .rows .given) v on dc) ≡ firstOf (refusalsOf x model.Kind.R)
+    go (yes l) = rw (a, b, c, ← h .settings .inputs, ← h .settings .outputs, h .rows .given v l)
+    go (no l) = rw (a, b, c, ← h .settings .inputs, le-leb (2 ^ p .settings .n) v (omega (arith, pow-mono (z .inputs))))
+
+-- ---- terms
+
+-- the bytes of the table that p holds, where its rows are well formed
+pub held-rows : (p : Problem) (q : model.Problem) → Sized p → Holds p q → ((v : ℕ) → v < 2 ^ q .settings .n → T (not (badVertex (tableOf q) v))) → TableBytes (tableOf q) (p .settings .n) (p .rows .on) (p .rows .dc)
+held-rows p q z h g = record {
+  inputs = sym (h .settings .inputs);
+  on-bytes = λ w l. h .rows .on-bytes w (small w l);
+  dc-bytes = λ w l. h .rows .dc-bytes w (small w l);
+  on-lt = λ w l. subst⁻¹ (λ (x : ℕ). x < 2 ^ q .settings .m) (h .rows .on-bytes w (small w l)) (bytes w l .0);
+  dc-lt = λ w l. subst⁻¹ (λ (x : ℕ). x < 2 ^ q .settings .m) (h .rows .dc-bytes w (small w l)) (bytes w l .1);
+}
+  where
+    small : (w : ℕ) → w < 2 ^ p .settings .n → w < 256
+    small w l = omega (arith, pow-mono (z .inputs))
+
+    inputs-same : 2 ^ p .settings .n ≡ 2 ^ q .settings .n
+    inputs-same = ap (λ (n : ℕ). 2 ^ n) (h .settings .inputs)
+
+    bytes : (w : ℕ) → w < 2 ^ p .settings .n → (getD (q .rows .on) w 0 < 2 ^ q .settings .m) × (getD (q .rows .dc) w 0 < 2 ^ q .settings .m)
+    bytes w l = small-bytes (tableOf q) w (g w (omega (arith, inputs-same)))
+
+pub held-bytes : (p : Problem) (q : model.Problem) → Sized p → Holds p q → Valid q → TableBytes (tableOf q) (p .settings .n) (p .rows .on) (p .rows .dc)
+held-bytes p q z h v = held-rows p q z h (λ w l. v .good w)
+
+module _ (may : List ℕ) (n m : ℕ) (t : Term) (f : Bool) (formed-is : TellsFormed n m t f) where
+  formed-here : (p : Table) → Allowed p n may → p .m ≡ m → f ≡ formed p t
+  formed-here p a o = formed-is p (a .inputs) o
+
+  pub term-malformed : f ≡ false → TermRefusal may n m t 9
+  term-malformed k p a o = rw (← formed-here p a o, k)
+
+  module _ (g : Bool) (no-off : TellsNoOff may n t g) (k : f ≡ true) where
+    no-off-here : (p : Table) → Allowed p n may → p .m ≡ m → g ≡ holdsNoOff p t
+    no-off-here p a o = no-off p a (formed-e p t (subst (λ (b : Bool). T b) (sym k ∙ formed-here p a o) tt) .outputs-lt)
+
+    pub term-off : g ≡ false → TermRefusal may n m t 10
+    term-off i p a o = rw (← formed-here p a o, k, ← no-off-here p a o, i)
+
+    pub term-good : g ≡ true → TermRefusal may n m t 0
+    term-good i p a o = rw (← formed-here p a o, k, ← no-off-here p a o, i)
+
+-- in the problem that p holds
+pub term-here : (p : Problem) (x : Context) (may : List ℕ) (t : Term) (r : ℕ) → Sized p → Holds p (x .problem) → Valid (x .problem) → MayOf (p .rows .on) (p .rows .dc) may
+    → TermRefusal may (p .settings .n) (p .settings .m) t r → r ≡ firstOf (termRefusals (tableOf (x .problem)) t)
+term-here p x may t r z h v of f = f (tableOf (x .problem)) (of (tableOf (x .problem)) (p .settings .n) (z .inputs) (held-bytes p (x .problem) z h v)) (sym (h .settings .outputs))

@@ -1,0 +1,25 @@
+-- `problem::refusals::term_refusal` meets its contract.
+use Rattle.table.proofs.Legality.{formed-cube}
+use Rattle.problem.proofs.Refusing.{term-malformed, term-off, term-good}
+use borrow.Author.Needs.{needs}
+use Rattle.problem.proofs.refusals.term_refusal.Statement.{statement}
+use Rattle.problem.proofs.refusals.term_refusal.Tie as tie
+
+formed-requires : tie.Need-formed-requires
+formed-requires c κs = search needs
+
+holds-no-off-requires : tie.Need-holds-no-off-requires
+holds-no-off-requires c κs = formed-cube _ _ _ _ (c .before .before .pre .0) (c .before .formed .ensures) (c .if1 .taken)
+
+returns : tie.Need-returns
+returns c = term-good _ _ _ _ _ (c .before .before .before .formed .ensures) _ (c .before .holds-no-off .ensures) (c .before .before .if1 .taken) (c .if2 .taken)
+
+returns-2 : tie.Need-returns-2
+returns-2 c = term-off _ _ _ _ _ (c .before .before .before .formed .ensures) _ (c .before .holds-no-off .ensures) (c .before .before .if1 .taken) (c .if2 .left)
+
+returns-3 : tie.Need-returns-3
+returns-3 c = term-malformed _ _ _ _ _ (c .before .formed .ensures) (c .if1 .left)
+
+pub term-refusal-spec : {M : Type 1} → statement M
+term-refusal-spec =
+    tie.close (tie.spec formed-requires holds-no-off-requires returns returns-2 returns-3)

@@ -1,0 +1,152 @@
+//! The commands of a job as a table, which the reference, the generator and the tally go by.
+//!
+//! To add a command:
+//!
+//! 1. here: an entry in `COMMANDS`, with a kind of operand of its own where none fits, and
+//!    `LAST_NUMBER` where it brings a number;
+//! 2. `reference/job.rs`: where it may stand (`allowed`), what refuses it and what it does
+//!    (`command`), from the paper's text;
+//! 3. `generate/sound.rs` (settings, rows, candidates) or `generate/queries.rs`: where a sound job
+//!    has it;
+//! 4. `generate/purpose.rs`: its borders, in every run; `selftest.rs`: the paper's cases of it.
+//!
+//! A stored job that has it needs `stored.rs` too. Every command at every place, damage, cuts and
+//! moved or doubled commands go by the table, and a run fails where a command was never accepted
+//! or never met one of the refusals that its entry names (`tally.rs`).
+
+use Operand::{Inputs, Number, Outputs, Size};
+
+/// The largest number of a refusal. Each from 0 on must come in every run.
+pub const LAST_NUMBER: u64 = 14;
+
+/// What an operand is: how many bytes it has, and what damage puts there (`generate/damage.rs`).
+#[derive(Clone, Copy)]
+pub enum Operand {
+    /// A count of inputs or outputs, 1 to 8.
+    Size,
+    /// A byte with a bit for each input: vertex, care, value.
+    Inputs,
+    /// A byte with a bit for each output: on, dc, outputs.
+    Outputs,
+    /// A number of so many bytes that takes any value.
+    Number(usize),
+}
+
+impl Operand {
+    pub fn bytes(self) -> usize {
+        match self {
+            Operand::Number(bytes) => bytes,
+            _ => 1,
+        }
+    }
+}
+
+/// The part of a job that a command belongs to: damage spoils the operands of one part at a time.
+#[derive(Clone, Copy, PartialEq, Eq)]
+pub enum Part {
+    Rows,
+    Terms,
+    Other,
+}
+
+pub struct Command {
+    pub byte: u8,
+    /// Operand bytes that are good over one input and one output, the term held by the row.
+    pub good: &'static [u8],
+    pub operands: &'static [Operand],
+    pub part: Part,
+    /// The numbers that it can meet behind 4 and 5: by operands, problem and answer.
+    pub refusals: &'static [u64],
+}
+
+/// The seven commands of paper 01.
+pub const COMMANDS: &[Command] = &[
+    Command {
+        byte: b'I',
+        good: &[1, 1],
+        operands: &[Size, Size],
+        part: Part::Other,
+        refusals: &[6],
+    },
+    Command {
+        byte: b'R',
+        good: &[0, 1, 0],
+        operands: &[Inputs, Outputs, Outputs],
+        part: Part::Rows,
+        refusals: &[7, 8],
+    },
+    Command {
+        byte: b'T',
+        good: &[1, 0, 1],
+        operands: &[Inputs, Inputs, Outputs],
+        part: Part::Terms,
+        refusals: &[9, 10, 11],
+    },
+    Command {
+        byte: b'P',
+        good: &[],
+        operands: &[],
+        part: Part::Other,
+        refusals: &[11, 14],
+    },
+    Command {
+        byte: b'L',
+        good: &[0, 0, 0, 0, 0, 0, 0, 0, 1],
+        operands: &[Number(8), Number(1)],
+        part: Part::Other,
+        refusals: &[12, 14],
+    },
+    Command {
+        byte: b'C',
+        good: &[],
+        operands: &[],
+        part: Part::Other,
+        refusals: &[12, 14],
+    },
+    Command {
+        byte: b'E',
+        good: &[],
+        operands: &[],
+        part: Part::Other,
+        refusals: &[13, 14],
+    },
+];
+
+/// The command that begins with this byte, None when the byte is no command.
+pub fn find(byte: u8) -> Option<&'static Command> {
+    COMMANDS.iter().find(|command| command.byte == byte)
+}
+
+impl Command {
+    /// The operand bytes.
+    pub fn width(&self) -> usize {
+        self.operands.iter().map(|operand| operand.bytes()).sum()
+    }
+
+    /// The command with its good operands.
+    pub fn sample(&self) -> Vec<u8> {
+        [&[self.byte], self.good].concat()
+    }
+
+    /// Every number that it can be refused with.
+    pub fn numbers(&self) -> Vec<u64> {
+        let early: &[u64] = if self.operands.is_empty() {
+            &[4]
+        } else {
+            &[4, 5]
+        };
+        [early, self.refusals].concat()
+    }
+}
+
+/// The job cut into its commands; None when a byte is no command or operands are missing.
+pub fn cut(job: &[u8]) -> Option<Vec<&[u8]>> {
+    let mut list = Vec::new();
+    let mut rest = job;
+    while let Some(&byte) = rest.first() {
+        let width = 1 + find(byte)?.width();
+        list.push(rest.get(..width)?);
+        rest = &rest[width..];
+    }
+    Some(list)
+}

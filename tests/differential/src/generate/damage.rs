@@ -1,0 +1,137 @@
+//! Damaged jobs: commands moved, doubled, dropped or spoilt, bytes changed, put in or cut off.
+
+use super::bytes::{full, likely_byte, likely_bytes};
+use super::draft::{case, plain_case, Draft};
+use super::sound::sound;
+use super::tables::sizes;
+use super::Case;
+use crate::format::{find, Command, Operand, Part, COMMANDS};
+use crate::rng::Rng;
+
+/// Bytes for an operand: mostly in range, so that the later refusals are reached too.
+fn wild_operand(rng: &mut Rng, operand: Operand, (n, m): (usize, usize)) -> Vec<u8> {
+    let mut masked = |width: usize| {
+        vec![if rng.chance(1, 6) {
+            likely_byte(rng)
+        } else {
+            rng.byte() & full(width)
+        }]
+    };
+    match operand {
+        Operand::Size => vec![rng.pick(&[0, 1, 2, 3, 8, 9, 255])],
+        Operand::Inputs => masked(n),
+        Operand::Outputs => masked(m),
+        Operand::Number(bytes) => likely_bytes(rng, bytes),
+    }
+}
+
+/// The command with nearly any operands.
+fn with_wild_operands(rng: &mut Rng, draft: &Draft, command: &Command) -> Vec<u8> {
+    let mut bytes = vec![command.byte];
+    for &operand in command.operands {
+        bytes.extend(wild_operand(rng, operand, draft.sizes()));
+    }
+    bytes
+}
+
+fn wild_command(rng: &mut Rng, draft: &Draft) -> Vec<u8> {
+    let command = &COMMANDS[rng.below(COMMANDS.len())];
+    with_wild_operands(rng, draft, command)
+}
+
+/// Replaces the operands of one command of this part, if there is one.
+fn spoil(rng: &mut Rng, draft: &mut Draft, part: Part) {
+    let places = draft.places(part);
+    if !places.is_empty() {
+        let place = rng.pick(&places);
+        let command = find(draft.commands[place][0]).expect("it has a part");
+        draft.commands[place] = with_wild_operands(rng, draft, command);
+    }
+}
+
+/// One change in the list of commands.
+fn damage_commands(rng: &mut Rng, draft: &mut Draft) {
+    let count = draft.commands.len();
+    if count == 0 {
+        return;
+    }
+    let place = rng.below(count);
+    match rng.below(9) {
+        0 => {
+            draft.commands.remove(place);
+        }
+        1 => {
+            let command = draft.commands.remove(place);
+            draft.commands.insert(rng.below(count), command);
+        }
+        2 => draft.commands.swap(place, rng.below(count)),
+        3 => {
+            let command = draft.commands[place].clone();
+            draft.commands.insert(rng.below(count + 1), command);
+        }
+        4 => {
+            let command = wild_command(rng, draft);
+            draft.commands.insert(rng.below(count + 1), command);
+        }
+        5 => spoil(rng, draft, Part::Rows),
+        6 => spoil(rng, draft, Part::Terms),
+        7 => spoil(rng, draft, Part::Other),
+        _ => rng.shuffle(&mut draft.commands),
+    }
+}
+
+/// One change in the bytes.
+fn damage_bytes(rng: &mut Rng, job: &mut Vec<u8>) {
+    let place = rng.below(job.len() + 1);
+    match rng.below(6) {
+        0 => job.insert(place, rng.byte()),
+        1 => job.insert(place, likely_byte(rng)),
+        2 if place < job.len() => {
+            job.remove(place);
+        }
+        3 if place < job.len() => job[place] = likely_byte(rng),
+        4 if place < job.len() => job[place] ^= 1 << rng.below(8),
+        _ => job.push(likely_byte(rng)),
+    }
+}
+
+pub fn damaged(rng: &mut Rng) -> Case {
+    let mut draft = sound(rng);
+    for _ in 0..rng.below(3) {
+        damage_commands(rng, &mut draft);
+    }
+    let mut job = draft.job();
+    for _ in 0..rng.below(3) {
+        damage_bytes(rng, &mut job);
+    }
+    let behind = likely_bytes(rng, 12);
+    let length = if rng.chance(1, 4) {
+        rng.below(job.len() + 1)
+    } else {
+        job.len()
+    };
+    let cut = job.split_off(length);
+    case(rng, job, [cut, behind].concat())
+}
+
+/// Commands in nearly any order with nearly any operands.
+pub fn wild(rng: &mut Rng) -> Case {
+    let (n, m) = sizes(rng);
+    let mut draft = Draft {
+        commands: vec![vec![b'I', n as u8, m as u8]],
+    };
+    for _ in 0..rng.below(10) {
+        let command = wild_command(rng, &draft);
+        draft.commands.push(command);
+    }
+    if rng.chance(1, 2) {
+        draft.commands.push(vec![b'E']);
+    }
+    plain_case(rng, &draft)
+}
+
+pub fn noise(rng: &mut Rng) -> Case {
+    let length = rng.below(30);
+    let job = likely_bytes(rng, length);
+    case(rng, job, Vec::new())
+}

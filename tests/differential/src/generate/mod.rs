@@ -1,0 +1,43 @@
+//! Makes jobs: sound ones, damaged ones, sweeps over one job, and those made on purpose for a
+//! border or a refusal. What a command looks like comes from the table in `format.rs`, whose head
+//! says where a new one is added.
+
+mod bytes;
+mod damage;
+mod draft;
+mod purpose;
+mod queries;
+mod sound;
+mod sweeps;
+mod tables;
+
+pub use draft::{draft, page, row, term, Draft};
+pub use purpose::on_purpose;
+pub use tables::{random_table, terms_for};
+
+use crate::rng::Rng;
+use draft::need;
+
+/// A job, the bytes that lie behind it in memory, and the length of the answer buffer.
+#[derive(Clone)]
+pub struct Case {
+    pub job: Vec<u8>,
+    pub behind: Vec<u8>,
+    pub room: usize,
+}
+
+/// The next cases of a run, drawn.
+pub fn next(rng: &mut Rng) -> Vec<Case> {
+    match rng.below(400) {
+        0..=219 => vec![sound::case(rng)],
+        220..=339 => vec![damage::damaged(rng)],
+        340..=387 => vec![damage::wild(rng)],
+        388..=397 => vec![damage::noise(rng)],
+        398 => {
+            let job = sound::short(rng).job();
+            let room = need(&job).unwrap_or(0) + rng.below(3);
+            sweeps::every_cut(&job, room)
+        }
+        _ => sweeps::every_room(&sound::short(rng).job()),
+    }
+}

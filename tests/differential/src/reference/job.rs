@@ -1,0 +1,225 @@
+//! The job stream: each command with its refusals in their order, its effect and its answer.
+
+use super::covers::{cheapest, irredundant_covers, Covers};
+use super::table::{fits, Table, Term};
+use crate::format;
+
+pub const LONGEST: usize = 32_768;
+pub const MOST_CANDIDATES: usize = 64;
+
+/// What a call gives back: the three numbers and the whole answer buffer.
+#[derive(Clone, PartialEq, Eq, Debug)]
+pub struct Outcome {
+    pub number: u64,
+    pub offset: usize,
+    pub written: usize,
+    pub buffer: Vec<u8>,
+}
+
+impl Outcome {
+    pub fn packed(&self) -> u64 {
+        (self.number << 32) + ((self.offset as u64) << 16) + self.written as u64
+    }
+}
+
+enum Stop {
+    Refused(u64),
+    TooMany,
+}
+
+/// The problem so far and what the order of commands depends on.
+struct Problem {
+    table: Option<Table>,
+    has_row: [bool; 256],
+    candidates: Vec<Term>,
+    terms_came: bool,
+    primes_came: bool,
+    queries_came: bool,
+    covers: Option<Covers>,
+}
+
+/// Runs a job over a buffer; None when it is more work than the reference takes on.
+pub fn run(job: &[u8], buffer: &[u8]) -> Option<Outcome> {
+    let mut out = Outcome {
+        number: 0,
+        offset: 0,
+        written: 0,
+        buffer: buffer.to_vec(),
+    };
+    if job.len() > LONGEST || buffer.len() > LONGEST {
+        out.number = 1;
+        return Some(out);
+    }
+    let mut problem = Problem::new();
+    loop {
+        match problem.command(job, out.offset, buffer.len() - out.written) {
+            Err(Stop::TooMany) => return None,
+            Err(Stop::Refused(number)) => {
+                out.number = number;
+                return Some(out);
+            }
+            Ok((width, answer)) => {
+                out.buffer[out.written..out.written + answer.len()].copy_from_slice(&answer);
+                out.written += answer.len();
+                let ended = job[out.offset] == b'E';
+                out.offset += width;
+                if ended {
+                    return Some(out);
+                }
+            }
+        }
+    }
+}
+
+fn refuse_if(wrong: bool, number: u64) -> Result<(), Stop> {
+    if wrong {
+        Err(Stop::Refused(number))
+    } else {
+        Ok(())
+    }
+}
+
+impl Problem {
+    fn new() -> Problem {
+        Problem {
+            table: None,
+            has_row: [false; 256],
+            candidates: Vec::new(),
+            terms_came: false,
+            primes_came: false,
+            queries_came: false,
+            covers: None,
+        }
+    }
+
+    /// One command with its refusals in the order of their numbers: its width and answer.
+    fn command(&mut self, job: &[u8], at: usize, free: usize) -> Result<(usize, Vec<u8>), Stop> {
+        let Some(&byte) = job.get(at) else {
+            return Err(Stop::Refused(2));
+        };
+        let Some(width) = format::find(byte).map(|command| 1 + command.width()) else {
+            return Err(Stop::Refused(3));
+        };
+        refuse_if(!self.allowed(byte), 4)?;
+        let Some(ops) = job.get(at + 1..at + width) else {
+            return Err(Stop::Refused(5));
+        };
+        let answer = match byte {
+            b'I' => self.sizes(ops)?,
+            b'R' => self.row(ops)?,
+            b'T' => self.term(ops)?,
+            b'P' => self.primes()?,
+            b'L' => self.page(ops)?,
+            b'C' => self.cheapest()?,
+            b'E' => {
+                refuse_if(at + 1 != job.len(), 13)?;
+                vec![0x65]
+            }
+            _ => unreachable!("format.rs has a command that has no meaning here"),
+        };
+        refuse_if(answer.len() > free, 14)?;
+        Ok((width, answer))
+    }
+
+    fn allowed(&self, command: u8) -> bool {
+        let candidates_open = !self.primes_came && !self.queries_came;
+        match command {
+            b'I' => self.table.is_none(),
+            b'R' | b'P' => self.table.is_some() && candidates_open && !self.terms_came,
+            b'T' => self.table.is_some() && candidates_open,
+            b'L' | b'C' | b'E' => self.table.is_some(),
+            _ => unreachable!("format.rs has a command that has no place here"),
+        }
+    }
+
+    fn table(&mut self) -> &mut Table {
+        self.table.as_mut().expect("I came first")
+    }
+
+    fn sizes(&mut self, ops: &[u8]) -> Result<Vec<u8>, Stop> {
+        let (n, m) = (usize::from(ops[0]), usize::from(ops[1]));
+        refuse_if(!(1..=8).contains(&n) || !(1..=8).contains(&m), 6)?;
+        self.table = Some(Table::new(n, m));
+        Ok(Vec::new())
+    }
+
+    fn row(&mut self, ops: &[u8]) -> Result<Vec<u8>, Stop> {
+        let (v, on, dc) = (usize::from(ops[0]), ops[1], ops[2]);
+        let has_row = self.has_row[v];
+        let table = self.table();
+        refuse_if(v >= table.vertices() || has_row, 7)?;
+        refuse_if(on & dc != 0 || !fits(on, table.m) || !fits(dc, table.m), 8)?;
+        table.on[v] = on;
+        table.dc[v] = dc;
+        self.has_row[v] = true;
+        Ok(Vec::new())
+    }
+
+    fn term(&mut self, ops: &[u8]) -> Result<Vec<u8>, Stop> {
+        let t = Term {
+            care: ops[0],
+            value: ops[1],
+            outputs: ops[2],
+        };
+        let table = self.table();
+        refuse_if(!table.well_formed(t), 9)?;
+        refuse_if(table.holds_off_cell(t), 10)?;
+        refuse_if(self.candidates.len() == MOST_CANDIDATES, 11)?;
+        self.candidates.push(t);
+        self.terms_came = true;
+        Ok(Vec::new())
+    }
+
+    fn primes(&mut self) -> Result<Vec<u8>, Stop> {
+        let primes = self.table().primes();
+        refuse_if(primes.len() > MOST_CANDIDATES, 11)?;
+        let mut answer = vec![0x70, primes.len() as u8];
+        for t in &primes {
+            answer.extend([t.care, t.value, t.outputs]);
+        }
+        self.candidates = primes;
+        self.primes_came = true;
+        Ok(answer)
+    }
+
+    /// Table and candidates stand still from the first L or C on, so the covers are found once.
+    fn covers(&mut self) -> Result<&[u64], Stop> {
+        self.queries_came = true;
+        let table = self.table.as_ref().expect("I came first");
+        let candidates = &self.candidates;
+        match self
+            .covers
+            .get_or_insert_with(|| irredundant_covers(table, candidates))
+        {
+            Covers::None => Err(Stop::Refused(12)),
+            Covers::TooMany => Err(Stop::TooMany),
+            Covers::All(covers) => Ok(covers),
+        }
+    }
+
+    fn page(&mut self, ops: &[u8]) -> Result<Vec<u8>, Stop> {
+        let start = u64::from_le_bytes(ops[..8].try_into().expect("eight bytes"));
+        let count = usize::from(ops[8]);
+        let standing: Vec<u64> = self
+            .covers()?
+            .iter()
+            .copied()
+            .filter(|&set| set >= start)
+            .collect();
+        let k = standing.len().min(count);
+        let mut answer = vec![0x6c, k as u8, u8::from(standing.len() > k)];
+        for set in &standing[..k] {
+            answer.extend(set.to_le_bytes());
+        }
+        Ok(answer)
+    }
+
+    fn cheapest(&mut self) -> Result<Vec<u8>, Stop> {
+        let covers = self.covers()?.to_vec();
+        let (cost, set) = cheapest(&self.candidates, &covers);
+        let mut answer = vec![0x63];
+        answer.extend((cost as u16).to_le_bytes());
+        answer.extend(set.to_le_bytes());
+        Ok(answer)
+    }
+}

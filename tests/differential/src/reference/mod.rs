@@ -1,0 +1,12 @@
+//! The reference: the paper's definitions tried by brute force, one after the other.
+//! It shares no code with the engine and is meant to be plain rather than quick.
+
+mod covers;
+mod job;
+mod table;
+
+pub use covers::{
+    cheapest, cost, covers_by_products, covers_by_subsets, irredundant_covers, sums, Covers,
+};
+pub use job::{run, Outcome, LONGEST, MOST_CANDIDATES};
+pub use table::{Table, Term};

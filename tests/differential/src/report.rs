@@ -1,0 +1,87 @@
+//! Compares two outcomes, and prints what differs, also of a shrunk job.
+
+use crate::engine;
+use crate::generate::Case;
+use crate::reference::{self, Outcome};
+
+pub fn matches(expected: &Outcome, seen: &engine::Seen) -> bool {
+    expected.packed() == seen.packed
+        && expected.buffer == seen.buffer
+        && seen.guards_kept
+        && seen.job_kept
+}
+
+pub fn hex(bytes: &[u8]) -> String {
+    bytes.iter().map(|byte| format!("{byte:02x}")).collect()
+}
+
+/// True when engine and reference differ on this case.
+fn differs(case: &Case, before: &[u8]) -> bool {
+    let expected = reference::run(&case.job, before);
+    expected.is_some_and(|expected| !matches(&expected, &engine::call(case, before)))
+}
+
+/// Takes bytes out of the job, large pieces first, as long as the two still differ.
+fn shrink(case: &Case, before: &[u8]) -> Case {
+    let mut small = case.clone();
+    for piece in [4_096, 512, 64, 10, 4, 1] {
+        let mut at = 0;
+        while at + piece <= small.job.len() {
+            let mut tried = small.clone();
+            tried.job.drain(at..at + piece);
+            if differs(&tried, before) {
+                small = tried;
+            } else {
+                at += piece;
+            }
+        }
+    }
+    small
+}
+
+pub fn report(case: &Case, before: &[u8]) {
+    describe("MISMATCH", case, before);
+    if differs(case, before) {
+        describe("the same, shrunk", &shrink(case, before), before);
+    } else {
+        println!("the first call and the second one differ");
+    }
+}
+
+fn describe(title: &str, case: &Case, before: &[u8]) {
+    let expected = reference::run(&case.job, before).expect("it was run before");
+    let seen = engine::call(case, before);
+    println!(
+        "{title}: job of {} bytes, answer buffer of {}",
+        case.job.len(),
+        case.room
+    );
+    println!("  job       {}", hex(&case.job));
+    println!("  behind it {}", hex(&case.behind));
+    println!(
+        "  reference {} {} {}",
+        expected.number, expected.offset, expected.written
+    );
+    println!("            {}", hex(&expected.buffer[..expected.written]));
+    let (number, offset, written) = (
+        seen.packed >> 32,
+        seen.packed >> 16 & 0xffff,
+        seen.packed & 0xffff,
+    );
+    println!("  engine    {number} {offset} {written}");
+    println!(
+        "            {}",
+        hex(&seen.buffer[..seen.buffer.len().min(written as usize)])
+    );
+    let first = (0..before.len()).find(|&i| expected.buffer[i] != seen.buffer[i]);
+    first.into_iter().for_each(|i| {
+        println!(
+            "  first differing byte: {i}, reference {:02x}, engine {:02x}",
+            expected.buffer[i], seen.buffer[i]
+        );
+    });
+    println!(
+        "  guards kept: {}, job kept: {}",
+        seen.guards_kept, seen.job_kept
+    );
+}
