@@ -1,18 +1,12 @@
--- The steps of loops: from the first n to the first n + 1, and from a set to the set without one of its members.
+-- The steps of a loop over the members of a set, which goes on without one of them. (The step from the first n to the first n + 1 is the
+-- kit's `below-more`.)
 use mathlib.Core.Path.{_≡_, sym, _∙_, subst}
 use mathlib.Core.Logic.{⊎-elim}
-use Prim.Native.Nat.{ℕ, _+_, _^_, _<_}
+use Prim.Native.Nat.{ℕ, _^_}
 use native.Mathlib.Omega.{arith}
-use borrow.Author.Count.{below-more}
 use Rattle.bits.specs.Bits.{digit, Minus}
 use Rattle.bits.proofs.Digits.{eq?, digit-lt}
 use Rattle.bits.proofs.Members.{not-zero, bit-here, bit-elsewhere}
-
--- ---- the first n + 1
-
--- what holds of all before n, and of n, holds of all before n + 1
-pub all-next : (P : ℕ → Type 0) (n : ℕ) → ((k : ℕ) → k < n → P k) → P n → (k : ℕ) → k < n + 1 → P k
-all-next = below-more
 
 -- ---- x without its member i: rest
 

@@ -9,8 +9,8 @@ use native.Mathlib.Decide.{decLt}
 use native.Mathlib.Omega.{arith}
 use lib.Bits.{bitAnd, bitOr}
 use lib.Pow.{split}
-use Rattle.lister.specs.declared.cursor.Found.{Found}
-use Rattle.lister.specs.declared.cursor.Found.the-variants.{At, Nothing}
+use Rattle.lister.specs.declared.cursor.FoundSet.{FoundSet}
+use Rattle.lister.specs.declared.cursor.FoundSet.the-variants.{At, Nothing}
 use Rattle.lister_narrowing.specs.declared.Tight.{Tight}
 use Rattle.bits.specs.Bits.{digit, Minus}
 use Rattle.rows.specs.Covers.{IrredundantCover, Between, Node}
@@ -49,7 +49,7 @@ module _ (i s : ℕ) (n : Node i s) (p : 0 < i) where
 
 module _ (rows : List ℕ) (lo mid hi : ℕ) where
   -- what is found in the first range
-  pub in-first : (r : Found) (x : ℕ) → r ≡ At x → mid ≤ hi → LeastIn rows lo mid r → LeastIn rows lo hi (At x)
+  pub in-first : (r : FoundSet) (x : ℕ) → r ≡ At x → mid ≤ hi → LeastIn rows lo mid r → LeastIn rows lo hi (At x)
   unfolding LeastIn Among
   in-first r x e p l₀ =
       let l : LeastIn rows lo mid (At x) = subst (LeastIn rows lo mid) e l₀ in (
@@ -58,7 +58,7 @@ module _ (rows : List ℕ) (lo mid hi : ℕ) where
       )
 
   -- what is found in the second, where the first has none
-  pub in-second : (r : Found) → lo ≤ mid → LeastIn rows lo mid Nothing → LeastIn rows mid hi r → LeastIn rows lo hi r
+  pub in-second : (r : FoundSet) → lo ≤ mid → LeastIn rows lo mid Nothing → LeastIn rows mid hi r → LeastIn rows lo hi r
   unfolding LeastIn Among
   in-second (At x) p l u = (
     (omega (arith, u .0 .0), u .0 .1, u .0 .2),
@@ -68,7 +68,7 @@ module _ (rows : List ℕ) (lo mid hi : ℕ) where
       λ y a. elim (decLt y mid) [ yes lt ↦ l y (a .0, lt, a .2) | no ge ↦ u y (omega arith, a .1, a .2) ]
 
   -- what is found in the first, where the second has none
-  pub only-first : (r : Found) → mid ≤ hi → LeastIn rows mid hi Nothing → LeastIn rows lo mid r → LeastIn rows lo hi r
+  pub only-first : (r : FoundSet) → mid ≤ hi → LeastIn rows mid hi Nothing → LeastIn rows lo mid r → LeastIn rows lo hi r
   unfolding LeastIn Among
   only-first (At x) p u l = in-first (At x) x refl p l
   only-first Nothing p u l =
@@ -123,7 +123,7 @@ module _ (rows : List ℕ) (i s : ℕ) where
       high-range y a = h y (up y a)
 
       -- t has the candidate: the low half has nothing
-      pub with-bit : (r : Found) → (bitAnd (t .s) m ≡ 0 → ⊥) → LeastIn rows (s + m) (s + m + 2 ^ (i - 1)) r → LeastIn rows s (s + 2 ^ i) r
+      pub with-bit : (r : FoundSet) → (bitAnd (t .s) m ≡ 0 → ⊥) → LeastIn rows (s + m) (s + m + 2 ^ (i - 1)) r → LeastIn rows s (s + 2 ^ i) r
       unfolding LeastIn Among RangeKept Between
       with-bit r d u =
           in-second rows s (s + m) (s + 2 ^ i) r (omega arith)
@@ -133,7 +133,7 @@ module _ (rows : List ℕ) (i s : ℕ) where
           (subst (λ (x : ℕ). LeastIn rows (s + m) x r) whole u)
 
       -- t lacks it: the high half has nothing
-      pub without-bit : (r : Found) → bitAnd (t .s) m ≡ 0 → bitAnd (t .free) m ≡ 0 → LeastIn rows s (s + 2 ^ (i - 1)) r → LeastIn rows s (s + 2 ^ i) r
+      pub without-bit : (r : FoundSet) → bitAnd (t .s) m ≡ 0 → bitAnd (t .free) m ≡ 0 → LeastIn rows s (s + 2 ^ (i - 1)) r → LeastIn rows s (s + 2 ^ i) r
       unfolding LeastIn Among RangeKept Between
       without-bit r z w l =
           only-first rows s (s + 2 ^ (i - 1)) (s + 2 ^ i) r (omega (arith, halves i p))
@@ -185,10 +185,10 @@ module _ (rows : List ℕ) (i s : ℕ) where
             ) in
             (k .0, k .1 .1)
 
-      pub from-low : (r : Found) (x : ℕ) → r ≡ At x → LeastIn rows s (s + 2 ^ (i - 1)) r → LeastIn rows s (s + 2 ^ i) (At x)
+      pub from-low : (r : FoundSet) (x : ℕ) → r ≡ At x → LeastIn rows s (s + 2 ^ (i - 1)) r → LeastIn rows s (s + 2 ^ i) (At x)
       from-low r x f l = in-first rows s (s + 2 ^ (i - 1)) (s + 2 ^ i) r x f (omega (arith, halves i p)) l
 
-      pub from-both : (l r : Found) → l ≡ Nothing → LeastIn rows s (s + 2 ^ (i - 1)) l → LeastIn rows (s + m) (s + m + 2 ^ (i - 1)) r → LeastIn rows s (s + 2 ^ i) r
+      pub from-both : (l r : FoundSet) → l ≡ Nothing → LeastIn rows s (s + 2 ^ (i - 1)) l → LeastIn rows (s + m) (s + m + 2 ^ (i - 1)) r → LeastIn rows s (s + 2 ^ i) r
       from-both l r z f g =
           in-second rows s (s + m) (s + 2 ^ i) r (omega arith)
           (subst (λ (x : ℕ). LeastIn rows s (s + x) Nothing) (sym e) (subst (LeastIn rows s (s + 2 ^ (i - 1))) z f))

@@ -23,8 +23,8 @@ fn own_levels(row: u64, own: u64, b: u64) -> u64
     set::minus(levels, set::highest(rest) - 1)
 }
 
-// The levels of fresh at which each member of at above has a row of its own. alone[b] are the levels at which b has one. The
-// contract says only that none is missing.
+// The levels of fresh at which each member of at above has a row of its own. alone[b] are the levels at which b has one.
+// The contract says only that none is missing.
 fn kept_levels(alone: [u64; 64], fresh: u64, at: u64) -> u64
     ensures { λ r. ⌜ KeptLevels alone fresh at r ⌝ }
 {
@@ -39,8 +39,8 @@ fn kept_levels(alone: [u64; 64], fresh: u64, at: u64) -> u64
     good
 }
 
-// The levels above at that can hold an irredundant cover. A level that is a member of at says nothing. The
-// contract says only that the others hold none.
+// The levels above at that can hold an irredundant cover. A level that is a member of at says nothing.
+// The contract says only that the others hold none.
 pub fn possible_levels(rows: &[u64], at: u64) -> u64
     ensures { λ r. ⌜ PossibleLevels (now (rows .entry)) at r ⌝ }
 {

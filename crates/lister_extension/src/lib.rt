@@ -1,8 +1,8 @@
 // The exact test of the lister: whether a set can still grow to an irredundant cover.
 //
-// `narrow_exactly` narrows as crate `lister_narrowing` does and then tests. Each member of an irredundant cover has a row of its own, so the test gives
-// each member a private row to keep: none of that row's free candidates may then be taken. Only `false` says something, so what is asked first,
-// what is asked together and where to stop asking are free to choose: the functions that only choose have no contract.
+// `narrow_exactly` narrows as crate `lister_narrowing` does and then tests. Each member of an irredundant cover has a row of its own, so the
+// test gives each member a private row to keep: none of that row's free candidates may then be taken. Only `false` says something, so what is
+// asked first, what is asked together and where to stop asking are free to choose: the functions that only choose have no contract.
 ghost use mathlib.Core.Path.{_≡_};
 ghost use mathlib.Core.Bool.{true, false};
 ghost use Prim.Native.Nat.{_<_};
@@ -15,20 +15,20 @@ use rows::covering;
 
 // For each member of s, the free candidates of its private row with fewest of them, and how many private rows it has.
 struct Survey {
-    pub lightest: [u64; 64],
-    pub count: [u64; 64],
+    lightest: [u64; 64],
+    count: [u64; 64],
 }
 
 // Members without a private row that nothing free can meet, and the free candidates of the rows that they would keep.
 struct Claim {
-    pub pending: u64,
-    pub taken: u64,
+    pending: u64,
+    taken: u64,
 }
 
 // Members that hang together, and the free candidates of their rows.
 struct Group {
-    pub members: u64,
-    pub reach: u64,
+    members: u64,
+    reach: u64,
 }
 
 // One more; 65535 stands for more.
@@ -208,8 +208,7 @@ fn tries(rows: &[u64], s: u64, free: u64, b: u64, q: u64) -> bool
     false
 }
 
-// Narrows s and free as `lister_narrowing::narrow` does, and tests exactly what is left. The contract says only that no irredundant cover is
-// lost.
+// Narrows s and free as `lister_narrowing::narrow` does, and tests exactly what is left. The contract says only that no cover is lost.
 pub fn narrow_exactly(rows: &[u64], s: u64, free: u64) -> Tight
     ensures { λ r. ⌜ Tightened (now (rows .entry)) s free r ⌝ }
 {

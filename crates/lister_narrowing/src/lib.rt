@@ -1,8 +1,7 @@
 // The quick test of the lister, over rows as crate `rows` has them: what a set can still grow to.
 //
 // `narrow` excludes and takes candidates, pass by pass over the rows, until a pass changes nothing or finds that no irredundant cover is
-// left. Every function here may be as clever as it likes: its contract only says that no irredundant cover is lost. How much is excluded is
-// measured by the benchmark.
+// left. The contracts only say that no irredundant cover is lost; how much is excluded is measured by the benchmark.
 ghost use mathlib.Core.Path.{_≡_};
 ghost use mathlib.Core.Bool.{true};
 ghost use Rattle.lister_narrowing.specs.Narrowing.{Only, United, Scanned, Infeasible, Tightened};
@@ -19,11 +18,11 @@ pub struct Tight {
 // owners are the members of s that have a private row, unmet has all members of the rows that s does not meet, forced the free candidates
 // that are the only ones to meet some row, and taken what stands in all private rows of some member of s.
 struct Scan {
-    pub dead: bool,
-    pub owners: u64,
-    pub unmet: u64,
-    pub forced: u64,
-    pub taken: u64,
+    dead: bool,
+    owners: u64,
+    unmet: u64,
+    forced: u64,
+    taken: u64,
 }
 
 // x if it has exactly one member, else 0.

@@ -78,25 +78,5 @@ returns-2 : tie.Need-returns-2 Inv-loop μ-loop
 returns-2 c = passed-all _ _ _ _ _ _ _ _ (c .before .before .loop .inv .1) (c .before .loop-test .left) (c .before .before .loop .inv .0) _ (c .united .ensures)
 
 pub gather-spec : {M : Type 1} → statement M
-gather-spec =
-    tie.close
-    (tie.spec
-    Inv-loop
-    μ-loop
-    loop-holds
-    mul-row
-    shared-slice-read-row
-    dead-scan-requires
-    returns
-    only-requires
-    is-single-requires
-    index-requires
-    mul-common
-    array-read-common
-    mul-common-2
-    array-write-common
-    add-i
-    loop-less
-    loop-again
-    united-requires
-    returns-2)
+gather-spec = tie.close (tie.spec Inv-loop μ-loop loop-holds mul-row shared-slice-read-row dead-scan-requires returns only-requires is-single-requires
+    index-requires mul-common array-read-common mul-common-2 array-write-common add-i loop-less loop-again united-requires returns-2)

@@ -23,5 +23,4 @@ returns c =
     tightened-once _ _ _ _ pass _ _ _ left (c .minus2 .ensures) (c .before .before .infeasible .ensures)
 
 pub tighten-spec : {M : Type 1} → statement M
-tighten-spec =
-    tie.close (tie.spec gather-requires minus-requires infeasible-requires minus-requires-2 returns)
+tighten-spec = tie.close (tie.spec gather-requires minus-requires infeasible-requires minus-requires-2 returns)
