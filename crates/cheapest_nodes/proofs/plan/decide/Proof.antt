@@ -1,4 +1,5 @@
 -- `cheapest_nodes::plan::decide` meets its contract.
+use Rattle.bits.proofs.Decide.{decides-true}
 use Rattle.cheapest_bounds.proofs.Costing.{cost-fits, small-entries}
 use Rattle.cheapest_nodes.proofs.Planning.{cut-bound, sufficient-thinned, done-next, lost-next, split-next, branch-next}
 use native.Mathlib.Omega.{arith}
@@ -54,7 +55,7 @@ returns-2 c =
     let c9 = c8 .before in
     let start = c9 .before .before .before .before .before in
     split-next _ _ _ _ _ _ _ (sufficient-thinned _ _ _ _ (start .pre .1 .1) _ _ _ _ (start .pre .1 .0) (c9 .affordable .ensures) (c8 .thin .ensures)) _ _
-    (c3 .component .ensures) (c .before .before .minus .ensures) (c .before .divides .ensures (c .if2 .taken))
+    (c3 .component .ensures) (c .before .before .minus .ensures) (decides-true _ _ (c .before .divides .ensures) (c .if2 .taken))
 
 returns-3 : tie.Need-returns-3
 returns-3 c =
