@@ -55,7 +55,7 @@ pub unit-one : (costs : List ℕ) → CommonUnit costs 1
 unfolding Multiple
 unit-one costs = record { positive = omega arith; whole = λ t. (costOf costs t, omega (arith, mul-one (costOf costs t))) }
 
--- ---- the goal
+-- ---- the limit
 
 pub limit-zero : (cost u : ℕ) → cost ≡ 0 → LimitBelow cost u 0
 limit-zero cost u z = record { near = omega arith; kept = λ c m lt. absurd (omega arith) }
