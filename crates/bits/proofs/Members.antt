@@ -7,7 +7,7 @@ use native.Mathlib.Omega.{arith}
 use lib.Pow.{split}
 use lib.Bits.{bitAnd, bitOr, bitXor, differ, and-mask, or-shifted}
 use Rattle.bits.specs.Bits.{digit}
-use Rattle.bits.proofs.Digits.{eq?, digit-lt, digit-of-zero, digit-and, digit-or, digit-xor, member-ext, pow-here, pow-only}
+use Rattle.bits.proofs.Digits.{eq?, digit-lt, digit-of-zero, digit-and, digit-or, digit-xor, member-ext, a-member, pow-here, pow-only}
 
 -- ---- members of an `and`
 
@@ -43,6 +43,29 @@ part-of t s h b m = and-right b t s (ap (digit b) h ∙ m)
 pub to-part : (t s : ℕ) → ((b : ℕ) → digit b t ≡ 1 → digit b s ≡ 1) → bitAnd t s ≡ t
 to-part t s f = member-ext (bitAnd t s) t (λ b m. and-left b t s m) (λ b m. and-both b t s m (f b m))
 
+-- ---- the set m of the one member j
+
+pow-other : (c b : ℕ) → (c ≡ b → ⊥) → digit c (2 ^ b) ≡ 0
+pow-other c b n =
+    ⊎-elim (λ e. absurd (n (pow-only c b e))) (λ m. omega (arith, digit-lt c (2 ^ b))) (eq? (digit c (2 ^ b)) 1)
+
+module _ (j m : ℕ) (e : m ≡ 2 ^ j) where
+  pub bit-here : digit j m ≡ 1
+  bit-here = ap (digit j) e ∙ pow-here j
+
+  pub bit-elsewhere : (b : ℕ) → (b ≡ j → ⊥) → digit b m ≡ 0
+  bit-elsewhere b d = ap (digit b) e ∙ pow-other b j d
+
+  pub has-bit : (x : ℕ) → (bitAnd x m ≡ 0 → ⊥) → digit j x ≡ 1
+  has-bit x d =
+      let q : (b : ℕ) × (digit b (bitAnd x m) ≡ 1) = a-member (bitAnd x m) d in
+      let b : ℕ = q .0 in
+      let f : b ≡ j = pow-only b j (sym (ap (digit b) e) ∙ and-right b x m (q .1)) in
+      subst (λ (c : ℕ). digit c x ≡ 1) f (and-left b x m (q .1))
+
+  pub lacks-bit : (x : ℕ) → bitAnd x m ≡ 0 → digit j x ≡ 0
+  lacks-bit x z = omega (arith, digit-and j x m, bit-here, ap (digit j) z, digit-of-zero j, digit-lt j x)
+
 -- ---- s without its member b
 
 differ-zero : (x : ℕ) → differ x 0 ≡ x
@@ -55,10 +78,6 @@ without-here s b h g =
     let f : differ (digit b s) (digit b (2 ^ b)) ≡ 0
     = ap (λ (x : ℕ). differ x (digit b (2 ^ b))) h ∙ ap (differ 1) (pow-here b) in
     omega arith
-
-pow-other : (c b : ℕ) → (c ≡ b → ⊥) → digit c (2 ^ b) ≡ 0
-pow-other c b n =
-    ⊎-elim (λ e. absurd (n (pow-only c b e))) (λ m. omega (arith, digit-lt c (2 ^ b))) (eq? (digit c (2 ^ b)) 1)
 
 pub without-other : (s b c : ℕ) → (c ≡ b → ⊥) → digit c (bitXor s (2 ^ b)) ≡ digit c s
 without-other s b c n = digit-xor c s (2 ^ b) ∙ ap (differ (digit c s)) (pow-other c b n) ∙ differ-zero (digit c s)

@@ -1,31 +1,23 @@
--- The steps of loops: from the first n to the first n + 1, and from a set to the set without one of its members.
-use mathlib.Core.Path.{_≡_, sym, ap, _∙_, subst}
+-- The steps of a loop over the members of a set, which goes on without one of them. (The step from the first n to the first n + 1 is the
+-- kit's `below-more`.)
+use mathlib.Core.Path.{_≡_, sym, _∙_, subst}
 use mathlib.Core.Logic.{⊎-elim}
-use Prim.Native.Nat.{ℕ, _+_, _^_, _<_}
+use Prim.Native.Nat.{ℕ, _^_}
 use native.Mathlib.Omega.{arith}
-use borrow.Author.Count.{below-more}
 use Rattle.bits.specs.Bits.{digit, Minus}
-use Rattle.bits.proofs.Digits.{eq?, digit-lt, pow-here, pow-only}
-use Rattle.bits.proofs.Members.{not-zero}
-
--- ---- the first n + 1
-
--- what holds of all before n, and of n, holds of all before n + 1
-pub all-next : (P : ℕ → Type 0) (n : ℕ) → ((k : ℕ) → k < n → P k) → P n → (k : ℕ) → k < n + 1 → P k
-all-next = below-more
+use Rattle.bits.proofs.Digits.{eq?, digit-lt}
+use Rattle.bits.proofs.Members.{not-zero, bit-here, bit-elsewhere}
 
 -- ---- x without its member i: rest
 
 module _ (x m i rest : ℕ) (is : m ≡ 2 ^ i) (d : Minus x m rest) where
   pub taken-gone : digit i rest ≡ 1 → ⊥
   unfolding Minus
-  taken-gone q = omega (arith, d i, digit-lt i x, ap (digit i) is, pow-here i)
+  taken-gone q = omega (arith, d i, digit-lt i x, bit-here i m is)
 
   pub others-stay : (b : ℕ) → (b ≡ i → ⊥) → digit b rest ≡ digit b x
   unfolding Minus
-  others-stay b n =
-      let z : digit b m ≡ 1 → ⊥ = λ f. n (pow-only b i (sym (ap (digit b) is) ∙ f)) in
-      omega (arith, d b, digit-lt b m)
+  others-stay b n = omega (arith, d b, bit-elsewhere i m is b n)
 
 -- ---- a loop over the members of x, which takes them out of rest one by one
 

@@ -6,14 +6,15 @@ use native.Mathlib.Nat.{div-one, div-eq-of-lt, mul-assoc, add-mul, mul-le-mul-ri
 use native.Mathlib.Omega.{arith}
 use lib.Bits.{bitAnd, and-mask}
 use lib.Pow.{pow-pos, pow-mono, pow-add, split, shr-lt, shr-shr}
-use Rattle.lister.specs.declared.cursor.Found.{Found}
-use Rattle.lister.specs.declared.cursor.Found.the-variants.{At, Nothing}
+use Rattle.lister.specs.declared.cursor.FoundSet.{FoundSet}
+use Rattle.lister.specs.declared.cursor.FoundSet.the-variants.{At, Nothing}
 use Rattle.bits.specs.Bits.{digit}
 use Rattle.rows.specs.Covers.{IrredundantCover, Node}
 use Rattle.lister_narrowing.specs.Narrowing.{NoneBetween}
 use Rattle.lister.specs.Levels.{top, PossibleLevels}
 use Rattle.lister.specs.Lister.{Among, LeastIn}
-use Rattle.lister.proofs.Tree.{has-bit, lacks-bit, in-first, in-second}
+use Rattle.bits.proofs.Members.{has-bit, lacks-bit}
+use Rattle.lister.proofs.Tree.{in-first, in-second}
 
 top-le : (at i n : ℕ) → i ≤ n → at < 2 ^ n → top at i ≤ 2 ^ n
 unfolding top
@@ -108,7 +109,7 @@ module _ (rows : List ℕ) (n at i : ℕ) (c : Climbed rows n at i) (lt : i < n)
         let r : NoneBetween rows (top at i) (2 ^ i - 1) = h i (lacks-bit i m e at z) (lacks-bit i m e possible w) in
         subst (λ (k : ℕ). NoneBetween rows k (m - 1)) (sym f) (subst (λ (k : ℕ). NoneBetween rows (top at i) (k - 1)) (sym e) r)
 
-    module _ (s : ℕ) (f : s ≡ top at i) (r : Found) (h : LeastIn rows s (s + 2 ^ i) r) where
+    module _ (s : ℕ) (f : s ≡ top at i) (r : FoundSet) (h : LeastIn rows s (s + 2 ^ i) r) where
       here : LeastIn rows at (top at i + 2 ^ i) r
       here = in-second rows at (top at i) (top at i + 2 ^ i) r from-at (c .none) (subst (λ (k : ℕ). LeastIn rows k (k + 2 ^ i) r) f h)
 

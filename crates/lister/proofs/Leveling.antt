@@ -20,7 +20,8 @@ use Rattle.bits.proofs.Members.{and-left, and-right, and-both, or-left, or-righ
 use Rattle.bits.proofs.Parts.{members, the-member}
 use borrow.Author.Count.{below-more}
 use Rattle.bits.proofs.Tops.{digit-in, mask-below, mask-above, highest-is}
-use Rattle.rows.proofs.Sets.{own-rows}
+use Rattle.rows.proofs.Sets.{own-has, own-only}
+use Rattle.lister_narrowing.proofs.Tightening.{between-own}
 
 -- ---- the set where a level begins
 
@@ -206,31 +207,24 @@ module _ (rows : List ℕ) (at i t : ℕ) (z : digit i at ≡ 0) (w : Irredundan
   has-above c lt m = w .1 .0 c (top-above at i z c lt m)
 
   own-of : (b : ℕ) → digit b t ≡ 1 → Own rows (length rows) t b
-  unfolding IrredundantBetween
-  own-of b m = own-rows rows t (w .0) b m
+  own-of b m = between-own rows (top at i) (2 ^ i - 1) t b w m
 
   -- a row whose only member of t is b
   module _ (x b : ℕ) (e : bitAnd x t ≡ 2 ^ b) where
-    its : digit b x ≡ 1
-    its = and-left b x t (ap (digit b) e ∙ pow-here b)
-
-    no-other : (c : ℕ) → digit c x ≡ 1 → digit c t ≡ 1 → c ≡ b
-    no-other c p q = pow-only c b (sym (ap (digit c) e) ∙ and-both c x t p q)
-
     old-own : i < b → digit b at ≡ 1 → OwnAt x (bitAnd x at) i b
     old-own lt m = record {
-      lacks = ⊎-elim (λ (p : digit i x ≡ 1). absurd (omega (arith, no-other i p has-level))) (λ (p : digit i x ≡ 1 → ⊥). omega (arith, digit-lt i x)) (eq? (digit i x) 1);
+      lacks = ⊎-elim (λ (p : digit i x ≡ 1). absurd (omega (arith, own-only x t b e i p has-level))) (λ (p : digit i x ≡ 1 → ⊥). omega (arith, digit-lt i x)) (eq? (digit i x) 1);
       below = lt;
-      has = and-both b x at its m;
-      only = λ c p q. no-other c (and-left c x at p) (has-above c q (and-right c x at p));
+      has = and-both b x at (own-has x t b e) m;
+      only = λ c p q. own-only x t b e c (and-left c x at p) (has-above c q (and-right c x at p));
     }
 
     new-own : b ≡ i → NewAt x (bitAnd x at) i
     new-own f = record {
-      has = subst (λ (c : ℕ). digit c x ≡ 1) f its;
+      has = subst (λ (c : ℕ). digit c x ≡ 1) f (own-has x t b e);
       none = λ c p.
           elim (decLt i c) [
-            | yes lt ↦ absurd (omega (arith, no-other c (and-left c x at p) (has-above c lt (and-right c x at p))))
+            | yes lt ↦ absurd (omega (arith, own-only x t b e c (and-left c x at p) (has-above c lt (and-right c x at p))))
             | no ge ↦ omega arith
           ];
     }

@@ -18,8 +18,8 @@ use Rattle.model.specs.Sets.{ofRows}
 use Rattle.model.proofs.Lists.{filter-e}
 use Rattle.model.proofs.Pages.{rising, rising-ge, keep, atOrAbove-cons, atOrAbove-nil}
 use Rattle.model.proofs.Sets.{listed}
-use Rattle.lister.specs.declared.cursor.Found.{Found}
-use Rattle.lister.specs.declared.cursor.Found.the-variants.{At, Nothing}
+use Rattle.lister.specs.declared.cursor.FoundSet.{FoundSet}
+use Rattle.lister.specs.declared.cursor.FoundSet.the-variants.{At, Nothing}
 use Rattle.lister.specs.declared.cursor.Cursor.{Cursor}
 use Rattle.rows.specs.Covers.{IrredundantCover, rowCovers}
 use Rattle.lister.specs.Lister.{Among, LeastIn, comingTo, atFirst, coming, sought, advanced, Paged}
@@ -70,11 +70,11 @@ sought-over all c e = go (c .at) (c .over) e
     go at false e = absurd (true-is-not-false (sym e))
 
 module _ (n : ℕ) (rows : List ℕ) (c : Cursor) (f : c .over ≡ false) where
-  pub sought-found : (r : Found) (x : ℕ) → r ≡ At x → LeastIn rows (c .at) (2 ^ n) r → record { at = x; over = false } ≡ sought (rowCovers n rows) c
+  pub sought-found : (r : FoundSet) (x : ℕ) → r ≡ At x → LeastIn rows (c .at) (2 ^ n) r → record { at = x; over = false } ≡ sought (rowCovers n rows) c
   unfolding sought coming
   sought-found r x e l = rw (f, found-first n rows (c .at) x (subst (LeastIn rows (c .at) (2 ^ n)) e l))
 
-  pub sought-none : (r : Found) → r ≡ Nothing → LeastIn rows (c .at) (2 ^ n) r → record { at = c .at; over = true } ≡ sought (rowCovers n rows) c
+  pub sought-none : (r : FoundSet) → r ≡ Nothing → LeastIn rows (c .at) (2 ^ n) r → record { at = c .at; over = true } ≡ sought (rowCovers n rows) c
   unfolding sought coming
   sought-none r e l = rw (f, found-none n rows (c .at) (subst (LeastIn rows (c .at) (2 ^ n)) e l))
 

@@ -9,42 +9,21 @@ use native.Mathlib.Decide.{decLt}
 use native.Mathlib.Omega.{arith}
 use lib.Bits.{bitAnd, bitOr}
 use lib.Pow.{split}
-use Rattle.lister.specs.declared.cursor.Found.{Found}
-use Rattle.lister.specs.declared.cursor.Found.the-variants.{At, Nothing}
+use Rattle.lister.specs.declared.cursor.FoundSet.{FoundSet}
+use Rattle.lister.specs.declared.cursor.FoundSet.the-variants.{At, Nothing}
 use Rattle.lister_narrowing.specs.declared.Tight.{Tight}
 use Rattle.bits.specs.Bits.{digit, Minus}
 use Rattle.rows.specs.Covers.{IrredundantCover, Between, Node}
 use Rattle.lister.specs.Lister.{Among, LeastIn, RangeKept}
 use Rattle.lister_narrowing.specs.Narrowing.{IrredundantBetween, Tightened}
-use Rattle.bits.proofs.Digits.{eq?, digit-lt, digit-of-zero, digit-and, digit-or, a-member, pow-here, pow-only}
+use Rattle.bits.proofs.Digits.{eq?, digit-lt, digit-or}
 use Rattle.bits.proofs.Decide.{true-is-not-false}
-use Rattle.bits.proofs.Members.{and-left, and-right, above, within}
+use Rattle.bits.proofs.Members.{has-bit, bit-here, lacks-bit, bit-elsewhere, above, within}
 use Rattle.bits.proofs.Tops.{digit-in}
 use Rattle.rows.proofs.Nodes.{halves}
 
 pub not-zero-pos : {n : ℕ} → (n ≡ 0 → ⊥) → 0 < n
 not-zero-pos h = omega arith
-
--- ---- the set m of the one candidate j
-
-module _ (j m : ℕ) (e : m ≡ 2 ^ j) where
-  pub has-bit : (x : ℕ) → (bitAnd x m ≡ 0 → ⊥) → digit j x ≡ 1
-  has-bit x d =
-      let q : (b : ℕ) × (digit b (bitAnd x m) ≡ 1) = a-member (bitAnd x m) d in
-      let b : ℕ = q .0 in
-      let f : b ≡ j = pow-only b j (sym (ap (digit b) e) ∙ and-right b x m (q .1)) in
-      subst (λ (c : ℕ). digit c x ≡ 1) f (and-left b x m (q .1))
-
-  bit-here : digit j m ≡ 1
-  bit-here = ap (digit j) e ∙ pow-here j
-
-  pub lacks-bit : (x : ℕ) → bitAnd x m ≡ 0 → digit j x ≡ 0
-  lacks-bit x z = omega (arith, digit-and j x m, bit-here, ap (digit j) z, digit-of-zero j, digit-lt j x)
-
-  bit-elsewhere : (b : ℕ) → (b ≡ j → ⊥) → digit b m ≡ 0
-  bit-elsewhere b d =
-      ⊎-elim (λ (f : digit b m ≡ 1). absurd (d (pow-only b j (sym (ap (digit b) e) ∙ f))))
-      (λ (f : digit b m ≡ 1 → ⊥). omega (arith, digit-lt b m)) (eq? (digit b m) 1)
 
 -- ---- bit j of the numbers in the two halves
 
@@ -70,7 +49,7 @@ module _ (i s : ℕ) (n : Node i s) (p : 0 < i) where
 
 module _ (rows : List ℕ) (lo mid hi : ℕ) where
   -- what is found in the first range
-  pub in-first : (r : Found) (x : ℕ) → r ≡ At x → mid ≤ hi → LeastIn rows lo mid r → LeastIn rows lo hi (At x)
+  pub in-first : (r : FoundSet) (x : ℕ) → r ≡ At x → mid ≤ hi → LeastIn rows lo mid r → LeastIn rows lo hi (At x)
   unfolding LeastIn Among
   in-first r x e p l₀ =
       let l : LeastIn rows lo mid (At x) = subst (LeastIn rows lo mid) e l₀ in (
@@ -79,7 +58,7 @@ module _ (rows : List ℕ) (lo mid hi : ℕ) where
       )
 
   -- what is found in the second, where the first has none
-  pub in-second : (r : Found) → lo ≤ mid → LeastIn rows lo mid Nothing → LeastIn rows mid hi r → LeastIn rows lo hi r
+  pub in-second : (r : FoundSet) → lo ≤ mid → LeastIn rows lo mid Nothing → LeastIn rows mid hi r → LeastIn rows lo hi r
   unfolding LeastIn Among
   in-second (At x) p l u = (
     (omega (arith, u .0 .0), u .0 .1, u .0 .2),
@@ -89,7 +68,7 @@ module _ (rows : List ℕ) (lo mid hi : ℕ) where
       λ y a. elim (decLt y mid) [ yes lt ↦ l y (a .0, lt, a .2) | no ge ↦ u y (omega arith, a .1, a .2) ]
 
   -- what is found in the first, where the second has none
-  pub only-first : (r : Found) → mid ≤ hi → LeastIn rows mid hi Nothing → LeastIn rows lo mid r → LeastIn rows lo hi r
+  pub only-first : (r : FoundSet) → mid ≤ hi → LeastIn rows mid hi Nothing → LeastIn rows lo mid r → LeastIn rows lo hi r
   unfolding LeastIn Among
   only-first (At x) p u l = in-first (At x) x refl p l
   only-first Nothing p u l =
@@ -144,7 +123,7 @@ module _ (rows : List ℕ) (i s : ℕ) where
       high-range y a = h y (up y a)
 
       -- t has the candidate: the low half has nothing
-      pub with-bit : (r : Found) → (bitAnd (t .s) m ≡ 0 → ⊥) → LeastIn rows (s + m) (s + m + 2 ^ (i - 1)) r → LeastIn rows s (s + 2 ^ i) r
+      pub with-bit : (r : FoundSet) → (bitAnd (t .s) m ≡ 0 → ⊥) → LeastIn rows (s + m) (s + m + 2 ^ (i - 1)) r → LeastIn rows s (s + 2 ^ i) r
       unfolding LeastIn Among RangeKept Between
       with-bit r d u =
           in-second rows s (s + m) (s + 2 ^ i) r (omega arith)
@@ -154,7 +133,7 @@ module _ (rows : List ℕ) (i s : ℕ) where
           (subst (λ (x : ℕ). LeastIn rows (s + m) x r) whole u)
 
       -- t lacks it: the high half has nothing
-      pub without-bit : (r : Found) → bitAnd (t .s) m ≡ 0 → bitAnd (t .free) m ≡ 0 → LeastIn rows s (s + 2 ^ (i - 1)) r → LeastIn rows s (s + 2 ^ i) r
+      pub without-bit : (r : FoundSet) → bitAnd (t .s) m ≡ 0 → bitAnd (t .free) m ≡ 0 → LeastIn rows s (s + 2 ^ (i - 1)) r → LeastIn rows s (s + 2 ^ i) r
       unfolding LeastIn Among RangeKept Between
       without-bit r z w l =
           only-first rows s (s + 2 ^ (i - 1)) (s + 2 ^ i) r (omega (arith, halves i p))
@@ -206,10 +185,10 @@ module _ (rows : List ℕ) (i s : ℕ) where
             ) in
             (k .0, k .1 .1)
 
-      pub from-low : (r : Found) (x : ℕ) → r ≡ At x → LeastIn rows s (s + 2 ^ (i - 1)) r → LeastIn rows s (s + 2 ^ i) (At x)
+      pub from-low : (r : FoundSet) (x : ℕ) → r ≡ At x → LeastIn rows s (s + 2 ^ (i - 1)) r → LeastIn rows s (s + 2 ^ i) (At x)
       from-low r x f l = in-first rows s (s + 2 ^ (i - 1)) (s + 2 ^ i) r x f (omega (arith, halves i p)) l
 
-      pub from-both : (l r : Found) → l ≡ Nothing → LeastIn rows s (s + 2 ^ (i - 1)) l → LeastIn rows (s + m) (s + m + 2 ^ (i - 1)) r → LeastIn rows s (s + 2 ^ i) r
+      pub from-both : (l r : FoundSet) → l ≡ Nothing → LeastIn rows s (s + 2 ^ (i - 1)) l → LeastIn rows (s + m) (s + m + 2 ^ (i - 1)) r → LeastIn rows s (s + 2 ^ i) r
       from-both l r z f g =
           in-second rows s (s + m) (s + 2 ^ i) r (omega arith)
           (subst (λ (x : ℕ). LeastIn rows s (s + x) Nothing) (sym e) (subst (LeastIn rows s (s + 2 ^ (i - 1))) z f))

@@ -6,8 +6,8 @@ use Prim.Native.Nat.{ℕ, _+_, _^_, _≤_, _<_}
 use lib.Dec.{ltb}
 use lib.ListN.{length, drop}
 use Rattle.model.specs.Pages.{atOrAbove, page, more}
-use Rattle.lister.specs.declared.cursor.Found.{Found}
-use Rattle.lister.specs.declared.cursor.Found.the-variants.{At, Nothing}
+use Rattle.lister.specs.declared.cursor.FoundSet.{FoundSet}
+use Rattle.lister.specs.declared.cursor.FoundSet.the-variants.{At, Nothing}
 use Rattle.lister.specs.declared.cursor.Cursor.{Cursor}
 use Rattle.lister.specs.declared.cursor.PageFill.{PageFill}
 use Rattle.lister_narrowing.specs.declared.Tight.{Tight}
@@ -20,7 +20,7 @@ unfoldable pub Among : List ℕ → ℕ → ℕ → ℕ → Type 0
 Among rows lo hi y = (lo ≤ y) × (y < hi) × IrredundantCover rows y
 
 -- the least of these, or that there is none
-unfoldable pub LeastIn : List ℕ → ℕ → ℕ → Found → Type 0
+unfoldable pub LeastIn : List ℕ → ℕ → ℕ → FoundSet → Type 0
 LeastIn rows lo hi (At x) = Among rows lo hi x × ((y : ℕ) → Among rows lo hi y → x ≤ y)
 LeastIn rows lo hi Nothing = (y : ℕ) → Among rows lo hi y → ⊥
 

@@ -10,7 +10,7 @@ use lister_narrowing::Tight;
 use rows::covering;
 
 // A set, or that there is none.
-enum Found {
+enum FoundSet {
     At(u64),
     Nothing,
 }
@@ -18,19 +18,19 @@ enum Found {
 // The least irredundant cover in [s, s + 2^i). All of them lie between t.s and t.s | t.free, so that a candidate which t has decided
 // costs no test; of one that is open, the half without it comes first. Where that half had none, the other may well have none either: it is
 // tested exactly before it is searched, so that a range without a cover is left after one walk down.
-fn least(rows: &[u64], i: u64, s: u64, t: Tight) -> Found
+fn least(rows: &[u64], i: u64, s: u64, t: Tight) -> FoundSet
     requires { ⌜ Node i s ⌝ }
     requires { ⌜ RangeKept (now rows) i s t ⌝ }
     ensures { λ r. ⌜ LeastIn (now (rows .entry)) s (s + 2 ^ i) r ⌝ }
 {
     if t.dead {
-        return Found::Nothing;
+        return FoundSet::Nothing;
     }
     if i == 0 {
         if covering::irredundant(rows, s) {
-            return Found::At(s);
+            return FoundSet::At(s);
         }
-        return Found::Nothing;
+        return FoundSet::Nothing;
     }
     let j = i - 1;
     let m = set::power(j);
@@ -43,27 +43,27 @@ fn least(rows: &[u64], i: u64, s: u64, t: Tight) -> Found
     let rest = set::minus(t.free, m);
     let low = least(rows, j, s, lister_narrowing::narrow(rows, t.s, rest));
     match low {
-        Found::At(x) => Found::At(x),
-        Found::Nothing => least(
+        FoundSet::At(x) => FoundSet::At(x),
+        FoundSet::Nothing => least(
             rows,
             j,
             s + m,
-            lister_extension::settle(rows, t.s | m, rest),
+            lister_extension::narrow_exactly(rows, t.s | m, rest),
         ),
     }
 }
 
 // The least irredundant cover at or above at and below 2^n. From at, each 0 bit of at starts the next higher range of numbers: those
 // with this bit at 1, the bits above as in at, and the bits below free. `levels` tells which ranges need no search.
-fn climb(rows: &[u64], n: u64, at: u64) -> Found
+fn climb(rows: &[u64], n: u64, at: u64) -> FoundSet
     requires { ⌜ n ≤ 64 ⌝ }
     ensures { λ r. ⌜ LeastIn (now (rows .entry)) at (2 ^ n) r ⌝ }
 {
     if set::low_mask(n) < at {
-        return Found::Nothing;
+        return FoundSet::Nothing;
     }
     if covering::irredundant(rows, at) {
-        return Found::At(at);
+        return FoundSet::At(at);
     }
     let possible = levels::possible_levels(rows, at);
     let mut i: u64 = 0;
@@ -77,13 +77,13 @@ fn climb(rows: &[u64], n: u64, at: u64) -> Found
                 s,
                 levels::narrow_level(rows, possible & m, s, m - 1),
             );
-            if let Found::At(x) = found {
-                return Found::At(x);
+            if let FoundSet::At(x) = found {
+                return FoundSet::At(x);
             }
         }
         i += 1;
     }
-    Found::Nothing
+    FoundSet::Nothing
 }
 
 // Where the lister stands: the next set is the least at or above at; none is left where it is over.
@@ -111,8 +111,8 @@ impl Cursor {
             return self;
         }
         match climb(rows, n, self.at) {
-            Found::At(x) => Cursor { at: x, over: false },
-            Found::Nothing => Cursor {
+            FoundSet::At(x) => Cursor { at: x, over: false },
+            FoundSet::Nothing => Cursor {
                 at: self.at,
                 over: true,
             },

@@ -17,7 +17,8 @@ use Rattle.bits.proofs.Decide.{true-is-not-false}
 use Rattle.bits.proofs.Members.{and-both}
 use Rattle.bits.proofs.Parts.{part-le, members, part-trans, minus-part, the-member, member-of-more, minus-member-less, part-and-less}
 use borrow.Author.Count.{below-more}
-use Rattle.rows.proofs.Sets.{own-rows, own-row-fewer}
+use Rattle.rows.proofs.Sets.{own-row-fewer}
+use Rattle.lister_narrowing.proofs.Tightening.{between-own}
 
 -- ---- one row
 
@@ -75,7 +76,7 @@ module _ (rows : List ℕ) (s free b : ℕ) where
   unfolding NoneBetween BarredBelow Barred IrredundantBetween Between Own
   barred-all n m le h t w =
       let j : (c : ℕ) × (b ≡ 2 ^ c) × (digit c s ≡ 1) = the-member s b m in
-      let r : Own rows (length rows) t (j .0) = own-rows rows t (w .0) (j .0) (w .1 .0 (j .0) (j .2)) in
+      let r : Own rows (length rows) t (j .0) = between-own rows s free t (j .0) w (w .1 .0 (j .0) (j .2)) in
       h (r .0) (omega (arith, r .1)) t w (r .2 ∙ sym (j .1))
 
 -- ---- narrowed, and tested

@@ -1,6 +1,6 @@
 // The exact test of the lister: whether a set can still grow to an irredundant cover.
 //
-// `settle` narrows as crate `lister_narrowing` does and then tests. Each member of an irredundant cover has a row of its own, so the test gives
+// `narrow_exactly` narrows as crate `lister_narrowing` does and then tests. Each member of an irredundant cover has a row of its own, so the test gives
 // each member a private row to keep: none of that row's free candidates may then be taken. Only `false` says something, so what is asked first,
 // what is asked together and where to stop asking are free to choose: the functions that only choose have no contract.
 ghost use mathlib.Core.Path.{_≡_};
@@ -210,7 +210,7 @@ fn tries(rows: &[u64], s: u64, free: u64, b: u64, q: u64) -> bool
 
 // Narrows s and free as `lister_narrowing::narrow` does, and tests exactly what is left. The contract says only that no irredundant cover is
 // lost.
-pub fn settle(rows: &[u64], s: u64, free: u64) -> Tight
+pub fn narrow_exactly(rows: &[u64], s: u64, free: u64) -> Tight
     ensures { λ r. ⌜ Tightened (now (rows .entry)) s free r ⌝ }
 {
     let t = lister_narrowing::narrow(rows, s, free);

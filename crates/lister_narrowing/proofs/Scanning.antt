@@ -141,7 +141,7 @@ module _ (rows : List ℕ) (s free n : ℕ) (common : List ℕ) (owners unmet fo
   passed-all ge le x u =
       let e : n ≡ length rows = omega arith in
       record {
-        lost = λ f. absurd (true-is-not-false (sym f));
+        none = λ f. absurd (true-is-not-false (sym f));
         owners = λ f. privates-done rows n s owners e (h .private-rows);
         unmet = λ f. unmet-all rows n s unmet e (h .unmet-rows);
         forced = λ f. h .must;
@@ -155,9 +155,9 @@ pub passed-as : {rows : List ℕ} {s free n : ℕ} {common common' : List ℕ} {
     → Passed rows s free n common' owners' unmet' forced' → Passed rows s free n common owners unmet forced
 passed-as {rows} {s} {free} {n} a b c d h = rw (a, b, c, d) h
 
-pub scanned-lost : (rows : List ℕ) (s free : ℕ) (g : Scan) → g .dead ≡ true → NoneBetween rows s free → Scanned rows s free g
-scanned-lost rows s free g d h = record {
-  lost = λ e. h;
+pub scanned-dead : (rows : List ℕ) (s free : ℕ) (g : Scan) → g .dead ≡ true → NoneBetween rows s free → Scanned rows s free g
+scanned-dead rows s free g d h = record {
+  none = λ e. h;
   owners = λ e. absurd (true-is-not-false (sym d ∙ e));
   unmet = λ e. absurd (true-is-not-false (sym d ∙ e));
   forced = λ e. absurd (true-is-not-false (sym d ∙ e));

@@ -11,32 +11,24 @@ use Rattle.lister_narrowing.specs.declared.Tight.{Tight}
 use Rattle.lister_narrowing.specs.declared.Scan.{Scan}
 use Rattle.bits.specs.Bits.{digit, Single, Minus}
 use Rattle.rows.specs.Covers.{IrredundantCover, Own, Unmet, Between}
-use Rattle.lister_narrowing.specs.Narrowing.{IrredundantBetween, NoneBetween, Forced, Taken, Scanned, Stuck, Tightened}
-use Rattle.bits.proofs.Digits.{eq?, digit-lt, digit-or, a-member, pow-here, pow-only}
+use Rattle.lister_narrowing.specs.Narrowing.{IrredundantBetween, NoneBetween, Forced, Taken, Scanned, Infeasible, Tightened}
+use Rattle.bits.proofs.Digits.{eq?, digit-lt, digit-or, pow-only}
 use Rattle.bits.proofs.Decide.{true-is-not-false}
-use Rattle.bits.proofs.Members.{and-left, and-right, and-both, not-zero}
-use Rattle.rows.proofs.Sets.{own-rows, own-row-fewer, own-fewer, all-privates, meets}
+use Rattle.bits.proofs.Members.{and-left, and-both, not-zero}
+use Rattle.rows.proofs.Sets.{own-rows, own-has, own-only, own-row-fewer, own-fewer, all-privates, meets}
 use Rattle.bits.proofs.Parts.{part-le, members, minus-part, apart-by}
 
 -- ---- what an irredundant cover t above s has
 
--- a row whose only member of t is b
-module _ (h s t b : ℕ) (up : (c : ℕ) → digit c s ≡ 1 → digit c t ≡ 1) (own : bitAnd h t ≡ 2 ^ b) where
-  own-has : digit b h ≡ 1
-  own-has = and-left b h t (ap (digit b) own ∙ pow-here b)
+-- each member of it has a row of its own
+pub between-own : (rows : List ℕ) (s free t b : ℕ) → IrredundantBetween rows s free t → digit b t ≡ 1 → Own rows (length rows) t b
+unfolding IrredundantBetween
+between-own rows s free t b w m = own-rows rows t (w .0) b m
 
-  own-is : (c : ℕ) → digit c h ≡ 1 → digit c t ≡ 1 → c ≡ b
-  own-is c p q = pow-only c b (sym (ap (digit c) own) ∙ and-both c h t p q)
-
-  -- a part of t without b does not meet it
-  own-unmet : (digit b s ≡ 1 → ⊥) → bitAnd h s ≡ 0
-  own-unmet n =
-      ⊎-elim (λ e. e)
-      (λ d.
-      let m : (c : ℕ) × (digit c (bitAnd h s) ≡ 1) = a-member (bitAnd h s) d in
-      let in-s : digit (m .0) s ≡ 1 = and-right (m .0) h s (m .1) in
-      absurd (n (subst (λ (c : ℕ). digit c s ≡ 1) (own-is (m .0) (and-left (m .0) h s (m .1)) (up (m .0) in-s)) in-s)))
-      (eq? (bitAnd h s) 0)
+-- a part of t without b does not meet b's own row
+own-unmet : (h s t b : ℕ) → ((c : ℕ) → digit c s ≡ 1 → digit c t ≡ 1) → bitAnd h t ≡ 2 ^ b → (digit b s ≡ 1 → ⊥) → bitAnd h s ≡ 0
+own-unmet h s t b up e n =
+    apart-by h s (λ c p q. n (subst (λ (j : ℕ). digit j s ≡ 1) (own-only h t b e c p (up c q)) q))
 
 -- ---- rows that s does not meet
 
@@ -44,9 +36,9 @@ module _ (rows : List ℕ) (s free k : ℕ) (lt : k < length rows) (z : bitAnd (
   abbrev x : ℕ
   x = getD rows k 0
 
-  pub row-lost : bitAnd (getD rows k 0) free ≡ 0 → NoneBetween rows s free
+  pub row-dead : bitAnd (getD rows k 0) free ≡ 0 → NoneBetween rows s free
   unfolding NoneBetween IrredundantBetween IrredundantCover
-  row-lost e t w =
+  row-dead e t w =
       let m : (b : ℕ) × (digit b (bitAnd x free) ≡ 1) × (digit b t ≡ 1) = meets rows s free k lt z t (w .0 .0) (w .1) in
       not-zero (m .0) (bitAnd x free) (m .1) e
 
@@ -69,8 +61,7 @@ module _ (rows : List ℕ) (s free t : ℕ) (w : IrredundantBetween rows s free 
   up = w .1 .0
 
   own : (b : ℕ) → digit b t ≡ 1 → Own rows (length rows) t b
-  unfolding IrredundantBetween
-  own b m = own-rows rows t (w .0) b m
+  own b m = between-own rows s free t b w m
 
   -- a member outside s meets a row that s does not
   useful : (u b : ℕ) → Unmet rows (length rows) s u → digit b t ≡ 1 → (digit b s ≡ 1 → ⊥) → digit b u ≡ 1
@@ -78,7 +69,7 @@ module _ (rows : List ℕ) (s free t : ℕ) (w : IrredundantBetween rows s free 
   useful u b h m n =
       let r : Own rows (length rows) t b = own b m in
       let x : ℕ = getD rows (r .0) 0 in
-      members x u (h (r .0) (r .1) (own-unmet x s t b up (r .2) n)) b (own-has x s t b up (r .2))
+      members x u (h (r .0) (r .1) (own-unmet x s t b up (r .2) n)) b (own-has x t b (r .2))
 
   -- and leaves each member of s a row of its own
   harmless : (x b : ℕ) → Taken rows s x → digit b t ≡ 1 → (digit b s ≡ 1 → ⊥) → digit b x ≡ 1 → ⊥
@@ -88,7 +79,7 @@ module _ (rows : List ℕ) (s free t : ℕ) (w : IrredundantBetween rows s free 
       let c : ℕ = k .0 in
       let r : Own rows (length rows) t c = own c (up c (k .1)) in
       let y : ℕ = getD rows (r .0) 0 in
-      let e : b ≡ c = own-is y s t c up (r .2) b (k .2 (r .0) (r .1) (own-row-fewer y s t c up (k .1) (r .2))) m in
+      let e : b ≡ c = own-only y t c (r .2) b (k .2 (r .0) (r .1) (own-row-fewer y s t c up (k .1) (r .2))) m in
       n (subst (λ (j : ℕ). digit j s ≡ 1) (sym e) (k .1))
 
   free-of : (x b : ℕ) → Taken rows s x → digit b t ≡ 1 → (digit b s ≡ 1 → ⊥) → digit b x ≡ 0
@@ -101,14 +92,14 @@ module _ (rows : List ℕ) (s free t : ℕ) (w : IrredundantBetween rows s free 
     goes-on = go (g .dead) refl
       where
         go : (d : Bool) → g .dead ≡ d → g .dead ≡ false
-        go true e = absurd (h .lost e t w)
+        go true e = absurd (h .none e t w)
         go false e = e
 
-    not-stuck : Stuck g s → ⊥
-    unfolding Stuck Forced
-    not-stuck (inl e) = true-is-not-false (sym e ∙ goes-on)
-    not-stuck (inr (inl d)) = d (all-privates rows s (g .owners) (h .owners goes-on) (λ b m. own-fewer rows (length rows) s t b up m (own b (up b m))))
-    not-stuck (inr (inr d)) = d (apart-by (g .forced) (g .taken) (λ b p q.
+    not-infeasible : Infeasible g s → ⊥
+    unfolding Infeasible Forced
+    not-infeasible (inl e) = true-is-not-false (sym e ∙ goes-on)
+    not-infeasible (inr (inl d)) = d (all-privates rows s (g .owners) (h .owners goes-on) (λ b m. own-fewer rows (length rows) s t b up m (own b (up b m))))
+    not-infeasible (inr (inr d)) = d (apart-by (g .forced) (g .taken) (λ b p q.
         let f = h .forced goes-on b p in harmless (g .taken) b (h .taken goes-on) (f .1 t w) (f .0) q))
 
     -- the cover is between s with what is forced and the free ones that are left
@@ -133,7 +124,7 @@ module _ (rows : List ℕ) (s free t : ℕ) (w : IrredundantBetween rows s free 
     )
 
 pub tightened-once : (rows : List ℕ) (s free : ℕ) (g : Scan) → Scanned rows s free g → (left rest : ℕ) (d : Bool) → Minus (bitAnd free (g .unmet)) (g .taken) left
-    → Minus left (g .forced) rest → (d ≡ true → Stuck g s) → Tightened rows s free (record { dead = d; s = bitOr s (g .forced); free = rest })
+    → Minus left (g .forced) rest → (d ≡ true → Infeasible g s) → Tightened rows s free (record { dead = d; s = bitOr s (g .forced); free = rest })
 tightened-once rows s free g h left rest d dl dr f = record {
   less = omega (
     arith,
@@ -145,7 +136,7 @@ tightened-once rows s free g h left rest d dl dr f = record {
 }
   where
     alive : (b : Bool) → d ≡ b → (t : ℕ) → IrredundantBetween rows s free t → b ≡ false
-    alive true e t w = absurd (not-stuck rows s free t w g h (f e))
+    alive true e t w = absurd (not-infeasible rows s free t w g h (f e))
     alive false e t w = refl
 
 -- ---- pass after pass

@@ -37,15 +37,15 @@ United common s r = (c : ℕ) → digit c r ≡ 1 → (b : ℕ) × (digit b s �
 
 -- what a pass over all rows tells
 pub record Scanned (rows : List ℕ) (s free : ℕ) (r : Scan) : Type 0 where
-  pub lost : r .dead ≡ true → NoneBetween rows s free
+  pub none : r .dead ≡ true → NoneBetween rows s free
   pub owners : r .dead ≡ false → Privates rows s (r .owners)
   pub unmet : r .dead ≡ false → Unmet rows (length rows) s (r .unmet)
   pub forced : r .dead ≡ false → Forced rows s free (r .forced)
   pub taken : r .dead ≡ false → Taken rows s (r .taken)
 
 -- why a pass leaves no irredundant cover
-unfoldable pub Stuck : Scan → ℕ → Type 0
-Stuck g s = (g .dead ≡ true) ⊎ (g .owners ≡ s → ⊥) ⊎ (bitAnd (g .forced) (g .taken) ≡ 0 → ⊥)
+unfoldable pub Infeasible : Scan → ℕ → Type 0
+Infeasible g s = (g .dead ≡ true) ⊎ (g .owners ≡ s → ⊥) ⊎ (bitAnd (g .forced) (g .taken) ≡ 0 → ⊥)
 
 -- r narrows s and free, and loses no irredundant cover; where r is dead there is none
 pub record Tightened (rows : List ℕ) (s free : ℕ) (r : Tight) : Type 0 where

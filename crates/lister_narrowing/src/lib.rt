@@ -5,7 +5,7 @@
 // measured by the benchmark.
 ghost use mathlib.Core.Path.{_≡_};
 ghost use mathlib.Core.Bool.{true};
-ghost use Rattle.lister_narrowing.specs.Narrowing.{Only, United, Scanned, Stuck, Tightened};
+ghost use Rattle.lister_narrowing.specs.Narrowing.{Only, United, Scanned, Infeasible, Tightened};
 use bits::set;
 
 // A set, what it can grow by, and whether no irredundant cover is left there.
@@ -52,7 +52,7 @@ fn united(common: [u64; 64], s: u64) -> u64
 }
 
 // What a pass says that meets a row without a free member. The rest then tells nothing.
-fn lost() -> Scan
+fn dead_scan() -> Scan
     ensures { λ r. ⌜ r .dead ≡ true ⌝ }
 {
     Scan {
@@ -79,7 +79,7 @@ fn gather(rows: &[u64], s: u64, free: u64) -> Scan
         if own == 0 {
             let open = row & free;
             if open == 0 {
-                return lost();
+                return dead_scan();
             }
             unmet = unmet | row;
             forced = forced | only(open);
@@ -103,8 +103,8 @@ fn gather(rows: &[u64], s: u64, free: u64) -> Scan
 
 // Whether a pass shows that no irredundant cover is left: a row can't be met, a member has no private row, or a forced candidate is excluded.
 // The contract says only what `true` means.
-fn stuck(found: Scan, s: u64) -> bool
-    ensures { λ r. ⌜ (r ≡ true → Stuck found s) ⌝ }
+fn infeasible(found: Scan, s: u64) -> bool
+    ensures { λ r. ⌜ (r ≡ true → Infeasible found s) ⌝ }
 {
     if found.dead {
         return true;
@@ -123,7 +123,7 @@ fn tighten(rows: &[u64], s: u64, free: u64) -> Tight
     let found = gather(rows, s, free);
     let left = set::minus(free & found.unmet, found.taken);
     Tight {
-        dead: stuck(found, s),
+        dead: infeasible(found, s),
         s: s | found.forced,
         free: set::minus(left, found.forced),
     }

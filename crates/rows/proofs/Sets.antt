@@ -64,6 +64,14 @@ own-rows rows s irr b m =
     (λ r. (r .0, r .1, own-of-missed (getD rows (r .0) 0) s b m (irr .0 (r .0) (r .1)) (r .2)))
     (missed rows (bitXor s (2 ^ b)) (length rows))
 
+-- a row whose only member of t is b
+module _ (h t b : ℕ) (own : bitAnd h t ≡ 2 ^ b) where
+  pub own-has : digit b h ≡ 1
+  own-has = and-left b h t (ap (digit b) own ∙ pow-here b)
+
+  pub own-only : (c : ℕ) → digit c h ≡ 1 → digit c t ≡ 1 → c ≡ b
+  own-only c p q = pow-only c b (sym (ap (digit c) own) ∙ and-both c h t p q)
+
 -- ---- and a cover in which each has is irredundant
 
 pub own-irredundant : (rows : List ℕ) (s : ℕ) → Cover rows s → ((b : ℕ) → digit b s ≡ 1 → Own rows (length rows) s b) → IrredundantCover rows s
@@ -77,8 +85,7 @@ own-irredundant rows s c own = (
       let one : (d : ℕ) × (digit d (bitAnd h t) ≡ 1) = a-member (bitAnd h t) (ct (r .0) (r .1)) in
       let d : ℕ = one .0 in
       let in-t : digit d t ≡ 1 = and-right d h t (one .1) in
-      let in-hs : digit d (bitAnd h s) ≡ 1 = and-both d h s (and-left d h t (one .1)) (part-of t s p d in-t) in
-      let e : d ≡ b = pow-only d b (sym (ap (digit d) (r .2)) ∙ in-hs) in
+      let e : d ≡ b = own-only h s b (r .2) d (and-left d h t (one .1)) (part-of t s p d in-t) in
       subst (λ (j : ℕ). digit j t ≡ 1) e in-t),
 )
 

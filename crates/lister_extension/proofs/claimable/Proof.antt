@@ -42,18 +42,5 @@ returns : tie.Need-returns Inv-loop μ-loop
 returns c = search needs
 
 pub claimable-spec : {M : Type 1} → statement M
-claimable-spec =
-    tie.close
-    (tie.spec
-    Inv-loop
-    μ-loop
-    loop-holds
-    mul-only
-    shared-slice-read-only
-    only-requires
-    mul-acc
-    shared-slice-read-acc
-    add-i
-    loop-less
-    loop-again
-    returns)
+claimable-spec = tie.close (tie.spec Inv-loop μ-loop loop-holds mul-only shared-slice-read-only only-requires mul-acc shared-slice-read-acc add-i
+    loop-less loop-again returns)

@@ -45,19 +45,5 @@ returns : tie.Need-returns Inv-loop μ-loop
 returns c = search needs
 
 pub claims-spec : {M : Type 1} → statement M
-claims-spec =
-    tie.close
-    (tie.spec
-    Inv-loop
-    μ-loop
-    loop-holds
-    lowest-requires
-    index-requires
-    mul-if1
-    array-read-if1
-    mul-taken
-    array-read-taken
-    minus-requires
-    loop-less
-    loop-again
-    returns)
+claims-spec = tie.close (tie.spec Inv-loop μ-loop loop-holds lowest-requires index-requires mul-if1 array-read-if1 mul-taken array-read-taken
+    minus-requires loop-less loop-again returns)

@@ -51,21 +51,5 @@ returns : tie.Need-returns Inv-loop μ-loop
 returns c = search needs
 
 pub joined-spec : {M : Type 1} → statement M
-joined-spec =
-    tie.close
-    (tie.spec
-    Inv-loop
-    μ-loop
-    loop-holds
-    mul-links
-    shared-slice-read-links
-    links-requires
-    mul-only
-    shared-slice-read-only
-    only-requires
-    mul-t21
-    shared-slice-read-t23
-    add-i
-    loop-less
-    loop-again
-    returns)
+joined-spec = tie.close (tie.spec Inv-loop μ-loop loop-holds mul-links shared-slice-read-links links-requires mul-only shared-slice-read-only
+    only-requires mul-t21 shared-slice-read-t23 add-i loop-less loop-again returns)

@@ -35,16 +35,4 @@ returns-2 : tie.Need-returns-2 Inv-loop μ-loop
 returns-2 c = search needs
 
 pub linked-spec : {M : Type 1} → statement M
-linked-spec =
-    tie.close
-    (tie.spec
-    Inv-loop
-    μ-loop
-    claimable-requires
-    loop-holds
-    joined-requires
-    returns
-    add-i
-    loop-less
-    loop-again
-    returns-2)
+linked-spec = tie.close (tie.spec Inv-loop μ-loop claimable-requires loop-holds joined-requires returns add-i loop-less loop-again returns-2)

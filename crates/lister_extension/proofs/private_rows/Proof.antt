@@ -77,27 +77,6 @@ returns : tie.Need-returns Inv-loop μ-loop
 returns c = search needs
 
 pub private-rows-spec : {M : Type 1} → statement M
-private-rows-spec =
-    tie.close
-    (tie.spec
-    Inv-loop
-    μ-loop
-    loop-holds
-    mul-row
-    shared-slice-read-row
-    is-single-requires
-    index-requires
-    mul-fewer
-    array-read-fewer
-    fewer-requires
-    mul-lightest
-    array-write-lightest
-    mul-more
-    array-read-more
-    more-requires
-    mul-count
-    array-write-count
-    add-i
-    loop-less
-    loop-again
-    returns)
+private-rows-spec = tie.close (tie.spec Inv-loop μ-loop loop-holds mul-row shared-slice-read-row is-single-requires index-requires mul-fewer
+    array-read-fewer fewer-requires mul-lightest array-write-lightest mul-more array-read-more more-requires mul-count array-write-count add-i
+    loop-less loop-again returns)

@@ -59,20 +59,5 @@ returns : tie.Need-returns Inv-loop μ-loop
 returns c = c .before .loop .inv .0
 
 pub scarcest-spec : {M : Type 1} → statement M
-scarcest-spec =
-    tie.close
-    (tie.spec
-    Inv-loop
-    μ-loop
-    lowest-requires
-    loop-holds
-    lowest-requires-2
-    index-requires
-    mul-if1
-    array-read-if1
-    mul-fewest
-    array-read-fewest
-    minus-requires
-    loop-less
-    loop-again
-    returns)
+scarcest-spec = tie.close (tie.spec Inv-loop μ-loop lowest-requires loop-holds lowest-requires-2 index-requires mul-if1 array-read-if1 mul-fewest
+    array-read-fewest minus-requires loop-less loop-again returns)

@@ -6,8 +6,8 @@ use Prim.Native.Nat.{_-_, _≤_}
 use native.Mathlib.Omega.{arith}
 use lib.ListN.{length}
 use Rattle.bits.proofs.Decide.{decides-true, decides-false}
-use Rattle.lister_narrowing.proofs.Tightening.{row-lost}
-use Rattle.lister_narrowing.proofs.Scanning.{Passed, passed-none, passed-open, passed-own, passed-shared, passed-as, passed-all, scanned-lost}
+use Rattle.lister_narrowing.proofs.Tightening.{row-dead}
+use Rattle.lister_narrowing.proofs.Scanning.{Passed, passed-none, passed-open, passed-own, passed-shared, passed-as, passed-all, scanned-dead}
 use Rattle.lister_narrowing.proofs.gather.Statement.{statement}
 use Rattle.lister_narrowing.proofs.gather.Tie as tie
 
@@ -26,11 +26,11 @@ mul-row c = search needs
 shared-slice-read-row : tie.Need-shared-slice-read-row Inv-loop μ-loop
 shared-slice-read-row c = search needs
 
-lost-requires : tie.Need-lost-requires Inv-loop μ-loop
-lost-requires c κs = search needs
+dead-scan-requires : tie.Need-dead-scan-requires Inv-loop μ-loop
+dead-scan-requires c κs = search needs
 
 returns : tie.Need-returns Inv-loop μ-loop
-returns c = scanned-lost _ _ _ _ (c .lost .ensures) (row-lost _ _ _ _ (omega arith) (c .before .before .if1 .taken) (c .before .if2 .taken))
+returns c = scanned-dead _ _ _ _ (c .dead-scan .ensures) (row-dead _ _ _ _ (omega arith) (c .before .before .if1 .taken) (c .before .if2 .taken))
 
 only-requires : tie.Need-only-requires Inv-loop μ-loop
 only-requires c κs = search needs
@@ -78,25 +78,5 @@ returns-2 : tie.Need-returns-2 Inv-loop μ-loop
 returns-2 c = passed-all _ _ _ _ _ _ _ _ (c .before .before .loop .inv .1) (c .before .loop-test .left) (c .before .before .loop .inv .0) _ (c .united .ensures)
 
 pub gather-spec : {M : Type 1} → statement M
-gather-spec =
-    tie.close
-    (tie.spec
-    Inv-loop
-    μ-loop
-    loop-holds
-    mul-row
-    shared-slice-read-row
-    lost-requires
-    returns
-    only-requires
-    is-single-requires
-    index-requires
-    mul-common
-    array-read-common
-    mul-common-2
-    array-write-common
-    add-i
-    loop-less
-    loop-again
-    united-requires
-    returns-2)
+gather-spec = tie.close (tie.spec Inv-loop μ-loop loop-holds mul-row shared-slice-read-row dead-scan-requires returns only-requires is-single-requires
+    index-requires mul-common array-read-common mul-common-2 array-write-common add-i loop-less loop-again united-requires returns-2)

@@ -31,6 +31,4 @@ loop-again : tie.Need-loop-again Inv-loop μ-loop
 loop-again c = tightened-on _ _ _ _ _ _ (c .before .before .before .before .loop .inv) (c .before .before .before .tighten .ensures)
 
 pub narrow-spec : {M : Type 1} → statement M
-narrow-spec =
-    tie.close
-    (tie.spec Inv-loop μ-loop loop-holds tighten-requires returns returns-2 loop-less loop-again)
+narrow-spec = tie.close (tie.spec Inv-loop μ-loop loop-holds tighten-requires returns returns-2 loop-less loop-again)

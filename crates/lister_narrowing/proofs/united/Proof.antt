@@ -45,17 +45,5 @@ returns : tie.Need-returns Inv-loop μ-loop
 returns c = c .before .loop .inv .1
 
 pub united-spec : {M : Type 1} → statement M
-united-spec =
-    tie.close
-    (tie.spec
-    Inv-loop
-    μ-loop
-    loop-holds
-    lowest-requires
-    index-requires
-    mul-acc
-    array-read-acc
-    minus-requires
-    loop-less
-    loop-again
+united-spec = tie.close (tie.spec Inv-loop μ-loop loop-holds lowest-requires index-requires mul-acc array-read-acc minus-requires loop-less loop-again
     returns)

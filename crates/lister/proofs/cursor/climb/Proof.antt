@@ -109,28 +109,6 @@ returns-4 : tie.Need-returns-4 Inv-loop μ-loop
 returns-4 c = climbed-all _ _ _ _ (c .before .loop .inv) (c .loop-test .left)
 
 pub climb-spec : {M : Type 1} → statement M
-climb-spec =
-    tie.close
-    (tie.spec
-    Inv-loop
-    μ-loop
-    low-mask-requires
-    returns
-    irredundant-requires
-    returns-2
-    possible-levels-requires
-    loop-holds
-    power-requires
-    sub-s
-    sub-s-2
-    add-s
-    sub-narrow-level
-    narrow-level-requires
-    least-requires
-    enum-known-found
-    returns-3
-    enum-told
-    add-i
-    loop-less
-    loop-again
-    returns-4)
+climb-spec = tie.close (tie.spec Inv-loop μ-loop low-mask-requires returns irredundant-requires returns-2 possible-levels-requires loop-holds
+    power-requires sub-s sub-s-2 add-s sub-narrow-level narrow-level-requires least-requires enum-known-found returns-3 enum-told add-i loop-less
+    loop-again returns-4)

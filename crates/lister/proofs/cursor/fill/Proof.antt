@@ -65,22 +65,5 @@ returns-2 c =
     filled-full _ (row-covers-rising _ _) small _ _ _ _ _ (c .before .before .loop .inv) (c .before .loop-test .left)
 
 pub fill-spec : {M : Type 1} → statement M
-fill-spec =
-    tie.close
-    (tie.spec
-    Inv-loop
-    μ-loop
-    new-requires
-    seek-requires
-    loop-holds
-    same-length
-    returns
-    mul-out
-    slice-write-out
-    add-i
-    past-requires
-    seek-requires-2
-    loop-less
-    loop-again
-    same-length-2
-    returns-2)
+fill-spec = tie.close (tie.spec Inv-loop μ-loop new-requires seek-requires loop-holds same-length returns mul-out slice-write-out add-i past-requires
+    seek-requires-2 loop-less loop-again same-length-2 returns-2)

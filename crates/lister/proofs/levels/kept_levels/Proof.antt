@@ -58,20 +58,5 @@ returns : tie.Need-returns Inv-loop μ-loop
 returns c = c .before .loop .inv .1
 
 pub kept-levels-spec : {M : Type 1} → statement M
-kept-levels-spec =
-    tie.close
-    (tie.spec
-    Inv-loop
-    μ-loop
-    loop-holds
-    lowest-requires
-    index-requires
-    sub-minus
-    mul-minus
-    array-read-minus
-    minus-requires
-    minus-requires-2
-    minus-requires-3
-    loop-less
-    loop-again
-    returns)
+kept-levels-spec = tie.close (tie.spec Inv-loop μ-loop loop-holds lowest-requires index-requires sub-minus mul-minus array-read-minus minus-requires
+    minus-requires-2 minus-requires-3 loop-less loop-again returns)

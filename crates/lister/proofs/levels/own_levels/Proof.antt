@@ -33,14 +33,4 @@ returns-2 c =
     own-second _ _ _ (c .before .before .before .before .before .pre) _ first _ _ _ rest (c .before .highest .ensures) (c .minus3 .ensures)
 
 pub own-levels-spec : {M : Type 1} → statement M
-own-levels-spec =
-    tie.close
-    (tie.spec
-    sub-minus
-    minus-requires
-    minus-requires-2
-    returns
-    highest-requires
-    sub-minus-2
-    minus-requires-3
-    returns-2)
+own-levels-spec = tie.close (tie.spec sub-minus minus-requires minus-requires-2 returns highest-requires sub-minus-2 minus-requires-3 returns-2)

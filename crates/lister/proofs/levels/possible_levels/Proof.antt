@@ -74,25 +74,6 @@ returns : tie.Need-returns Inv-loop μ-loop
 returns c = levels-all _ _ _ _ _ _ (c .before .before .loop .inv .1) (c .before .loop-test .left) (c .before .before .loop .inv .0) (c .kept-levels .ensures)
 
 pub possible-levels-spec : {M : Type 1} → statement M
-possible-levels-spec =
-    tie.close
-    (tie.spec
-    Inv-loop
-    μ-loop
-    loop-holds
-    mul-row
-    shared-slice-read-row
-    highest-requires
-    index-requires
-    mul-alone
-    array-read-alone
-    own-levels-requires
-    mul-alone-2
-    array-write-alone
-    sub-minus
-    minus-requires
-    add-i
-    loop-less
-    loop-again
-    kept-levels-requires
+possible-levels-spec = tie.close (tie.spec Inv-loop μ-loop loop-holds mul-row shared-slice-read-row highest-requires index-requires mul-alone
+    array-read-alone own-levels-requires mul-alone-2 array-write-alone sub-minus minus-requires add-i loop-less loop-again kept-levels-requires
     returns)

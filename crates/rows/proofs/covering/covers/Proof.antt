@@ -44,16 +44,4 @@ unfolding Cover
 returns-2 c = says-true _ (λ k lt. c .before .loop .inv .1 k (omega arith))
 
 pub covers-spec : {M : Type 1} → statement M
-covers-spec =
-    tie.close
-    (tie.spec
-    Inv-loop
-    μ-loop
-    loop-holds
-    mul-if1
-    shared-slice-read-if1
-    returns
-    add-i
-    loop-less
-    loop-again
-    returns-2)
+covers-spec = tie.close (tie.spec Inv-loop μ-loop loop-holds mul-if1 shared-slice-read-if1 returns add-i loop-less loop-again returns-2)

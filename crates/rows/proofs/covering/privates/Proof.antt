@@ -50,16 +50,4 @@ returns c =
     privates-done _ _ _ _ e (c .before .loop .inv .1)
 
 pub privates-spec : {M : Type 1} → statement M
-privates-spec =
-    tie.close
-    (tie.spec
-    Inv-loop
-    μ-loop
-    loop-holds
-    mul-x
-    shared-slice-read-x
-    is-single-requires
-    add-i
-    loop-less
-    loop-again
-    returns)
+privates-spec = tie.close (tie.spec Inv-loop μ-loop loop-holds mul-x shared-slice-read-x is-single-requires add-i loop-less loop-again returns)
