@@ -45,18 +45,5 @@ returns-2 : tie.Need-returns-2 Inv-loop μ-loop
 returns-2 c = says-true _ (measured-all _ _ _ (omega arith) (c .before .loop .inv .1))
 
 pub measures-spec : {M : Type 1} → statement M
-measures-spec =
-    tie.close
-    (tie.spec
-    Inv-loop
-    μ-loop
-    loop-holds
-    mul-if1
-    shared-slice-read-if1
-    cast-if1
-    rem-if1
-    returns
-    add-i
-    loop-less
-    loop-again
+measures-spec = tie.close (tie.spec Inv-loop μ-loop loop-holds mul-if1 shared-slice-read-if1 cast-if1 rem-if1 returns add-i loop-less loop-again
     returns-2)

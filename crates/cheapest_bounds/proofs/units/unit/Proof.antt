@@ -35,15 +35,4 @@ returns-2 : tie.Need-returns-2 Inv-loop μ-loop
 returns-2 c = unit-one _
 
 pub unit-spec : {M : Type 1} → statement M
-unit-spec =
-    tie.close
-    (tie.spec
-    Inv-loop
-    μ-loop
-    loop-holds
-    measures-requires
-    returns
-    sub-u
-    loop-less
-    loop-again
-    returns-2)
+unit-spec = tie.close (tie.spec Inv-loop μ-loop loop-holds measures-requires returns sub-u loop-less loop-again returns-2)

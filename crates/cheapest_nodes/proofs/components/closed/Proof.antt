@@ -61,19 +61,5 @@ returns-2 : tie.Need-returns-2 Inv-loop μ-loop
 returns-2 c = says-true _ (closed-all _ _ _ _ _ (omega arith) (c .before .loop .inv .1))
 
 pub closed-spec : {M : Type 1} → statement M
-closed-spec =
-    tie.close
-    (tie.spec
-    Inv-loop
-    μ-loop
-    loop-holds
-    mul-if1
-    shared-slice-read-if1
-    mul-apart-or-in
-    shared-slice-read-apart-or-in
-    apart-or-in-requires
-    returns
-    add-i
-    loop-less
-    loop-again
-    returns-2)
+closed-spec = tie.close (tie.spec Inv-loop μ-loop loop-holds mul-if1 shared-slice-read-if1 mul-apart-or-in shared-slice-read-apart-or-in
+    apart-or-in-requires returns add-i loop-less loop-again returns-2)

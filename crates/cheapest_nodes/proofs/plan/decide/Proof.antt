@@ -81,23 +81,5 @@ returns-5 c =
     (c5 .choice .given .1) (c7 .choose .ensures)
 
 pub decide-spec : {M : Type 1} → statement M
-decide-spec =
-    tie.close
-    (tie.spec
-    bound-requires
-    add-if1
-    returns
-    sub-affordable
-    affordable-requires
-    thin-requires
-    choose-requires
-    enum-told
-    enum-told-2
-    enum-known-choice
-    component-requires
-    minus-requires
-    divides-requires
-    returns-2
-    returns-3
-    returns-4
-    returns-5)
+decide-spec = tie.close (tie.spec bound-requires add-if1 returns sub-affordable affordable-requires thin-requires choose-requires enum-told enum-told-2
+    enum-known-choice component-requires minus-requires divides-requires returns-2 returns-3 returns-4 returns-5)
