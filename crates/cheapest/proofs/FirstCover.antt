@@ -14,8 +14,8 @@ use Rattle.bits.specs.Bits.{digit, Single, Part, Minus, Member}
 use Rattle.rows.specs.Covers.{Cover, Between, Node}
 use Rattle.cheapest_bounds.specs.Costs.{costOf, noCost, Price, CoverBetween}
 use Rattle.cheapest.specs.Optimum.{Priced, Attained, Known, Valued, LeastCost, Cheapest}
-use Rattle.bits.proofs.Digits.{eq?, digit-lt, digit-or, pow-here}
-use Rattle.bits.proofs.Members.{not-zero, above, within}
+use Rattle.bits.proofs.Digits.{eq?, digit-lt, digit-or}
+use Rattle.bits.proofs.Members.{or-right, not-zero, bit-here, above, within}
 use Rattle.bits.proofs.Parts.{part-le, members, by-members, part-self, part-trans, minus-part, no-common}
 use Rattle.cheapest_bounds.proofs.Costing.{cost-none, cost-join, cost-small}
 use Rattle.rows.proofs.Nodes.{halves, low-node, high-node}
@@ -144,10 +144,10 @@ module _ (rows costs : List ℕ) (n i s cost w m : ℕ) (best : Incumbent) (h : 
   -- what is in the upper half has the candidate
   upper-has : s + m ≤ w → bitAnd w m ≡ 0 → ⊥
   upper-has le z =
-      let in-s : digit (i - 1) (s + m) ≡ 1 = ap (digit (i - 1)) (sym (or-disjoint s m apart)) ∙ omega (arith, digit-or (i - 1) s m, ap (digit (i - 1)) is, pow-here (i - 1), digit-lt (i - 1) s) in
+      let in-s : digit (i - 1) (s + m) ≡ 1 = ap (digit (i - 1)) (sym (or-disjoint s m apart)) ∙ or-right (i - 1) s m (bit-here (i - 1) m is) in
       no-common w m (i - 1) z
       (above (i - 1) (s + m) w (high-half .aligned) le (omega (arith, two, p .high)) (i - 1) in-s)
-      (ap (digit (i - 1)) is ∙ pow-here (i - 1))
+      (bit-here (i - 1) m is)
 
   -- the witness lacks the candidate
   pub witnessed-lacks : bitAnd w m ≡ 0 → Witnessed rows costs n (best .cost) (i - 1) s cost w

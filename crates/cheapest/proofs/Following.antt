@@ -20,10 +20,10 @@ use Rattle.bits.proofs.Parts.{by-members}
 use Rattle.cheapest_bounds.proofs.Costing.{cost-part}
 use Rattle.cheapest_nodes.proofs.Thinning.{reached-wider}
 
-module _ (rows costs : List ℕ) (u s free limit : ℕ) (best : Incumbent) (unit : CommonUnit costs u) (goal : LimitBelow (best .cost) u limit) where
+module _ (rows costs : List ℕ) (u s free limit : ℕ) (best : Incumbent) (unit : CommonUnit costs u) (lower : LimitBelow (best .cost) u limit) where
   -- a cover that is below best is below the limit
   below : (t : ℕ) → costOf costs t < best .cost → costOf costs t < limit
-  below t lt = goal .kept (costOf costs t) (unit .whole t) lt
+  below t lt = lower .kept (costOf costs t) (unit .whole t) lt
 
   pub valued-cut : (cost : ℕ) (next : Next) → next ≡ Cut → Planned rows costs s free cost limit next → Valued rows costs s free best best
   unfolding Planned
@@ -44,10 +44,10 @@ module _ (rows costs : List ℕ) (u s free limit : ℕ) (best : Incumbent) (unit
   valued-met cost next is e h₀ =
       let h : Cover rows s × (cost < limit) = subst (Planned rows costs s free cost limit) e h₀ in
       record {
-        within = omega (arith, h .1, goal .near);
+        within = omega (arith, h .1, lower .near);
         found = inr (
           record { cover = (h .0, (λ b m. m, λ b m. omega (arith, digit-or b s free, digit-lt b free))); cost-is = sym is },
-          omega (arith, h .1, goal .near),
+          omega (arith, h .1, lower .near),
         );
         least = λ t r. omega (arith, cost-part costs s t (by-members s t (r .1 .0)));
       }

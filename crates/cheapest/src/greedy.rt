@@ -27,7 +27,7 @@ fn greedy(rows: &[u64], costs: &[u16], free: u64) -> u64
     s
 }
 
-// The greedy cover and its cost, or a cost that no set has.
+// The greedy cover and its cost, or, where it is no cover, a cost that no set has. Which of the two is left open.
 pub fn start(rows: &[u64], costs: &[u16], free: u64) -> Incumbent
     requires { ⌜ length (now costs) ≤ 64 ⌝ }
     ensures { λ r. ⌜ Known (now (rows .entry)) (now (costs .entry)) free r ⌝ }

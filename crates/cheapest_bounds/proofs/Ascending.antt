@@ -14,8 +14,8 @@ use Rattle.cheapest_bounds.specs.declared.ascent.Duals.{Duals}
 use Rattle.bits.specs.Bits.{digit, Single, Part, Minus, Member, Index}
 use Rattle.cheapest_bounds.specs.Costs.{costOf, noCost, Price, Floor}
 use Rattle.cheapest_bounds.specs.Ascent.{Charged, Paid, Meets, Raised, SameCosts, Dual, Trimmed, Affordable}
-use Rattle.bits.proofs.Digits.{eq?, digit-first, digit-next, digit-lt, a-member, pow-here, pow-only}
-use Rattle.bits.proofs.Members.{and-left, and-right, not-zero}
+use Rattle.bits.proofs.Digits.{eq?, digit-first, digit-next, digit-lt, a-member, pow-only}
+use Rattle.bits.proofs.Members.{and-left, and-right, not-zero, bit-here}
 use Rattle.bits.proofs.Parts.{members, by-members, part-self, part-trans, minus-part}
 use Rattle.bits.proofs.Steps.{taken-gone, others-stay, Visited, visited-none, visited-more, visited-all}
 use Rattle.cheapest_bounds.proofs.Costing.{cost-part, cost-one, cost-small}
@@ -66,7 +66,7 @@ charging-none x y old f = record {
 
 -- the next member can pay
 pub charging-can : (x y rest m i : ℕ) (old new : List ℕ) → Charging x y rest old new → Member rest m → Index m i → y ≤ getD new i 0
-charging-can x y rest m i old new h one is = h .can i (members m rest (one .part) i (ap (digit i) (is .is) ∙ pow-here i))
+charging-can x y rest m i old new h one is = h .can i (members m rest (one .part) i (bit-here i m (is .is)))
 
 module _ (x y rest m i rest' : ℕ) (old mid : List ℕ) (h : Charging x y rest old mid) (one : Member rest m) (is : Index m i) (d : Minus rest m rest')
     (lt : i < length mid) where

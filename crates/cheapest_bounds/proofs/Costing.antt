@@ -11,9 +11,8 @@ use mir.Val.{Fits}
 use lib.Bits.{bitAnd, bitOr, bitXor, and-step, or-step}
 use Rattle.bits.specs.Bits.{digit, Part, Minus, Member}
 use Rattle.cheapest_bounds.specs.Costs.{costOf, noCost, Price, Floor}
-use Rattle.bits.proofs.Digits.{eq?, digit-lt, digit-and, digit-or, digit-ext, digit-of-zero, a-member, pow-only}
-use Rattle.bits.proofs.Members.{and-left}
-use Rattle.bits.proofs.Parts.{members, by-members, minus-bits, apart-by, no-common}
+use Rattle.bits.proofs.Digits.{eq?, digit-lt, digit-and, digit-or, digit-ext, a-member, pow-only}
+use Rattle.bits.proofs.Parts.{members, by-members, minus-bits, part-self, part-or-left, part-and-left, apart-by}
 
 pub cost-none : (ws : List ℕ) → costOf ws 0 ≡ 0
 unfolding costOf
@@ -33,17 +32,19 @@ cost-join (w ∷ ws) a b z =
     omega (arith, ap (λ (x : ℕ). x * w) low, add-mul (a % 2) (b % 2) w, ap (costOf ws) high)
 
 -- a set is a part and the rest
-pub cost-part : (ws : List ℕ) (a t : ℕ) → Part a t → costOf ws a ≤ costOf ws t
+pub cost-apart : (ws : List ℕ) (t m r : ℕ) → Part m t → Minus t m r → costOf ws t ≡ costOf ws m + costOf ws r
 unfolding Minus
-cost-part ws a t p =
-    let d : ℕ = bitXor t (bitAnd t a) in
-    let m : Minus t a d = minus-bits t a in
-    let whole : bitOr a d ≡ t = digit-ext (bitOr a d) t (λ b. ⊎-elim
-    (λ (e : digit b a ≡ 1). omega (arith, members a t p b e, m b, digit-or b a d))
-    (λ (e : digit b a ≡ 1 → ⊥). omega (arith, m b, digit-or b a d, digit-lt b a, digit-lt b t))
-    (eq? (digit b a) 1)) in
-    let apart : bitAnd a d ≡ 0 = digit-ext (bitAnd a d) 0 (λ b. omega (arith, digit-of-zero b, digit-and b a d, m b, digit-lt b a, digit-lt b t)) in
-    omega (arith, cost-join ws a d apart, ap (costOf ws) whole)
+cost-apart ws t m r p d =
+    let whole : bitOr m r ≡ t = digit-ext (bitOr m r) t (λ c. ⊎-elim
+    (λ (e : digit c m ≡ 1). omega (arith, members m t p c e, d c, digit-or c m r))
+    (λ (e : digit c m ≡ 1 → ⊥). omega (arith, d c, digit-or c m r, digit-lt c m, digit-lt c t))
+    (eq? (digit c m) 1)) in
+    let apart : bitAnd m r ≡ 0 = apart-by m r (λ c p' q. omega (arith, d c, digit-lt c t)) in
+    ap (costOf ws) (sym whole) ∙ cost-join ws m r apart
+
+-- so a part costs no more
+pub cost-part : (ws : List ℕ) (a t : ℕ) → Part a t → costOf ws a ≤ costOf ws t
+cost-part ws a t p = omega (arith, cost-apart ws t a (bitXor t (bitAnd t a)) p (minus-bits t a))
 
 -- one member's cost
 pub cost-one : (ws : List ℕ) (b : ℕ) → costOf ws (2 ^ b) ≡ getD ws b 0
@@ -81,28 +82,17 @@ cost-floor ws x r y f p n =
     let one : Part (2 ^ b) y = by-members (2 ^ b) y (λ c h. subst (λ (j : ℕ). digit j y ≡ 1) (sym (pow-only c b h)) (m .1)) in
     omega (arith, f .under b (members y x p b (m .1)), cost-part ws (2 ^ b) y one)
 
--- a set is one of its members and the rest
-pub cost-apart : (ws : List ℕ) (t m r : ℕ) → Part m t → Minus t m r → costOf ws t ≡ costOf ws m + costOf ws r
-unfolding Minus
-cost-apart ws t m r p d =
-    let whole : bitOr m r ≡ t = digit-ext (bitOr m r) t (λ c. ⊎-elim
-    (λ (e : digit c m ≡ 1). omega (arith, members m t p c e, d c, digit-or c m r))
-    (λ (e : digit c m ≡ 1 → ⊥). omega (arith, d c, digit-or c m r, digit-lt c m, digit-lt c t))
-    (eq? (digit c m) 1)) in
-    let apart : bitAnd m r ≡ 0 = apart-by m r (λ c p' q. omega (arith, d c, digit-lt c t)) in
-    ap (costOf ws) (sym whole) ∙ cost-join ws m r apart
-
 -- what two sets cost, they cost together and in common
 pub cost-modular : (ws : List ℕ) (x y : ℕ) → costOf ws (bitOr x y) + costOf ws (bitAnd x y) ≡ costOf ws x + costOf ws y
 unfolding Minus
 cost-modular ws x y =
     let d : ℕ = bitXor y (bitAnd y x) in
     let m : (c : ℕ) → digit c d ≡ digit c y - digit c x = minus-bits y x in
-    let whole : bitOr x d ≡ bitOr x y = digit-ext (bitOr x d) (bitOr x y) (λ c. omega (arith, m c, digit-or c x d, digit-or c x y, digit-lt c x, digit-lt c y)) in
-    let apart : bitAnd x d ≡ 0 = apart-by x d (λ c p q. omega (arith, m c, digit-lt c y)) in
-    let rest : bitOr (bitAnd x y) d ≡ y = digit-ext (bitOr (bitAnd x y) d) y (λ c. omega (arith, m c, digit-and c x y, digit-or c (bitAnd x y) d, digit-lt c x, digit-lt c y)) in
-    let apart' : bitAnd (bitAnd x y) d ≡ 0 = apart-by (bitAnd x y) d (λ c p q. no-common x d c apart (and-left c x y p) q) in
-    omega (arith, cost-join ws x d apart, ap (costOf ws) whole, cost-join ws (bitAnd x y) d apart', ap (costOf ws) rest)
+    omega (
+      arith,
+      cost-apart ws (bitOr x y) x d (part-or-left x x y (part-self x)) (λ c. omega (arith, m c, digit-or c x y, digit-lt c x, digit-lt c y)),
+      cost-apart ws y (bitAnd x y) d (part-and-left x y) (λ c. omega (arith, m c, digit-and c x y, digit-lt c x, digit-lt c y)),
+    )
 
 -- so together no more than apart
 pub cost-either : (ws : List ℕ) (x y : ℕ) → costOf ws (bitOr x y) ≤ costOf ws x + costOf ws y

@@ -1,9 +1,9 @@
 -- Costs that are multiples of a unit: sums of them are, and a limit between two multiples can be lowered to the lower one.
-use mathlib.Core.Path.{_≡_, ap}
+use mathlib.Core.Path.{_≡_, ap, _∙_}
 use mathlib.Core.Logic.{⊎-elim}
 use mathlib.Core.List.{List, [], _∷_}
 use Prim.Native.Nat.{ℕ, suc, _+_, _-_, _*_, _/_, _%_, _≤_, _<_}
-use native.Mathlib.Nat.{add-mul, one-mul, zero-mul, div-add-mod', mod-lt, mul-le-mul-right, mul-one}
+use native.Mathlib.Nat.{add-mul, one-mul, zero-mul, div-add-mod', mod-lt, mul-le-mul-right, mul-mod-left, mul-one}
 use native.Mathlib.Decide.{decLe}
 use native.Mathlib.Omega.{arith}
 use borrow.Author.Count.{below-more}
@@ -26,6 +26,10 @@ pub measured-more : (costs : List ℕ) (u n : ℕ) → Measured costs u n → ge
 unfolding Measured Multiple
 measured-more costs u n h z =
     below-more (λ k. Multiple u (getD costs k 0)) n h (getD costs n 0 / u, omega (arith, div-add-mod' (getD costs n 0) u))
+
+pub measured-zero : (costs : List ℕ) (u n : ℕ) → n < length costs → Measures costs u → getD costs n 0 % u ≡ 0
+unfolding Measures Multiple
+measured-zero costs u n lt h = ap (λ (x : ℕ). x % u) (h n lt .1) ∙ mul-mod-left (h n lt .0) u
 
 pub measured-all : (costs : List ℕ) (u n : ℕ) → n ≡ length costs → Measured costs u n → Measures costs u
 unfolding Measured Measures
@@ -51,7 +55,7 @@ pub unit-one : (costs : List ℕ) → CommonUnit costs 1
 unfolding Multiple
 unit-one costs = record { positive = omega arith; whole = λ t. (costOf costs t, omega (arith, mul-one (costOf costs t))) }
 
--- ---- the goal
+-- ---- the limit
 
 pub limit-zero : (cost u : ℕ) → cost ≡ 0 → LimitBelow cost u 0
 limit-zero cost u z = record { near = omega arith; kept = λ c m lt. absurd (omega arith) }

@@ -9,11 +9,11 @@ use Rattle.cheapest_bounds.specs.Costs.{costOf}
 unfoldable pub Multiple : ℕ → ℕ → Type 0
 Multiple u c = (q : ℕ) × (c ≡ q * u)
 
--- each of the costs is
+-- each of the costs is a multiple of u
 unfoldable pub Measures : List ℕ → ℕ → Type 0
 Measures costs u = (k : ℕ) → k < length costs → Multiple u (getD costs k 0)
 
--- the cost of each set is
+-- u is not 0, and the cost of each set is a multiple of it
 pub record CommonUnit (costs : List ℕ) (u : ℕ) : Type 0 where
   pub positive : 0 < u
   pub whole : (t : ℕ) → Multiple u (costOf costs t)

@@ -1,13 +1,12 @@
 // Costs come in steps: where each cost is a multiple of a unit, a cover that costs less than another costs at least a unit less.
-ghost use mathlib.Core.Path.{_≡_};
-ghost use mathlib.Core.Bool.{true};
 ghost use Prim.Native.Nat.{_<_};
+ghost use Rattle.bits.specs.Bits.{Decides};
 ghost use Rattle.cheapest_bounds.specs.Units.{Measures, CommonUnit, LimitBelow};
 
-// Whether each cost is a multiple of u. Only true says something: with a smaller unit the search is slower, not wrong.
+// Whether each cost is a multiple of u.
 fn measures(costs: &[u16], u: u64) -> bool
     requires { ⌜ 0 < u ⌝ }
-    ensures { λ r. ⌜ (r ≡ true → Measures (now (costs .entry)) u) ⌝ }
+    ensures { λ r. ⌜ Decides (Measures (now (costs .entry)) u) r ⌝ }
 {
     let mut i = 0;
     while i < costs.len() {
@@ -33,7 +32,7 @@ pub fn unit(costs: &[u16]) -> u64
     1
 }
 
-// The least limit above the multiples of u that are below cost.
+// The least limit above the multiples of u that are below cost; that it is the least is left open.
 pub fn limit_below(cost: u64, u: u64) -> u64
     requires { ⌜ 0 < u ⌝ }
     ensures { λ r. ⌜ LimitBelow cost u r ⌝ }

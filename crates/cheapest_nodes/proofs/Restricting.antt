@@ -1,5 +1,5 @@
 -- What the unmet rows of each candidate have in common, row by row and entry by entry.
-use mathlib.Core.Path.{_≡_, sym, ap, _∙_, subst}
+use mathlib.Core.Path.{_≡_, refl, sym, _∙_, subst}
 use mathlib.Core.Logic.{⊎-elim}
 use mathlib.Core.List.{List}
 use Prim.Native.Nat.{ℕ, _+_, _^_, _<_}
@@ -10,8 +10,8 @@ use lib.Seq.{getD-set-same, getD-set-other}
 use lib.Bits.{bitAnd}
 use Rattle.bits.specs.Bits.{digit, Part, Minus, Member, Index}
 use Rattle.cheapest_nodes.specs.Nodes.{Dominators, Restricted, Shared}
-use Rattle.bits.proofs.Digits.{eq?, a-member, pow-here, pow-only}
-use Rattle.bits.proofs.Members.{and-left, and-right, and-both}
+use Rattle.bits.proofs.Digits.{eq?}
+use Rattle.bits.proofs.Members.{and-both, bit-here, has-bit}
 use Rattle.bits.proofs.Parts.{members, part-self, part-trans, part-and-left, part-and-less}
 use Rattle.bits.proofs.Steps.{Visited, visited-none, visited-more, visited-all}
 
@@ -80,13 +80,8 @@ module _ (rows : List ℕ) (n s free : ℕ) (old : List ℕ) (h : Shared rows n 
     size = w .size ∙ h .size;
     each = λ b m. below-more (λ k. bitAnd (getD rows k 0) s ≡ 0 → (bitAnd (getD rows k 0) (2 ^ b) ≡ 0 → ⊥) → Part (getD new b 0) (getD rows k 0)) n
         (λ k lt z q. part-trans (getD new b 0) (getD old b 0) (getD rows k 0) (w .less b) (h .each b m k lt z q))
-        (λ z q. w .met b (and-both b (getD rows n 0) free (one-in b (getD rows n 0) q) m));
+        (λ z q. w .met b (and-both b (getD rows n 0) free (has-bit b (2 ^ b) refl (getD rows n 0) q) m));
   }
-    where
-      one-in : (b x : ℕ) → (bitAnd x (2 ^ b) ≡ 0 → ⊥) → digit b x ≡ 1
-      one-in b x nz =
-          let m : (c : ℕ) × (digit c (bitAnd x (2 ^ b)) ≡ 1) = a-member (bitAnd x (2 ^ b)) nz in
-          subst (λ (c : ℕ). digit c x ≡ 1) (pow-only (m .0) b (and-right (m .0) x (2 ^ b) (m .1))) (and-left (m .0) x (2 ^ b) (m .1))
 
 pub shared-all : (rows : List ℕ) (n s free : ℕ) (common : List ℕ) → n ≡ length rows → Shared rows n s free common → Shared rows (length rows) s free common
 shared-all rows n s free common e h = subst (λ (m : ℕ). Shared rows m s free common) e h
@@ -95,5 +90,5 @@ shared-all rows n s free common e h = subst (λ (m : ℕ). Shared rows m s free 
 pub shared-one : (rows : List ℕ) (s free rest m i : ℕ) (common : List ℕ) → Shared rows (length rows) s free common → Part rest free → Member rest m → Index m i
     → Dominators rows (length rows) s m (getD common i 0)
 shared-one rows s free rest m i common h p one is =
-    let in-rest : digit i rest ≡ 1 = members m rest (one .part) i (ap (digit i) (is .is) ∙ pow-here i) in
+    let in-rest : digit i rest ≡ 1 = members m rest (one .part) i (bit-here i m (is .is)) in
     subst (λ (x : ℕ). Dominators rows (length rows) s x (getD common i 0)) (sym (is .is)) (h .each i (members rest free p i in-rest))

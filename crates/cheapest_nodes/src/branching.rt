@@ -65,6 +65,7 @@ fn smaller(x: u64, y: u64) -> u64
 }
 
 // The most effective free candidate of the unmet row with fewest of them; or that s is a cover, or that none lies between s and s | free.
+// Which candidate is tried is left open.
 pub fn choose(rows: &[u64], costs: &[u16], s: u64, free: u64) -> Choice
     ensures { λ r. ⌜ Chosen (now (rows .entry)) s free r ⌝ }
 {

@@ -1,31 +1,30 @@
 // Rows that fall apart into two groups with no candidate in common.
 ghost use mathlib.Core.Path.{_≡_};
-ghost use mathlib.Core.Bool.{true, false};
 ghost use mathlib.Core.Logic.{_⊎_};
 ghost use Prim.Native.Nat.{_<_};
 ghost use lib.ListN.{length};
 ghost use lib.Bits.{bitAnd};
-ghost use Rattle.bits.specs.Bits.{Part};
+ghost use Rattle.bits.specs.Bits.{Decides, Part};
 ghost use Rattle.cheapest_nodes.specs.Nodes.{Closed, Component};
 
-// Whether x is partly in a: it has members in a and others. Only false says something.
-fn partly_in(x: u64, a: u64) -> bool
-    ensures { λ r. ⌜ (r ≡ false → (bitAnd x a ≡ 0) ⊎ Part x a) ⌝ }
+// Whether x is apart from a or in a, and not partly in it.
+fn apart_or_in(x: u64, a: u64) -> bool
+    ensures { λ r. ⌜ Decides ((bitAnd x a ≡ 0) ⊎ Part x a) r ⌝ }
 {
     if x & a == 0 {
-        return false;
+        return true;
     }
-    x & a != x
+    x & a == x
 }
 
-// False if some unmet row is partly in a. Only true says something.
+// Whether no unmet row is partly in a.
 fn closed(rows: &[u64], s: u64, free: u64, a: u64) -> bool
-    ensures { λ r. ⌜ (r ≡ true → Closed (now (rows .entry)) (length (now (rows .entry))) s free a) ⌝ }
+    ensures { λ r. ⌜ Decides (Closed (now (rows .entry)) (length (now (rows .entry))) s free a) r ⌝ }
 {
     let mut i = 0;
     while i < rows.len() {
         if rows[i] & s == 0 {
-            if partly_in(rows[i] & free, a) {
+            if !apart_or_in(rows[i] & free, a) {
                 return false;
             }
         }
@@ -76,9 +75,9 @@ pub fn component(rows: &[u64], s: u64, free: u64, m: u64) -> u64
     free
 }
 
-// Whether a and b are less than free, and free is apart from s. Only true says something.
+// Whether a and b are less than free, and free is apart from s.
 pub fn divides(s: u64, free: u64, a: u64, b: u64) -> bool
-    ensures { λ r. ⌜ (r ≡ true → (a < free) × (b < free) × (bitAnd s free ≡ 0)) ⌝ }
+    ensures { λ r. ⌜ Decides ((a < free) × (b < free) × (bitAnd s free ≡ 0)) r ⌝ }
 {
     if a < free {
         if b < free {

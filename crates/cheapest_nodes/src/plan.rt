@@ -23,6 +23,7 @@ pub enum Next {
 }
 
 // How to look for a cover of the rows, of which s meets none, between s and s | free that costs less than limit; cost is that of s.
+// Which way is taken is left open: each is right where it is taken.
 fn decide(rows: &[u64], costs: &[u16], s: u64, free: u64, cost: u64, limit: u64) -> Next
     requires { ⌜ length (now costs) ≤ 64 ⌝ }
     requires { ⌜ cost ≡ costOf (now costs) s ⌝ }

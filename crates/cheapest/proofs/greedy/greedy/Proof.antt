@@ -37,16 +37,5 @@ returns-2 : tie.Need-returns-2 Inv-loop μ-loop
 returns-2 c = c .before .loop .inv .taken
 
 pub greedy-spec : {M : Type 1} → statement M
-greedy-spec =
-    tie.close
-    (tie.spec
-    Inv-loop
-    μ-loop
-    loop-holds
-    covers-requires
-    returns
-    most-effective-requires
-    minus-requires
-    loop-less
-    loop-again
+greedy-spec = tie.close (tie.spec Inv-loop μ-loop loop-holds covers-requires returns most-effective-requires minus-requires loop-less loop-again
     returns-2)

@@ -51,6 +51,4 @@ returns-2 c =
     optimal-cover _ _ _ _ (start .pre .1) (small-entries (start .args .costs .now) (c7 .shared-slice-known2 .given)) (c .first .ensures)
 
 pub cheapest-spec : {M : Type 1} → statement M
-cheapest-spec =
-    tie.close
-    (tie.spec low-mask-requires unit-requires start-requires value-requires returns first-requires returns-2)
+cheapest-spec = tie.close (tie.spec low-mask-requires unit-requires start-requires value-requires returns first-requires returns-2)

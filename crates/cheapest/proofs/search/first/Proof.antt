@@ -104,24 +104,5 @@ returns : tie.Need-returns Inv-loop μ-loop
 returns c = witnessed-all _ _ _ _ _ _ _ _ (c .loop-test .left) (c .before .before .before .before .pre .1 .1 .1 .1) (c .before .loop .inv)
 
 pub first-spec : {M : Type 1} → statement M
-first-spec =
-    tie.close
-    (tie.spec
-    Inv-loop
-    μ-loop
-    loop-holds
-    sub-i
-    power-requires
-    add-value
-    low-mask-requires
-    value-requires
-    loop-less
-    loop-again
-    price-requires
-    add-cost
-    add-s
-    loop-less-2
-    loop-again-2
-    loop-less-3
-    loop-again-3
-    returns)
+first-spec = tie.close (tie.spec Inv-loop μ-loop loop-holds sub-i power-requires add-value low-mask-requires value-requires loop-less loop-again
+    price-requires add-cost add-s loop-less-2 loop-again-2 loop-less-3 loop-again-3 returns)

@@ -29,13 +29,4 @@ returns-3 c =
     affordable-trimmed _ _ _ _ _ _ (c4 .ascent .ensures) (c3 .if2 .left) (c .trim .ensures)
 
 pub affordable-spec : {M : Type 1} → statement M
-affordable-spec =
-    tie.close
-    (tie.spec
-    returns
-    ascent-requires
-    returns-2
-    slice-aggregate-trim
-    sub-trim
-    trim-requires
-    returns-3)
+affordable-spec = tie.close (tie.spec returns ascent-requires returns-2 slice-aggregate-trim sub-trim trim-requires returns-3)

@@ -89,25 +89,6 @@ returns c =
     (raised-six _ (c16 .raise .ensures) (c13 .raise2 .ensures) (c10 .raise3 .ensures) (c7 .raise4 .ensures) (c4 .raise5 .ensures) (c .before .raise6 .ensures))
 
 pub ascent-spec : {M : Type 1} → statement M
-ascent-spec =
-    tie.close
-    (tie.spec
-    padded-requires
-    slice-aggregate-raise
-    raise-requires
-    slice-aggregate-raise-2
-    raise-requires-2
-    slice-aggregate-raise-3
-    raise-requires-3
-    slice-aggregate-raise-4
-    raise-requires-4
-    slice-aggregate-raise-5
-    raise-requires-5
-    slice-aggregate-raise-6
-    raise-requires-6
-    add-t23
-    add-t24
-    add-t25
-    add-t26
-    add-t27
-    returns)
+ascent-spec = tie.close (tie.spec padded-requires slice-aggregate-raise raise-requires slice-aggregate-raise-2 raise-requires-2 slice-aggregate-raise-3
+    raise-requires-3 slice-aggregate-raise-4 raise-requires-4 slice-aggregate-raise-5 raise-requires-5 slice-aggregate-raise-6 raise-requires-6 add-t23
+    add-t24 add-t25 add-t26 add-t27 returns)

@@ -69,22 +69,5 @@ returns : tie.Need-returns Inv-loop μ-loop
 returns c = charging-all _ _ _ _ _ (c .loop-test .left) (c .before .loop .inv)
 
 pub charge-spec : {M : Type 1} → statement M
-charge-spec =
-    tie.close
-    (tie.spec
-    Inv-loop
-    μ-loop
-    cast-y16
-    loop-holds
-    lowest-requires
-    index-requires
-    mul-left
-    slice-read-left
-    sub-left
-    mul-left-2
-    slice-write-left
-    minus-requires
-    loop-less
-    loop-again
-    same-length
-    returns)
+charge-spec = tie.close (tie.spec Inv-loop μ-loop cast-y16 loop-holds lowest-requires index-requires mul-left slice-read-left sub-left mul-left-2
+    slice-write-left minus-requires loop-less loop-again same-length returns)

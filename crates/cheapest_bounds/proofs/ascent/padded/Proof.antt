@@ -41,17 +41,5 @@ returns : tie.Need-returns Inv-loop μ-loop
 returns c = padding-all _ _ _ (omega arith) (c .before .loop .inv .1)
 
 pub padded-spec : {M : Type 1} → statement M
-padded-spec =
-    tie.close
-    (tie.spec
-    Inv-loop
-    μ-loop
-    loop-holds
-    mul-left
-    shared-slice-read-left
-    mul-left-2
-    array-write-left
-    add-i
-    loop-less
-    loop-again
+padded-spec = tie.close (tie.spec Inv-loop μ-loop loop-holds mul-left shared-slice-read-left mul-left-2 array-write-left add-i loop-less loop-again
     returns)

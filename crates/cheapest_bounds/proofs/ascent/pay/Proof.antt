@@ -39,6 +39,4 @@ returns-4 c =
     paid-some _ _ _ _ (c9 .if1 .left) (c .before .before .charge .ensures)
 
 pub pay-spec : {M : Type 1} → statement M
-pay-spec =
-    tie.close
-    (tie.spec returns returns-2 floor-requires same-length returns-3 sub-y charge-requires same-length-2 returns-4)
+pay-spec = tie.close (tie.spec returns returns-2 floor-requires same-length returns-3 sub-y charge-requires same-length-2 returns-4)

@@ -56,18 +56,5 @@ returns : tie.Need-returns Inv-loop μ-loop
 returns c = raising-all _ _ _ _ _ (omega arith) (c .before .loop .inv .1)
 
 pub raise-spec : {M : Type 1} → statement M
-raise-spec =
-    tie.close
-    (tie.spec
-    Inv-loop
-    μ-loop
-    loop-holds
-    mul-pay
-    shared-slice-read-pay
-    pay-requires
-    add-sum
-    add-i
-    loop-less
-    loop-again
-    same-length
+raise-spec = tie.close (tie.spec Inv-loop μ-loop loop-holds mul-pay shared-slice-read-pay pay-requires add-sum add-i loop-less loop-again same-length
     returns)

@@ -48,18 +48,5 @@ returns : tie.Need-returns Inv-loop μ-loop
 returns c = c .before .loop .inv
 
 pub trim-spec : {M : Type 1} → statement M
-trim-spec =
-    tie.close
-    (tie.spec
-    Inv-loop
-    μ-loop
-    loop-holds
-    lowest-requires
-    minus-requires
-    price-requires
-    minus-requires-2
-    loop-less
-    loop-again
-    loop-less-2
-    loop-again-2
-    returns)
+trim-spec = tie.close (tie.spec Inv-loop μ-loop loop-holds lowest-requires minus-requires price-requires minus-requires-2 loop-less loop-again
+    loop-less-2 loop-again-2 returns)

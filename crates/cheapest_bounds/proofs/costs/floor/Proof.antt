@@ -43,16 +43,4 @@ returns-2 : tie.Need-returns-2 Inv-loop μ-loop
 returns-2 c = floored-all _ _ _ _ (c .loop-test .left) (c .before .loop .inv)
 
 pub floor-spec : {M : Type 1} → statement M
-floor-spec =
-    tie.close
-    (tie.spec
-    Inv-loop
-    μ-loop
-    loop-holds
-    lowest-requires
-    price-requires
-    returns
-    minus-requires
-    loop-less
-    loop-again
-    returns-2)
+floor-spec = tie.close (tie.spec Inv-loop μ-loop loop-holds lowest-requires price-requires returns minus-requires loop-less loop-again returns-2)

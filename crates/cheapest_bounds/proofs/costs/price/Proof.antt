@@ -24,6 +24,4 @@ returns-2 : tie.Need-returns-2
 returns-2 c = priced-past _ _ _ (c .before .index .ensures) (omega arith)
 
 pub price-spec : {M : Type 1} → statement M
-price-spec =
-    tie.close
-    (tie.spec index-requires mul-result shared-slice-read-result cast-result returns returns-2)
+price-spec = tie.close (tie.spec index-requires mul-result shared-slice-read-result cast-result returns returns-2)

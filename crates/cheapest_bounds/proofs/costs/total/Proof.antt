@@ -46,16 +46,4 @@ returns : tie.Need-returns Inv-loop μ-loop
 returns c = total-all _ _ _ _ (c .loop-test .left) (c .before .loop .inv)
 
 pub total-spec : {M : Type 1} → statement M
-total-spec =
-    tie.close
-    (tie.spec
-    Inv-loop
-    μ-loop
-    loop-holds
-    lowest-requires
-    price-requires
-    add-sum
-    minus-requires
-    loop-less
-    loop-again
-    returns)
+total-spec = tie.close (tie.spec Inv-loop μ-loop loop-holds lowest-requires price-requires add-sum minus-requires loop-less loop-again returns)

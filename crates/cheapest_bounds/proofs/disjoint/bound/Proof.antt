@@ -67,21 +67,5 @@ returns-2 c =
     packed-all _ _ _ _ _ _ (start .pre) (small-entries (start .args .costs .now) (c .before .before .shared-slice-known2 .given)) (c .before .loop .inv .1)
 
 pub bound-spec : {M : Type 1} → statement M
-bound-spec =
-    tie.close
-    (tie.spec
-    Inv-loop
-    μ-loop
-    loop-holds
-    mul-if1
-    shared-slice-read-if1
-    returns
-    mul-fresh
-    shared-slice-read-fresh
-    fresh-requires
-    floor-requires
-    add-sum
-    add-i
-    loop-less
-    loop-again
-    returns-2)
+bound-spec = tie.close (tie.spec Inv-loop μ-loop loop-holds mul-if1 shared-slice-read-if1 returns mul-fresh shared-slice-read-fresh fresh-requires
+    floor-requires add-sum add-i loop-less loop-again returns-2)

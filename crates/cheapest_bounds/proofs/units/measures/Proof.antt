@@ -2,10 +2,9 @@
 use borrow.Author.Needs.{needs}
 use Prim.Native.Nat.{_-_, _≤_}
 use native.Mathlib.Omega.{arith}
-use mathlib.Core.Path.{sym}
 use lib.ListN.{length}
-use Rattle.bits.proofs.Decide.{true-is-not-false}
-use Rattle.cheapest_bounds.proofs.Measuring.{Measured, measured-none, measured-more, measured-all}
+use Rattle.bits.proofs.Decide.{says-true, says-false}
+use Rattle.cheapest_bounds.proofs.Measuring.{Measured, measured-none, measured-more, measured-zero, measured-all}
 use Rattle.cheapest_bounds.proofs.units.measures.Statement.{statement}
 use Rattle.cheapest_bounds.proofs.units.measures.Tie as tie
 
@@ -31,7 +30,7 @@ rem-if1 : tie.Need-rem-if1 Inv-loop μ-loop
 rem-if1 c = search needs
 
 returns : tie.Need-returns Inv-loop μ-loop
-returns c = λ e. absurd (true-is-not-false (sym e))
+returns c = says-false _ (λ h. c .if1 .taken (measured-zero _ _ _ (c .before .before .loop-test .taken) h))
 
 add-i : tie.Need-add-i Inv-loop μ-loop
 add-i c = search needs
@@ -43,21 +42,8 @@ loop-again : tie.Need-loop-again Inv-loop μ-loop
 loop-again c = (search needs, measured-more _ _ _ (c .before .before .before .loop .inv .1) (omega (arith, c .if1 .left)))
 
 returns-2 : tie.Need-returns-2 Inv-loop μ-loop
-returns-2 c = λ e. measured-all _ _ _ (omega arith) (c .before .loop .inv .1)
+returns-2 c = says-true _ (measured-all _ _ _ (omega arith) (c .before .loop .inv .1))
 
 pub measures-spec : {M : Type 1} → statement M
-measures-spec =
-    tie.close
-    (tie.spec
-    Inv-loop
-    μ-loop
-    loop-holds
-    mul-if1
-    shared-slice-read-if1
-    cast-if1
-    rem-if1
-    returns
-    add-i
-    loop-less
-    loop-again
+measures-spec = tie.close (tie.spec Inv-loop μ-loop loop-holds mul-if1 shared-slice-read-if1 cast-if1 rem-if1 returns add-i loop-less loop-again
     returns-2)

@@ -60,21 +60,5 @@ returns-3 : tie.Need-returns-3 Inv-loop μ-loop
 returns-3 c = chosen-try _ _ _ _ _ (c .before .before .before .loop .inv .1) _ (c .most-effective .ensures)
 
 pub choose-spec : {M : Type 1} → statement M
-choose-spec =
-    tie.close
-    (tie.spec
-    Inv-loop
-    μ-loop
-    loop-holds
-    mul-if1
-    shared-slice-read-if1
-    mul-x
-    shared-slice-read-x
-    returns
-    smaller-requires
-    add-i
-    loop-less
-    loop-again
-    returns-2
-    most-effective-requires
-    returns-3)
+choose-spec = tie.close (tie.spec Inv-loop μ-loop loop-holds mul-if1 shared-slice-read-if1 mul-x shared-slice-read-x returns smaller-requires add-i
+    loop-less loop-again returns-2 most-effective-requires returns-3)

@@ -47,18 +47,5 @@ returns : tie.Need-returns Inv-loop μ-loop
 returns c = search needs
 
 pub gain-spec : {M : Type 1} → statement M
-gain-spec =
-    tie.close
-    (tie.spec
-    Inv-loop
-    μ-loop
-    loop-holds
-    mul-if1
-    shared-slice-read-if1
-    mul-if2
-    shared-slice-read-if2
-    add-n
-    add-i
-    loop-less
-    loop-again
+gain-spec = tie.close (tie.spec Inv-loop μ-loop loop-holds mul-if1 shared-slice-read-if1 mul-if2 shared-slice-read-if2 add-n add-i loop-less loop-again
     returns)

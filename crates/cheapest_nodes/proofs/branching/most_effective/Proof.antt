@@ -80,24 +80,5 @@ returns : tie.Need-returns Inv-loop μ-loop
 returns c = c .before .loop .inv .0
 
 pub most-effective-spec : {M : Type 1} → statement M
-most-effective-spec =
-    tie.close
-    (tie.spec
-    Inv-loop
-    μ-loop
-    lowest-requires
-    gain-requires
-    minus-requires
-    loop-holds
-    lowest-requires-2
-    minus-requires-2
-    gain-requires-2
-    price-requires
-    mul-if1
-    price-requires-2
-    mul-if1-2
-    loop-less
-    loop-again
-    loop-less-2
-    loop-again-2
-    returns)
+most-effective-spec = tie.close (tie.spec Inv-loop μ-loop lowest-requires gain-requires minus-requires loop-holds lowest-requires-2 minus-requires-2
+    gain-requires-2 price-requires mul-if1 price-requires-2 mul-if1-2 loop-less loop-again loop-less-2 loop-again-2 returns)

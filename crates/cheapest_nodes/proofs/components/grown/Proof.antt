@@ -32,15 +32,4 @@ returns-2 : tie.Need-returns-2 Inv-loop μ-loop
 returns-2 c = search needs
 
 pub grown-spec : {M : Type 1} → statement M
-grown-spec =
-    tie.close
-    (tie.spec
-    Inv-loop
-    μ-loop
-    loop-holds
-    spread-requires
-    returns
-    add-i
-    loop-less
-    loop-again
-    returns-2)
+grown-spec = tie.close (tie.spec Inv-loop μ-loop loop-holds spread-requires returns add-i loop-less loop-again returns-2)

@@ -39,17 +39,5 @@ returns : tie.Need-returns Inv-loop μ-loop
 returns c = search needs
 
 pub spread-spec : {M : Type 1} → statement M
-spread-spec =
-    tie.close
-    (tie.spec
-    Inv-loop
-    μ-loop
-    loop-holds
-    mul-if1
-    shared-slice-read-if1
-    mul-x
-    shared-slice-read-x
-    add-i
-    loop-less
-    loop-again
+spread-spec = tie.close (tie.spec Inv-loop μ-loop loop-holds mul-if1 shared-slice-read-if1 mul-x shared-slice-read-x add-i loop-less loop-again
     returns)

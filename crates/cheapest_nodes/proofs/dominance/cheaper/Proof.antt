@@ -53,18 +53,5 @@ returns-3 : tie.Need-returns-3 Inv-loop μ-loop
 returns-3 c = cheaper-none _ _ _
 
 pub cheaper-spec : {M : Type 1} → statement M
-cheaper-spec =
-    tie.close
-    (tie.spec
-    Inv-loop
-    μ-loop
-    price-requires
-    loop-holds
-    lowest-requires
-    price-requires-2
-    returns
-    returns-2
-    minus-requires
-    loop-less
-    loop-again
-    returns-3)
+cheaper-spec = tie.close (tie.spec Inv-loop μ-loop price-requires loop-holds lowest-requires price-requires-2 returns returns-2 minus-requires
+    loop-less loop-again returns-3)

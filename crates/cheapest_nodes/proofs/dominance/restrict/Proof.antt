@@ -59,20 +59,5 @@ returns : tie.Need-returns Inv-loop μ-loop
 returns c = restricting-all _ _ _ _ _ (c .loop-test .left) (c .before .loop .inv)
 
 pub restrict-spec : {M : Type 1} → statement M
-restrict-spec =
-    tie.close
-    (tie.spec
-    Inv-loop
-    μ-loop
-    loop-holds
-    lowest-requires
-    index-requires
-    mul-common
-    slice-read-common
-    mul-common-2
-    slice-write-common
-    minus-requires
-    loop-less
-    loop-again
-    same-length
-    returns)
+restrict-spec = tie.close (tie.spec Inv-loop μ-loop loop-holds lowest-requires index-requires mul-common slice-read-common mul-common-2
+    slice-write-common minus-requires loop-less loop-again same-length returns)

@@ -61,21 +61,5 @@ returns : tie.Need-returns Inv-loop μ-loop
 returns c = shared-all _ _ _ _ _ (omega arith) (c .before .loop .inv .1)
 
 pub shared-spec : {M : Type 1} → statement M
-shared-spec =
-    tie.close
-    (tie.spec
-    Inv-loop
-    μ-loop
-    loop-holds
-    mul-if1
-    shared-slice-read-if1
-    slice-aggregate-restrict
-    mul-restrict
-    shared-slice-read-restrict
-    mul-restrict-2
-    shared-slice-read-restrict-2
-    restrict-requires
-    add-i
-    loop-less
-    loop-again
-    returns)
+shared-spec = tie.close (tie.spec Inv-loop μ-loop loop-holds mul-if1 shared-slice-read-if1 slice-aggregate-restrict mul-restrict
+    shared-slice-read-restrict mul-restrict-2 shared-slice-read-restrict-2 restrict-requires add-i loop-less loop-again returns)

@@ -83,23 +83,5 @@ returns : tie.Need-returns Inv-loop μ-loop
 returns c = c .before .loop .inv .0
 
 pub thin-spec : {M : Type 1} → statement M
-thin-spec =
-    tie.close
-    (tie.spec
-    Inv-loop
-    μ-loop
-    shared-requires
-    unmet-members-requires
-    loop-holds
-    lowest-requires
-    minus-requires
-    minus-requires-2
-    index-requires
-    mul-cheaper
-    array-read-cheaper
-    cheaper-requires
-    loop-less
-    loop-again
-    loop-less-2
-    loop-again-2
-    returns)
+thin-spec = tie.close (tie.spec Inv-loop μ-loop shared-requires unmet-members-requires loop-holds lowest-requires minus-requires minus-requires-2
+    index-requires mul-cheaper array-read-cheaper cheaper-requires loop-less loop-again loop-less-2 loop-again-2 returns)

@@ -49,17 +49,5 @@ returns : tie.Need-returns Inv-loop μ-loop
 returns c = unmet-all _ _ _ _ (omega arith) (c .before .loop .inv .1)
 
 pub unmet-members-spec : {M : Type 1} → statement M
-unmet-members-spec =
-    tie.close
-    (tie.spec
-    Inv-loop
-    μ-loop
-    loop-holds
-    mul-if1
-    shared-slice-read-if1
-    mul-acc
-    shared-slice-read-acc
-    add-i
-    loop-less
-    loop-again
-    returns)
+unmet-members-spec = tie.close (tie.spec Inv-loop μ-loop loop-holds mul-if1 shared-slice-read-if1 mul-acc shared-slice-read-acc add-i loop-less
+    loop-again returns)

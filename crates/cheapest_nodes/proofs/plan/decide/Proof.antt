@@ -1,4 +1,5 @@
 -- `cheapest_nodes::plan::decide` meets its contract.
+use Rattle.bits.proofs.Decide.{decides-true}
 use Rattle.cheapest_bounds.proofs.Costing.{cost-fits, small-entries}
 use Rattle.cheapest_nodes.proofs.Planning.{cut-bound, sufficient-thinned, done-next, lost-next, split-next, branch-next}
 use native.Mathlib.Omega.{arith}
@@ -54,7 +55,7 @@ returns-2 c =
     let c9 = c8 .before in
     let start = c9 .before .before .before .before .before in
     split-next _ _ _ _ _ _ _ (sufficient-thinned _ _ _ _ (start .pre .1 .1) _ _ _ _ (start .pre .1 .0) (c9 .affordable .ensures) (c8 .thin .ensures)) _ _
-    (c3 .component .ensures) (c .before .before .minus .ensures) (c .before .divides .ensures (c .if2 .taken))
+    (c3 .component .ensures) (c .before .before .minus .ensures) (decides-true _ _ (c .before .divides .ensures) (c .if2 .taken))
 
 returns-3 : tie.Need-returns-3
 returns-3 c =
@@ -80,23 +81,5 @@ returns-5 c =
     (c5 .choice .given .1) (c7 .choose .ensures)
 
 pub decide-spec : {M : Type 1} → statement M
-decide-spec =
-    tie.close
-    (tie.spec
-    bound-requires
-    add-if1
-    returns
-    sub-affordable
-    affordable-requires
-    thin-requires
-    choose-requires
-    enum-told
-    enum-told-2
-    enum-known-choice
-    component-requires
-    minus-requires
-    divides-requires
-    returns-2
-    returns-3
-    returns-4
-    returns-5)
+decide-spec = tie.close (tie.spec bound-requires add-if1 returns sub-affordable affordable-requires thin-requires choose-requires enum-told enum-told-2
+    enum-known-choice component-requires minus-requires divides-requires returns-2 returns-3 returns-4 returns-5)

@@ -28,12 +28,4 @@ returns : tie.Need-returns
 returns c = planned-whole _ _ _ _ (c .before .before .before .before .unmet .ensures .residue) _ _ _ _ (c .decide .ensures)
 
 pub look-spec : {M : Type 1} → statement M
-look-spec =
-    tie.close
-    (tie.spec
-    unmet-requires
-    slice-reshare-prefix-decide
-    slice-aggregate-decide
-    decide-requires
-    same-length
-    returns)
+look-spec = tie.close (tie.spec unmet-requires slice-reshare-prefix-decide slice-aggregate-decide decide-requires same-length returns)

@@ -66,21 +66,5 @@ returns : tie.Need-returns Inv-loop μ-loop
 returns c = leaves-all _ _ _ _ _ _ _ (c .before .loop .inv .2) (omega arith) (c .before .loop .inv .1) (omega (arith, c .before .loop .inv .2 .few))
 
 pub unmet-spec : {M : Type 1} → statement M
-unmet-spec =
-    tie.close
-    (tie.spec
-    Inv-loop
-    μ-loop
-    loop-holds
-    mul-if1
-    shared-slice-read-if1
-    mul-out
-    shared-slice-read-out
-    mul-out-2
-    slice-write-out
-    add-n
-    add-i
-    loop-less
-    loop-again
-    same-length
-    returns)
+unmet-spec = tie.close (tie.spec Inv-loop μ-loop loop-holds mul-if1 shared-slice-read-if1 mul-out shared-slice-read-out mul-out-2 slice-write-out add-n
+    add-i loop-less loop-again same-length returns)
