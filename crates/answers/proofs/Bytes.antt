@@ -140,7 +140,8 @@ module _ {A : Type 0} (f : A → List ℕ) (w : ℕ) (xs : List A) (k : ℕ) (ol
       → Blocks f w xs k old (putMid (w * i) (length new - w * i) new last) (i + 1)
   blocks-next d last h g =
       let there : i < length xs = omega (arith, b .there) in
-      let first : join (map f (take (i + 1) xs)) ≡ join (map f (take i xs)) ++ f (getD xs i d) = ap (λ (n : ℕ). join (map f (take n xs))) (add-one i) ∙ ap (λ (l : List A). join (map f l)) (take-suc xs i d there) ∙ join-snoc f (take i xs) (getD xs i d) in
+      let first : join (map f (take (i + 1) xs)) ≡ join (map f (take i xs)) ++ f (getD xs i d) = ap (λ (n : ℕ). join (map f (take n xs))) (add-one i)
+      ∙ ap (λ (l : List A). join (map f l)) (take-suc xs i d there) ∙ join-snoc f (take i xs) (getD xs i d) in
       let size : w * (i + 1) ≡ w * i + w = ap (λ (n : ℕ). w * n) (add-one i) ∙ mul-suc w i in
       record {
         within = omega arith;

@@ -1,10 +1,10 @@
 // The answers as bytes. Each writer receives the free part of the answer buffer and puts its answer in front, or leaves the part alone
 // where the answer is longer.
-ghost use mathlib.Core.List.{[], _∷_, _++_, map};
+ghost use mathlib.Core.List.{map};
 ghost use mathlib.Core.Path.{_≡_};
 ghost use mathlib.Core.Bool.{cond};
 ghost use Prim.Native.Nat.{_+_, _*_, _≤_, _<_};
-ghost use lib.ListN.{length, take, drop};
+ghost use lib.ListN.{length, take};
 ghost use Rattle.model.specs.Base.{join};
 ghost use Rattle.model.specs.Commands.{low};
 ghost use Rattle.model.specs.Answers.{Answer, bytesOf, termBytes};

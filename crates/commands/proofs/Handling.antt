@@ -1,11 +1,11 @@
 -- The laws behind the commands: a refusal, an answer of no bytes, an answer that is written, and one that is too long.
-use Prim.Native.Nat.{ℕ, _+_, _^_, _≤_, _<_}
+use Prim.Native.Nat.{ℕ, _^_, _≤_, _<_}
 use native.Mathlib.Omega.{arith}
 use mathlib.Core.Path.{_≡_, refl, sym, ap, _∙_, subst, subst⁻¹}
 use mathlib.Core.Bool.{Bool, true, false, not, cond, _&&_, _||_}
 use mathlib.Core.List.{List, [], _∷_, _++_}
 use borrow.Author.Tests.{lt-ltb, le-ltb, le-leb, lt-leb, leb-false}
-use lib.Dec.{T, ltb, leb, eqb}
+use lib.Dec.{ltb, leb, eqb}
 use lib.ListN.{length, drop, take, length-take}
 use Rattle.model.specs.Base.{some}
 use Rattle.model.specs.declared.Term.{Term}
@@ -52,14 +52,16 @@ module _ (x : Context) (k : model.Kind) where
   pub handled-refused : (old : List ℕ) (p : Problem) (n : ℕ) (e : Effect) → e ≡ refusedAs p n → n ≡ lateRefusal x k → (n ≡ 0 → ⊥) → Handled x k old old e
   handled-refused old p n e q l d = rw q record { number = l; refused = λ h. refl; answered = λ z. absurd (d z) }
 
-  pub handled-silent : (old : List ℕ) (q : Problem) → answerBytes x k ≡ [] → 0 ≡ firstOf (refusalsOf x k) → Holds q (problemAfter x k) → Handled x k old old (record { number = 0; written = 0; problem = q })
+  pub handled-silent : (old : List ℕ) (q : Problem) → answerBytes x k ≡ [] → 0 ≡ firstOf (refusalsOf x k) → Holds q (problemAfter x k)
+      → Handled x k old old (record { number = 0; written = 0; problem = q })
   handled-silent old q a e h = record {
     number = late-none e (omega (arith, ap length a));
     refused = λ n. refl;
     answered = λ z. record { written = sym (ap length a); bytes = rw a; problem = h };
   }
 
-  pub handled-written : (old new : List ℕ) (q : Problem) (r : Reply) (n : ℕ) → r ≡ Written n → x .free ≡ length old → Replied (answerBytes x k) old new r → 0 ≡ firstOf (refusalsOf x k) → Holds q (problemAfter x k)
+  pub handled-written : (old new : List ℕ) (q : Problem) (r : Reply) (n : ℕ) → r ≡ Written n → x .free ≡ length old
+      → Replied (answerBytes x k) old new r → 0 ≡ firstOf (refusalsOf x k) → Holds q (problemAfter x k)
       → Handled x k old new (record { number = 0; written = n; problem = q })
   handled-written old new q r n s f w e h =
       let w' : Replied (answerBytes x k) old new (Written n) = subst (Replied (answerBytes x k) old new) s w in
@@ -69,7 +71,8 @@ module _ (x : Context) (k : model.Kind) where
         answered = λ z. record { written = w' .0; bytes = w' .2 ∙ ap (λ (i : ℕ). answerBytes x k ++ drop i old) (w' .0); problem = h };
       }
 
-  pub handled-long : (old new : List ℕ) (p : Problem) (r : Reply) (e : Effect) → r ≡ TooLong → e ≡ refusedAs p 14 → x .free ≡ length old → Replied (answerBytes x k) old new r → 0 ≡ firstOf (refusalsOf x k) → Handled x k old new e
+  pub handled-long : (old new : List ℕ) (p : Problem) (r : Reply) (e : Effect) → r ≡ TooLong → e ≡ refusedAs p 14 → x .free ≡ length old
+      → Replied (answerBytes x k) old new r → 0 ≡ firstOf (refusalsOf x k) → Handled x k old new e
   handled-long old new p r e s q f w o =
       let w' : Replied (answerBytes x k) old new TooLong = subst (Replied (answerBytes x k) old new) s w in
       rw q record { number = late-long o (omega (arith, w' .0)); refused = λ d. w' .1; answered = λ z. absurd (omega (arith, z)) }
@@ -80,7 +83,8 @@ pub init-refused : (p : Problem) (n m r : ℕ) (e : Effect) → r ≡ firstOf (r
 unfolding refusalsOf
 init-refused p n m r e o d q x free a b = handled-refused x model.Kind.I free p r e q (late-own x model.Kind.I r (rw (a, b) o) d) d
 
-pub init-good : (n m r : ℕ) (q : Problem) → r ≡ firstOf (refuse 6 (not (size n && size m)) ∷ []) → r ≡ 0 → q ≡ startedWith n m model.begun → HandlesI n m (record { number = 0; written = 0; problem = q })
+pub init-good : (n m r : ℕ) (q : Problem) → r ≡ firstOf (refuse 6 (not (size n && size m)) ∷ []) → r ≡ 0 → q ≡ startedWith n m model.begun
+    → HandlesI n m (record { number = 0; written = 0; problem = q })
 unfolding refusalsOf answerFor
 init-good n m r q o z s x free a b = handled-silent x model.Kind.I free q refl (rw (a, b) (sym z ∙ o)) (subst⁻¹ (λ (y : Problem). Holds y (problemAfter x model.Kind.I)) s (after-I x n m a b))
 
@@ -108,7 +112,8 @@ module _ (p : Problem) (sizes : Sized p) (v on dc r : ℕ) (o : r ≡ firstOf (r
       let s : q ≡ atPlace model.inRows (withRows (rowPut (p .rows) v on dc) p) = w ∙ ap (λ (k : ℕ). atPlace model.inRows (withRows (rowPut (p .rows) k on dc) p)) e in
       let own : 0 ≡ firstOf (refusalsOf x model.Kind.R) = sym z ∙ row-here x f a b c in
       handled-silent x model.Kind.R free q refl own
-      (subst⁻¹ (λ (y : Problem). Holds y (problemAfter x model.Kind.R)) s (after-R x p v on dc (f .holds) (f .valid) (f .begun) a b c (subst (λ (w : ℕ). w < 2 ^ x .problem .settings .n) a (row-vertex x own))))
+      (subst⁻¹ (λ (y : Problem). Holds y (problemAfter x model.Kind.R)) s
+      (after-R x p v on dc (f .holds) (f .valid) (f .begun) a b c (subst (λ (w : ℕ). w < 2 ^ x .problem .settings .n) a (row-vertex x own))))
 
 pub refuses-term : (p : Problem) (may : List ℕ) (t : Term) (r : ℕ) → Sized p → MayOf (p .rows .on) (p .rows .dc) may → TermRefusal may (p .settings .n) (p .settings .m) t r → RefusesTerm p t r
 refuses-term p may t r z of f x d = term-here p x may t r z (d .holds) (d .valid) of f
@@ -121,18 +126,21 @@ term-own x t e = rw e
 module _ (p : Problem) (t : Term) (r : ℕ) (o : RefusesTerm p t r) where
   pub term-refused : (e : Effect) → (r ≡ 0 → ⊥) → e ≡ refusedAs p r → HandlesT p t e
   term-refused e d q x free f a =
-      let own : r ≡ firstOf (refusalsOf x model.Kind.T) = sym (ap firstOf (term-own x t a) ∙ first-before (termRefusals (tableOf (x .problem)) t) (refuse 11 (leb 64 (length (x .problem .cands))) ∷ []) (λ z. d (o x f ∙ z)) ∙ sym (o x f)) in
+      let own : r ≡ firstOf (refusalsOf x model.Kind.T) =
+      sym (ap firstOf (term-own x t a) ∙ first-before (termRefusals (tableOf (x .problem)) t) (refuse 11 (leb 64 (length (x .problem .cands))) ∷ []) (λ z. d (o x f ∙ z)) ∙ sym (o x f)) in
       handled-refused x model.Kind.T free p r e q (late-own x model.Kind.T r own d) d
 
   behind : (x : Context) → Found p x → operandTerm x ≡ t → r ≡ 0 → firstOf (refusalsOf x model.Kind.T) ≡ firstOf (refuse 11 (leb 64 (length (x .problem .cands))) ∷ [])
-  behind x f a z = ap firstOf (term-own x t a) ∙ first-behind (termRefusals (tableOf (x .problem)) t) (refuse 11 (leb 64 (length (x .problem .cands))) ∷ []) (omega arith, (omega arith, tt)) (sym (o x f) ∙ z)
+  behind x f a z = ap firstOf (term-own x t a) ∙ first-behind (termRefusals (tableOf (x .problem)) t)
+      (refuse 11 (leb 64 (length (x .problem .cands))) ∷ []) (omega arith, (omega arith, tt)) (sym (o x f) ∙ z)
 
   pub term-many : (e : Effect) → r ≡ 0 → 64 ≤ p .candidates .count → e ≡ refusedAs p 11 → HandlesT p t e
   term-many e z l q x free f a =
       let own : 11 ≡ firstOf (refusalsOf x model.Kind.T) = sym (behind x f a z ∙ rw (le-leb 64 (length (x .problem .cands)) (omega (arith, f .holds .cands .counted)))) in
       handled-refused x model.Kind.T free p 11 e q (late-own x model.Kind.T 11 own (λ n. omega (arith, n))) (λ n. omega (arith, n))
 
-  pub term-kept : (q : Problem) → r ≡ 0 → p .candidates .count < 64 → q ≡ atPlace model.inTerms (withCandidates (termPut (p .candidates) t) p) → HandlesT p t (record { number = 0; written = 0; problem = q })
+  pub term-kept : (q : Problem) → r ≡ 0 → p .candidates .count < 64 → q ≡ atPlace model.inTerms (withCandidates (termPut (p .candidates) t) p)
+      → HandlesT p t (record { number = 0; written = 0; problem = q })
   unfolding answerFor
   term-kept q z l s x free f a =
       let own : 0 ≡ firstOf (refusalsOf x model.Kind.T) = sym (behind x f a z ∙ rw (lt-leb 64 (length (x .problem .cands)) (omega (arith, f .holds .cands .counted)))) in
@@ -171,7 +179,8 @@ module _ (p : Problem) (z : Sized p) (may : List ℕ) (of : MayOf (p .rows .on) 
     pub primes-long : (e : Effect) → r ≡ TooLong → e ≡ refusedAs p 14 → HandlesP p old new e
     primes-long e s q x f l = handled-long x model.Kind.P old new p r e s q l (replied x f) (own-none x f)
 
-    pub primes-kept : (q : Problem) (n : ℕ) → r ≡ Written n → q ≡ atPlace model.queried (withCandidates (listed (list .terms) (list .count)) p) → HandlesP p old new (record { number = 0; written = n; problem = q })
+    pub primes-kept : (q : Problem) (n : ℕ) → r ≡ Written n → q ≡ atPlace model.queried (withCandidates (listed (list .terms) (list .count)) p)
+        → HandlesP p old new (record { number = 0; written = n; problem = q })
     primes-kept q n s e x f l =
         handled-written x model.Kind.P old new q r n s l (replied x f) (own-none x f)
         (subst⁻¹ (λ (y : Problem). Holds y (problemAfter x model.Kind.P)) e (after-P x p (list .terms) (list .count) (f .holds) (whole x f)))

@@ -2,15 +2,15 @@
 use Prim.Native.Nat.{ℕ, _/_, _≤_}
 use native.Mathlib.Omega.{arith}
 use mathlib.Core.Path.{_≡_, refl, sym, ap, ap₂, _∙_, subst, subst⁻¹}
-use mathlib.Core.Bool.{Bool, true, false, not, cond}
+use mathlib.Core.Bool.{Bool, true, false, cond}
 use mathlib.Core.List.{List, [], _∷_, map, List·Memᴰ, List·Memᴰ·head, List·Memᴰ·tail}
 use lib.Dec.{T, T-not}
 use lib.ListN.{length, take, drop, length-take, length-append}
 use lib.Seq.{take-at}
 use Rattle.model.specs.Base.{bit}
 use Rattle.model.specs.Sets.{Covering, members, Best, cover, coverable, cheapest, cost, ofRows}
-use Rattle.model.specs.Pages.{page, more, atOrAbove}
-use Rattle.model.specs.Candidates.{termCost, covering}
+use Rattle.model.specs.Pages.{page, atOrAbove}
+use Rattle.model.specs.Candidates.{termCost}
 use Rattle.model.specs.Commands as model
 use Rattle.model.specs.Commands.{Context, isQueryKind, basisOf, coveringOf, start, count, problemAfter}
 use Rattle.model.specs.Answers.{Answer, bytesOf, answerFor}
@@ -76,7 +76,8 @@ module _ (all : List ℕ) (s : ℕ) (old new : List ℕ) (f : PageFill) (p : Pag
 
 -- ---- L and C by their replies
 
-module _ (x : Context) (k : model.Kind) (p : Problem) (old new : List ℕ) (r : Reply) (w : Replied (answerBytes x k) old new r) (f : x .free ≡ length old) (o : 0 ≡ firstOf (refusalsOf x k)) (h : Holds (atPlace model.queried p) (problemAfter x k)) where
+module _ (x : Context) (k : model.Kind) (p : Problem) (old new : List ℕ) (r : Reply) (w : Replied (answerBytes x k) old new r)
+    (f : x .free ≡ length old) (o : 0 ≡ firstOf (refusalsOf x k)) (h : Holds (atPlace model.queried p) (problemAfter x k)) where
   pub handled-reply : (e : Effect) → e ≡ repliedAs p r → Handled x k old new e
   handled-reply e q = subst⁻¹ (Handled x k old new) q (go r refl)
     where
@@ -144,7 +145,8 @@ module _ (p : Problem) (rows costs : List ℕ) (b : Bool) (count-is : costs ≡ 
         set-same = pair .1 ∙ ap (λ (cs : List ℕ). cheapest (ofRows cs rows)) (costs-here x f) ∙ sym (d .rows-of .cheapest)
 
         cost-same : c ≡ cost (coveringOf x) (cheapest (coveringOf x))
-        cost-same = pair .0 ∙ ap (cost (ofRows costs rows)) (sym (pair .1) ∙ set-same) ∙ ap (λ (cs : List ℕ). cost (ofRows cs rows) (cheapest (coveringOf x))) (costs-here x f) ∙ rows-cost-any (coveringOf x) rows (cheapest (coveringOf x))
+        cost-same = pair .0 ∙ ap (cost (ofRows costs rows)) (sym (pair .1) ∙ set-same) ∙ ap
+            (λ (cs : List ℕ). cost (ofRows cs rows) (cheapest (coveringOf x))) (costs-here x f) ∙ rows-cost-any (coveringOf x) rows (cheapest (coveringOf x))
 
 pub cheapest-uncovered : (p : Problem) (rows : List ℕ) (b : Bool) (old : List ℕ) (e : Effect) → b ≡ false → e ≡ refusedAs p 12 → HandlesC p rows b old old e
 cheapest-uncovered p rows b old e z q x f d l = query-uncovered p rows b x model.Kind.C tt f d old e z q

@@ -3,8 +3,7 @@
 // Each function here and in `queries`, which has L and C, handles one kind of command behind the tests of 3, 4 and 5. A refusal leaves the
 // free part alone.
 ghost use mathlib.Core.Path.{_≡_};
-ghost use Prim.Native.Nat.{_<_, _≤_};
-ghost use lib.ListN.{length};
+ghost use Prim.Native.Nat.{_<_};
 ghost use Rattle.problem.specs.Problems.{Sized, Reached};
 ghost use Rattle.commands.specs.Effects.{refusedAs, RefusesTerm, HandlesI, HandlesR, HandlesT, HandlesP, HandlesE};
 use answers::writers;

@@ -19,7 +19,7 @@ use Rattle.model.specs.Commands as model
 use Rattle.model.specs.Commands.{basisOf, tableOf}
 use Rattle.model.specs.Refusals.{Refusal, refuse, firstOf, size, badRow}
 use Rattle.model.specs.Library.{unpack, badVertex, refusalsOfWord, callRefusals, listCovers}
-use Rattle.model.proofs.Lists.{T-true, and-l, and-r, some-i, below-i, all-append}
+use Rattle.model.proofs.Lists.{zero-at, T-true, and-l, and-r, some-i, below-i, all-append}
 use Rattle.model.proofs.Runs.{Numbered, first-before, first-behind}
 use Rattle.model.proofs.Library.{listed-refused}
 use Rattle.table.specs.Lists.{Filled}
@@ -33,7 +33,7 @@ use Rattle.problem.specs.declared.matrix.Matrix.{Matrix}
 use Rattle.problem.specs.Problems.{listed, Sized, Holds}
 use Rattle.problem.specs.Refusing.{TermRefusal}
 use Rattle.problem.specs.Matrix.{RowsOf, Prepares, TellsCovered}
-use Rattle.problem.proofs.Keeping.{zero-at, none-given}
+use Rattle.problem.proofs.Keeping.{none-given}
 use Rattle.problem.proofs.Refusing.{held-rows}
 use Rattle.problem.proofs.Preparing.{rows-listed}
 use Rattle.library.specs.declared.Listed.{Listed}
@@ -61,7 +61,12 @@ module _ (n m on dc : ℕ) (a : Bool) (e : a ≡ size n) where
       sizes-dc i = rw (← e, t, ← g, u, ← h, eq-eqb on k i)
 
 pub sizes-are : (n m on dc : ℕ) (r : Bool) → r ≡ rightSizes n m on dc → r ≡ true → (n ≤ 8) × (m ≤ 8) × (on ≡ 2 ^ n) × (dc ≡ 2 ^ n)
-sizes-are n m on dc r e t = (size-le n (size n) refl (T-true sizes-n), size-le m (size m) refl (T-true sizes-m), eqb→eq on (2 ^ n) (and-l (eqb on (2 ^ n)) (eqb dc (2 ^ n)) rows), eqb→eq dc (2 ^ n) (and-r (eqb on (2 ^ n)) (eqb dc (2 ^ n)) rows))
+sizes-are n m on dc r e t = (
+  size-le n (size n) refl (T-true sizes-n),
+  size-le m (size m) refl (T-true sizes-m),
+  eqb→eq on (2 ^ n) (and-l (eqb on (2 ^ n)) (eqb dc (2 ^ n)) rows),
+  eqb→eq dc (2 ^ n) (and-r (eqb on (2 ^ n)) (eqb dc (2 ^ n)) rows),
+)
   where
     all : T (rightSizes n m on dc)
     all = subst (λ (b : Bool). T b) (sym t ∙ e) tt
@@ -139,13 +144,18 @@ module _ (row : List ℕ) (i : ℕ) (all : List ℕ) (h : length row ≤ 256) (f
   padded-long = same-long (take i row) (replicate 256 0) all i (f .1) (omega (arith, f .0, length-replicate {A = ℕ} 256 0)) ∙ length-replicate {A = ℕ} 256 0
 
   pub padded-next : i < length row → PaddedBelow row (i + 1) (set all i (getD row i 0))
-  padded-next l = (omega arith, subst⁻¹ (λ (a : List ℕ). InFront a (i + 1) (replicate 256 0) (set all i (getD row i 0))) more (one-more (take i row) (replicate 256 0) all i (f .1) (getD row i 0) (omega (arith, length-replicate {A = ℕ} 256 0))))
+  padded-next l = (
+    omega arith,
+    subst⁻¹ (λ (a : List ℕ). InFront a (i + 1) (replicate 256 0) (set all i (getD row i 0))) more
+        (one-more (take i row) (replicate 256 0) all i (f .1) (getD row i 0) (omega (arith, length-replicate {A = ℕ} 256 0))),
+  )
     where
       more : take (i + 1) row ≡ take i row ++ (getD row i 0 ∷ [])
       more = ap (λ (k : ℕ). take k row) (add-one i) ∙ take-suc row i 0 l
 
   pub padded-all : length row ≤ i → Padded row all
-  padded-all l = let e : i ≡ length row = omega (arith, f .0) in subst (λ (a : List ℕ). InFront a (length row) (replicate 256 0) all) (take-length row) (subst (λ (k : ℕ). InFront (take k row) k (replicate 256 0) all) e (f .1))
+  padded-all l = let e : i ≡ length row = omega (arith, f .0) in subst (λ (a : List ℕ). InFront a (length row) (replicate 256 0) all)
+      (take-length row) (subst (λ (k : ℕ). InFront (take k row) k (replicate 256 0) all) e (f .1))
 
 before-zeros : (xs zs : List ℕ) → ((w : ℕ) → getD zs w 0 ≡ 0) → (v : ℕ) → getD (xs ++ zs) v 0 ≡ getD xs v 0
 before-zeros [] zs z v = z v
@@ -153,13 +163,16 @@ before-zeros (x ∷ xs) zs z zero = refl
 before-zeros (x ∷ xs) zs z (suc v) = before-zeros xs zs z v
 
 padded-at : (row all : List ℕ) → Padded row all → (v : ℕ) → getD all v 0 ≡ getD row v 0
-padded-at row all f v = ap (λ (l : List ℕ). getD l v 0) (f .bytes) ∙ before-zeros row (drop (length row) (replicate 256 0)) (λ w. getD-drop (length row) (replicate 256 0) w 0 ∙ zero-at 256 (length row + w)) v
+padded-at row all f v = ap (λ (l : List ℕ). getD l v 0) (f .bytes)
+    ∙ before-zeros row (drop (length row) (replicate 256 0)) (λ w. getD-drop (length row) (replicate 256 0) w 0 ∙ zero-at 256 (length row + w)) v
 
 padded-size : (row all : List ℕ) → length row ≤ 256 → Padded row all → length all ≡ 256
 padded-size row all h f = same-long row (replicate 256 0) all (length row) f (omega (arith, length-replicate {A = ℕ} 256 0)) ∙ length-replicate {A = ℕ} 256 0
 
-pub call-holds : (words : List ℕ) {n m : ℕ} {on dc on' dc' : List ℕ} {terms : List Term} → length on ≤ 256 → length dc ≤ 256 → Padded on on' → Padded dc dc' → Filled 64 (map unpack words) terms (length words)
-    → Holds (record { place = model.queried; settings = record { n = n; m = m }; rows = record { on = on'; dc = dc'; given = replicate 256 0 }; candidates = listed terms (length words) }) (problemOf (calledTable n m on dc) words)
+pub call-holds : (words : List ℕ) {n m : ℕ} {on dc on' dc' : List ℕ} {terms : List Term} → length on ≤ 256 → length dc ≤ 256 → Padded on on'
+    → Padded dc dc' → Filled 64 (map unpack words) terms (length words)
+    → Holds (record { place = model.queried; settings = record { n = n; m = m }; rows = record { on = on'; dc = dc'; given = replicate 256 0 }; candidates = listed terms (length words) }) (problemOf
+    (calledTable n m on dc) words)
 call-holds words {n} {m} {on} {dc} {on'} {dc'} {terms} h k f g t = record {
   place = refl;
   settings = record { inputs = refl; outputs = refl };
@@ -179,7 +192,11 @@ module _ {p : Table} {count : ℕ} (a : Admitted p count) where
   call-room = (omega (arith, a .on-size, pow-mono (a .inputs)), omega (arith, a .dc-size, pow-mono (a .inputs)), a .few)
 
 pub call-sized : (words : List ℕ) {r : Problem} {p : Table} → Admitted p (length words) → Holds r (problemOf p words) → Sized r
-call-sized words {r} {p} a h = record { inputs = omega (arith, h .settings .inputs, a .inputs); outputs = omega (arith, h .settings .outputs, a .outputs); few = omega (arith, h .cands .counted, length-map words unpack, a .few) }
+call-sized words {r} {p} a h = record {
+  inputs = omega (arith, h .settings .inputs, a .inputs);
+  outputs = omega (arith, h .settings .outputs, a .outputs);
+  few = omega (arith, h .cands .counted, length-map words unpack, a .few);
+}
 
 -- ---- 9 and 10
 
@@ -228,7 +245,8 @@ module _ {may : List ℕ} {n m : ℕ} {words : List ℕ} where
   passed-words {i} l b p a o = sym (b .left p a o ∙ ap (λ (ws : List ℕ). firstOf (refusalsOfWords p ws)) (drop-of-length-le words l))
 
 -- in the table that p holds
-pub words-here : (words : List ℕ) {p : Problem} {may : List ℕ} {r : ℕ} → Sized p → MayOf (p .rows .on) (p .rows .dc) may → ((t : Table) → Allowed t (p .settings .n) may → t .m ≡ p .settings .m → r ≡ firstOf (join (map (refusalsOfWord t) words))) → WordsRefusal p words r
+pub words-here : (words : List ℕ) {p : Problem} {may : List ℕ} {r : ℕ} → Sized p → MayOf (p .rows .on) (p .rows .dc) may
+    → ((t : Table) → Allowed t (p .settings .n) may → t .m ≡ p .settings .m → r ≡ firstOf (join (map (refusalsOfWord t) words))) → WordsRefusal p words r
 words-here words {p} {may} {r} z of f q h g = f (tableOf q) (of (tableOf q) (p .settings .n) (z .inputs) (held-rows p q z h g)) (sym (h .settings .outputs))
 
 -- ---- the sets

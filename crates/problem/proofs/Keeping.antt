@@ -1,14 +1,14 @@
 -- The engine's record goes on holding the problem of the definitions, command by command.
-use Prim.Native.Nat.{ℕ, _+_, _^_, _≤_, _<_}
+use Prim.Native.Nat.{ℕ, _^_, _≤_, _<_}
 use native.Mathlib.Omega.{arith}
-use native.Mathlib.Decide.{ℕ-discrete, decLt}
+use native.Mathlib.Decide.{ℕ-discrete}
 use native.Mathlib.Numerals.{add-one}
 use mathlib.Core.Path.{_≡_, refl, sym, ap, _∙_}
 use mathlib.Core.Bool.{false}
 use mathlib.Core.List.{List, [], _∷_, _++_}
 use borrow.Author.Tests.{eq-eqb, ne-eqb}
 use lib.Dec.{T, ltb, eqb}
-use lib.ListN.{getD, length, set, replicate, length-set, length-append, length-replicate, getD-replicate, List·getD-eq-default}
+use lib.ListN.{getD, length, set, replicate, length-set, length-append, length-replicate}
 use lib.Pow.{pow-mono}
 use lib.Seq.{getD-set-same, getD-set-other, take-suc-set}
 use Rattle.model.specs.Base.{some}
@@ -18,6 +18,7 @@ use Rattle.model.specs.Commands as model
 use Rattle.model.specs.Commands.{Context, operand, operandTerm, tableOf, isQueryKind, problemAfter}
 use Rattle.model.specs.Invariants.{Valid}
 use Rattle.model.proofs.Codes.{any-query}
+use Rattle.model.proofs.Lists.{zero-at}
 use Rattle.table.specs.Lists.{Filled}
 use Rattle.problem.specs.declared.TableRows.{TableRows}
 use Rattle.problem.specs.declared.Candidates.{Candidates}
@@ -35,13 +36,6 @@ pub reached-sized : (p : Problem) → Reached p → Sized p
 reached-sized p r = sized p (r .problem) (r .holds) (r .valid)
 
 -- ---- the start, and I
-
-pub zero-at : (k v : ℕ) → _≡_ {A = ℕ} (getD (replicate k 0) v 0) 0
-zero-at k v = go (decLt v k)
-  where
-    go : Dec (v < k) → _≡_ {A = ℕ} (getD (replicate k 0) v 0) 0
-    go (yes h) = getD-replicate k v 0 0 h
-    go (no h) = List·getD-eq-default (replicate k 0) 0 (omega (arith, length-replicate {A = ℕ} k 0))
 
 pub none-given : (v : ℕ) → ltb 0 (getD (replicate 256 0) v 0) ≡ false
 none-given v = rw (zero-at 256 v)
@@ -108,7 +102,8 @@ after-R x p v on dc h w o e f g l = rw (e, f, g) record {
 
 -- ---- other candidates: T and P
 
-pub holds-candidates : (place : ℕ) (p : Problem) (q : model.Problem) (cs : Candidates) (ts : List Term) → Holds p q → HoldsCands cs ts → Holds (atPlace place (withCandidates cs p)) (model.atPlace place (model.withCands ts q))
+pub holds-candidates : (place : ℕ) (p : Problem) (q : model.Problem) (cs : Candidates) (ts : List Term) → Holds p q → HoldsCands cs ts
+    → Holds (atPlace place (withCandidates cs p)) (model.atPlace place (model.withCands ts q))
 holds-candidates place p q cs ts h c = record { place = refl; settings = h .settings; rows = h .rows; cands = c }
 
 holds-term : (cs : Candidates) (ts : List Term) (t : Term) → HoldsCands cs ts → cs .count < 64 → HoldsCands (termPut cs t) (ts ++ (t ∷ []))

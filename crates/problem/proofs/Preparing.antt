@@ -3,9 +3,8 @@ use Prim.Native.Nat.{ℕ, _+_, _≤_, _<_}
 use native.Mathlib.Omega.{arith}
 use native.Mathlib.Numerals.{add-one}
 use mathlib.Core.Path.{_≡_, refl, sym, ap, ap₂, _∙_, subst, subst⁻¹}
-use mathlib.Core.Bool.{Bool, true, false}
+use mathlib.Core.Bool.{Bool}
 use mathlib.Core.List.{List, [], _∷_, _++_, map}
-use lib.Dec.{T}
 use lib.ListN.{getD, length, take, set, replicate, length-map, length-replicate, length-set}
 use lib.Pow.{pow-mono}
 use lib.Seq.{take-suc, take-suc-set, take-length}
@@ -61,7 +60,8 @@ module _ (b : Basis) where
   pub rows-of : (rows out : List ℕ) (r : ℕ) → rows ≡ map (rowOf holds (b .cands)) (onCells (b .table)) → Reduced rows out r → RowsOf b (take r out)
   unfolding all-rows all-costs
   rows-of rows out r e d = record {
-    listed = sym (rows-irredundants (covering b)) ∙ reduced-irredundants all-costs all-rows out r d' ∙ costs-apart all-costs (replicate (length (b .cands)) 0) (take r out) (length-map (b .cands) (b .weight) ∙ sym (length-replicate (length (b .cands)) 0));
+    listed = sym (rows-irredundants (covering b)) ∙ reduced-irredundants all-costs all-rows out r d' ∙ costs-apart all-costs
+        (replicate (length (b .cands)) 0) (take r out) (length-map (b .cands) (b .weight) ∙ sym (length-replicate (length (b .cands)) 0));
     cheapest = sym (rows-cheapest (covering b)) ∙ reduced-cheapest all-costs all-rows out r d';
     covered = sym (rows-coverable (covering b)) ∙ reduced-coverable all-costs all-rows out r d';
   }
@@ -118,7 +118,8 @@ module _ {A B : Type 0} (f : A → B) (cap : ℕ) where
   pub mapped-next : (d : A) (xs : List A) (i : ℕ) (all : List B) (w : B) → i < cap → i < length xs → w ≡ f (getD xs i d) → MappedBelow xs i all → MappedBelow xs (i + 1) (set all i w)
   mapped-next d xs i all w l k e c = (
     length-set all i w ∙ c .0,
-    rw (add-one i) (take-suc-set all i w (omega (arith, c .0)) ∙ ap₂ (λ (ys : List B) (y : B). ys ++ (y ∷ [])) (c .1) e ∙ sym (map-more (take i xs) (getD xs i d)) ∙ ap (map f) (sym (take-suc xs i d k))),
+    rw (add-one i) (take-suc-set all i w (omega (arith, c .0)) ∙ ap₂ (λ (ys : List B) (y : B). ys ++ (y ∷ [])) (c .1) e
+        ∙ sym (map-more (take i xs) (getD xs i d)) ∙ ap (map f) (sym (take-suc xs i d k))),
   )
 
   pub mapped-all : (xs : List A) (i : ℕ) (all : List B) → length xs ≤ i → i ≤ length xs → MappedBelow xs i all → Filled cap (map f xs) all (length xs)

@@ -8,7 +8,7 @@ use mathlib.Core.List.{List, [], _∷_}
 use borrow.Author.Tests.{lt-ltb, le-ltb, le-leb, lt-leb}
 use lib.Bits.{bitAnd}
 use lib.Dec.{T, leb, ltb}
-use lib.ListN.{getD, length}
+use lib.ListN.{getD}
 use lib.Pow.{pow-mono}
 use Rattle.model.specs.declared.Term.{Term}
 use Rattle.model.specs.Table.{Table, formed, holdsNoOff}
@@ -88,7 +88,8 @@ row-refusal p x v on dc z h a b c = go (decLt v 256)
 -- ---- terms
 
 -- the bytes of the table that p holds, where its rows are well formed
-pub held-rows : (p : Problem) (q : model.Problem) → Sized p → Holds p q → ((v : ℕ) → v < 2 ^ q .settings .n → T (not (badVertex (tableOf q) v))) → TableBytes (tableOf q) (p .settings .n) (p .rows .on) (p .rows .dc)
+pub held-rows : (p : Problem) (q : model.Problem) → Sized p → Holds p q → ((v : ℕ) → v < 2 ^ q .settings .n → T (not (badVertex (tableOf q) v)))
+    → TableBytes (tableOf q) (p .settings .n) (p .rows .on) (p .rows .dc)
 held-rows p q z h g = record {
   inputs = sym (h .settings .inputs);
   on-bytes = λ w l. h .rows .on-bytes w (small w l);

@@ -1,6 +1,5 @@
 // The covering matrix of a problem: what L and C search, and refusal 12.
 ghost use mathlib.Core.Path.{_≡_};
-ghost use mathlib.Core.List.{map};
 ghost use Prim.Native.Nat.{_≤_};
 ghost use lib.Count.{ones};
 ghost use lib.ListN.{length, take};

@@ -26,25 +26,16 @@ same-length : tie.Need-same-length
 same-length c = search needs
 
 returns-2 : tie.Need-returns-2
-returns-2 c = end-long (c .before .before .before .before .before .before .before .before .before .args .p) (c .before .before .before .before .before .before .before .before .before .args .rest) _ _ _ (c .before .before .before .before .before .before .before .if1 .left) (c .before .before .before .before .before .put-end .ensures) _ (c .before .enum-told .given .1) (c .refused2 .ensures)
+returns-2 c = let c5 = c .before .before .before .before .before in let c7 = c5 .before .before in let c9 = c7 .before .before in
+    end-long (c9 .args .p) (c9 .args .rest) _ _ _ (c7 .if1 .left) (c5 .put-end .ensures) _ (c .before .enum-told .given .1) (c .refused2 .ensures)
 
 same-length-2 : tie.Need-same-length-2
 same-length-2 c = search needs
 
 returns-3 : tie.Need-returns-3
-returns-3 c = end-written (c .before .before .before .before .before .before .before .before .before .args .p) (c .before .before .before .before .before .before .before .before .before .args .rest) _ _ _ (c .before .before .before .before .before .before .before .if1 .left) (c .before .before .before .before .before .put-end .ensures) _ (c .before .n .given .1)
+returns-3 c = let c5 = c .before .before .before .before .before in let c7 = c5 .before .before in let c9 = c7 .before .before in
+    end-written (c9 .args .p) (c9 .args .rest) _ _ _ (c7 .if1 .left) (c5 .put-end .ensures) _ (c .before .n .given .1)
 
 pub end-spec : {M : Type 1} → statement M
-end-spec =
-    tie.close
-    (tie.spec
-    refused-requires
-    returns
-    put-end-requires
-    enum-told
-    refused-requires-2
-    enum-known-n
-    same-length
-    returns-2
-    same-length-2
+end-spec = tie.close (tie.spec refused-requires returns put-end-requires enum-told refused-requires-2 enum-known-n same-length returns-2 same-length-2
     returns-3)

@@ -31,18 +31,9 @@ with-rows-requires c κs = search needs
 
 returns-2 : tie.Need-returns-2
 unfolding rowPut
-returns-2 c = row-kept _ (c .before .before .before .before .before .before .before .before .pre) _ _ _ _ (c .before .before .before .row-refusal .ensures) _ _ (c .before .before .if1 .left) (c .before .wide .ensures) (c .with-rows .ensures)
+returns-2 c = let c2 = c .before .before in
+    row-kept _ (c2 .before .before .before .before .before .before .pre) _ _ _ _ (c2 .before .row-refusal .ensures) _ _ (c2 .if1 .left) (c .before .wide .ensures) (c .with-rows .ensures)
 
 pub row-spec : {M : Type 1} → statement M
-row-spec =
-    tie.close
-    (tie.spec
-    row-refusal-requires
-    refused-requires
-    returns
-    wide-requires
-    element-write-rows
-    element-write-rows-2
-    element-write-rows-3
-    with-rows-requires
-    returns-2)
+row-spec = tie.close (tie.spec row-refusal-requires refused-requires returns wide-requires element-write-rows element-write-rows-2 element-write-rows-3
+    with-rows-requires returns-2)

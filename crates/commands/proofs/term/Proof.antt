@@ -26,13 +26,4 @@ returns-3 : tie.Need-returns-3
 returns-3 c = term-kept _ _ _ (c .before .before .before .before .term-refusal .ensures) _ (c .before .before .before .if1 .left) (c .before .if2 .left) (c .with-term .ensures)
 
 pub term-spec : {M : Type 1} → statement M
-term-spec =
-    tie.close
-    (tie.spec
-    term-refusal-requires
-    refused-requires
-    returns
-    refused-requires-2
-    returns-2
-    with-term-requires
-    returns-3)
+term-spec = tie.close (tie.spec term-refusal-requires refused-requires returns refused-requires-2 returns-2 with-term-requires returns-3)

@@ -21,7 +21,8 @@ shared-slice-read-all : tie.Need-shared-slice-read-all Inv-loop μ-loop
 shared-slice-read-all c = omega arith
 
 array-write-all : tie.Need-array-write-all Inv-loop μ-loop
-array-write-all c = omega (arith, padded-long (now (c .before .before .before .args .row)) (c .before .before .loop .i) (c .before .before .loop .all) (c .before .before .before .pre) (c .before .before .loop .inv), c .before .before .before .pre)
+array-write-all c = let c2 = c .before .before in let c3 = c2 .before in
+    omega (arith, padded-long (now (c3 .args .row)) (c2 .loop .i) (c2 .loop .all) (c3 .pre) (c2 .loop .inv), c3 .pre)
 
 add-i : tie.Need-add-i Inv-loop μ-loop
 add-i c = omega arith
@@ -30,21 +31,11 @@ loop-less : tie.Need-loop-less Inv-loop μ-loop
 loop-less c = omega arith
 
 loop-again : tie.Need-loop-again Inv-loop μ-loop
-loop-again c = padded-next (now (c .before .before .before .args .row)) (c .before .before .loop .i) (c .before .before .loop .all) (c .before .before .before .pre) (c .before .before .loop .inv) (c .before .loop-test .taken)
+loop-again c = let c2 = c .before .before in
+    padded-next (now (c2 .before .args .row)) (c2 .loop .i) (c2 .loop .all) (c2 .before .pre) (c2 .loop .inv) (c .before .loop-test .taken)
 
 returns : tie.Need-returns Inv-loop μ-loop
 returns c = padded-all (now (c .before .before .args .row)) (c .before .loop .i) (c .before .loop .all) (c .before .before .pre) (c .before .loop .inv) (c .loop-test .left)
 
 pub padded-spec : {M : Type 1} → statement M
-padded-spec =
-    tie.close
-    (tie.spec
-    Inv-loop
-    μ-loop
-    loop-holds
-    shared-slice-read-all
-    array-write-all
-    add-i
-    loop-less
-    loop-again
-    returns)
+padded-spec = tie.close (tie.spec Inv-loop μ-loop loop-holds shared-slice-read-all array-write-all add-i loop-less loop-again returns)

@@ -15,7 +15,8 @@ terms-of-requires : tie.Need-terms-of-requires
 terms-of-requires c κs = search needs
 
 returns : tie.Need-returns
-returns c = call-holds (now (c .before .before .before .before .before .before .args .words)) (c .before .before .before .before .before .before .pre .0) (c .before .before .before .before .before .before .pre .1) (c .before .before .padded .ensures) (c .before .padded2 .ensures) (c .terms-of .ensures)
+returns c = let c6 = c .before .before .before .before .before .before in
+    call-holds (now (c6 .args .words)) (c6 .pre .0) (c6 .pre .1) (c .before .before .padded .ensures) (c .before .padded2 .ensures) (c .terms-of .ensures)
 
 pub problem-of-spec : {M : Type 1} → statement M
 problem-of-spec = tie.close (tie.spec padded-requires padded-requires-2 terms-of-requires returns)

@@ -40,24 +40,12 @@ loop-less : tie.Need-loop-less Inv-loop μ-loop
 loop-less c = omega arith
 
 loop-again : tie.Need-loop-again Inv-loop μ-loop
-loop-again c = (omega arith, mapped-next unpack 64 0 (now (c .before .before .before .before .before .args .words)) (c .before .before .before .loop .i) (c .before .before .before .loop .all) _ (omega (arith, c .before .before .before .before .before .pre)) (c .before .before .loop-test .taken) (c .unpacked .ensures) (c .before .before .before .loop .inv .1))
+loop-again c = let c2 = c .before .before in let c3 = c2 .before in let c5 = c3 .before .before in
+    (omega arith, mapped-next unpack 64 0 (now (c5 .args .words)) (c3 .loop .i) (c3 .loop .all) _ (omega (arith, c5 .pre)) (c2 .loop-test .taken) (c .unpacked .ensures) (c3 .loop .inv .1))
 
 returns : tie.Need-returns Inv-loop μ-loop
 returns c = mapped-all unpack 64 (now (c .before .before .before .args .words)) (c .before .loop .i) (c .before .loop .all) (c .loop-test .left) (c .before .loop .inv .0) (c .before .loop .inv .1)
 
 pub terms-of-spec : {M : Type 1} → statement M
-terms-of-spec =
-    tie.close
-    (tie.spec
-    Inv-loop
-    μ-loop
-    loop-holds
-    mul-unpacked
-    shared-slice-read-unpacked
-    unpacked-requires
-    mul-all
-    array-set-from-all
-    add-i
-    loop-less
-    loop-again
-    returns)
+terms-of-spec = tie.close (tie.spec Inv-loop μ-loop loop-holds mul-unpacked shared-slice-read-unpacked unpacked-requires mul-all array-set-from-all
+    add-i loop-less loop-again returns)

@@ -26,10 +26,13 @@ shared-slice-read-word-refusal : tie.Need-shared-slice-read-word-refusal Inv-loo
 shared-slice-read-word-refusal c = omega arith
 
 word-refusal-requires : tie.Need-word-refusal-requires Inv-loop μ-loop
-word-refusal-requires c κs = (c .before .before .before .before .before .before .before .before .before .before .pre .inputs, c .before .before .before .before .before .before .before .before .before .before .pre .outputs)
+word-refusal-requires c κs = let c10 = c .before .before .before .before .before .before .before .before .before .before in
+    (c10 .pre .inputs, c10 .pre .outputs)
 
 returns : tie.Need-returns Inv-loop μ-loop
-returns c = words-here (now (c .before .before .before .before .before .before .before .before .before .before .before .before .args .words)) (c .before .before .before .before .before .before .before .before .before .before .before .before .pre) (c .before .before .before .before .before .before .allowed .ensures) (word-refused (c .before .before .before .before .loop-test .taken) (c .before .word-refusal .ensures) (c .before .before .before .before .before .loop .inv) (c .if1 .taken))
+returns c = let c4 = c .before .before .before .before in let c5 = c4 .before in
+    let c12 = c5 .before .before .before .before .before .before .before in
+    words-here (now (c12 .args .words)) (c12 .pre) (c5 .before .allowed .ensures) (word-refused (c4 .loop-test .taken) (c .before .word-refusal .ensures) (c5 .loop .inv) (c .if1 .taken))
 
 add-i : tie.Need-add-i Inv-loop μ-loop
 add-i c = omega arith
@@ -41,21 +44,9 @@ loop-again : tie.Need-loop-again Inv-loop μ-loop
 loop-again c = passed-next (c .before .before .before .before .loop-test .taken) (c .before .word-refusal .ensures) (c .before .before .before .before .before .loop .inv) (c .if1 .left)
 
 returns-2 : tie.Need-returns-2 Inv-loop μ-loop
-returns-2 c = words-here (now (c .before .before .before .before .before .before .before .before .args .words)) (c .before .before .before .before .before .before .before .before .pre) (c .before .before .allowed .ensures) (passed-words (c .loop-test .left) (c .before .loop .inv))
+returns-2 c = let c8 = c .before .before .before .before .before .before .before .before in
+    words-here (now (c8 .args .words)) (c8 .pre) (c .before .before .allowed .ensures) (passed-words (c .loop-test .left) (c .before .loop .inv))
 
 pub words-refusal-spec : {M : Type 1} → statement M
-words-refusal-spec =
-    tie.close
-    (tie.spec
-    Inv-loop
-    μ-loop
-    allowed-requires
-    loop-holds
-    mul-word-refusal
-    shared-slice-read-word-refusal
-    word-refusal-requires
-    returns
-    add-i
-    loop-less
-    loop-again
-    returns-2)
+words-refusal-spec = tie.close (tie.spec Inv-loop μ-loop allowed-requires loop-holds mul-word-refusal shared-slice-read-word-refusal
+    word-refusal-requires returns add-i loop-less loop-again returns-2)

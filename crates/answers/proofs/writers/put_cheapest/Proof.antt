@@ -25,8 +25,10 @@ first c = headed (0x63 ∷ []) (Old (c .before .before .before .before)) _ _ 2 (
 first-long : (c : tie.After-put-number) → length (First c) ≡ length (Old (c .before .before .before .before))
 first-long c = let h : 3 ≤ length (Old (c .before .before .before .before)) = omega arith in same-long _ _ _ _ (first c) h
 
-all : (c : tie.After-put-number2) → InFront (0x63 ∷ (low 2 (c .before .before .before .before .before .before .before .before .args .cost) ++ low 8 (c .before .before .before .before .before .before .before .before .args .set))) 11 (Old (c .before .before .before .before .before .before .before .before)) (putMid 3 (length (First (c .before .before .before .before)) - 3) (First (c .before .before .before .before)) (c .put-number2 .last .0))
-all c = let h : 3 ≤ length (Old (c .before .before .before .before .before .before .before .before)) = omega arith in behind _ _ _ 3 (first (c .before .before .before .before)) _ _ 8 h (c .put-number2 .ensures)
+all : (c : tie.After-put-number2) → let c4 = c .before .before .before .before in let c8 = c4 .before .before .before .before in
+    InFront (0x63 ∷ (low 2 (c8 .args .cost) ++ low 8 (c8 .args .set))) 11 (Old c8) (putMid 3 (length (First c4) - 3) (First c4) (c .put-number2 .last .0))
+all c = let c4 = c .before .before .before .before in
+    let h : 3 ≤ length (Old (c4 .before .before .before .before)) = omega arith in behind _ _ _ 3 (first c4) _ _ 8 h (c .put-number2 .ensures)
 
 returns : tie.Need-returns
 returns c = search needs
@@ -65,18 +67,5 @@ returns-2 : tie.Need-returns-2
 returns-2 c = written _ _ _ _ (c .before .before .before .before .before .before .before .before .if1 .left) (all (c .before .before))
 
 pub put-cheapest-spec : {M : Type 1} → statement M
-put-cheapest-spec =
-    tie.close
-    (tie.spec
-    returns
-    slice-write-free
-    sub-put-number
-    part-put-number-start
-    part-put-number-end
-    put-number-requires
-    sub-put-number-2
-    part-put-number-start-2
-    part-put-number-end-2
-    put-number-requires-2
-    same-length
-    returns-2)
+put-cheapest-spec = tie.close (tie.spec returns slice-write-free sub-put-number part-put-number-start part-put-number-end put-number-requires
+    sub-put-number-2 part-put-number-start-2 part-put-number-end-2 put-number-requires-2 same-length returns-2)

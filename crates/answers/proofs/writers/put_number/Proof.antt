@@ -36,16 +36,4 @@ returns : tie.Need-returns Inv-loop μ-loop
 returns c = digits-all _ _ _ _ _ _ (c .loop-test .left) (c .before .loop .inv)
 
 pub put-number-spec : {M : Type 1} → statement M
-put-number-spec =
-    tie.close
-    (tie.spec
-    Inv-loop
-    μ-loop
-    loop-holds
-    cast-free
-    slice-write-free
-    add-i
-    loop-less
-    loop-again
-    same-length
-    returns)
+put-number-spec = tie.close (tie.spec Inv-loop μ-loop loop-holds cast-free slice-write-free add-i loop-less loop-again same-length returns)

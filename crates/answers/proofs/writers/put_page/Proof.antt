@@ -55,29 +55,17 @@ part-put-sets-end : tie.Need-part-put-sets-end
 part-put-sets-end c = search needs
 
 put-sets-requires : tie.Need-put-sets-requires
-put-sets-requires c κs = (c .before .before .before .before .before .pre .0, c .before .before .before .before .before .pre .1, headed-room (0x6c ∷ _ ∷ _ ∷ []) (Old (c .before .before .before .before .before)) _ (c .before .before .if1 .left))
+put-sets-requires c κs = let c5 = c .before .before .before .before .before in
+    (c5 .pre .0, c5 .pre .1, headed-room (0x6c ∷ _ ∷ _ ∷ []) (Old c5) _ (c .before .before .if1 .left))
 
 same-length : tie.Need-same-length
-same-length c = same-long _ _ _ _ (headed (0x6c ∷ _ ∷ _ ∷ []) (Old (c .before .before .before .before .before .before .before .before)) _ _ (8 * c .before .before .before .before .before .before .before .before .args .k) (c .before .before .before .before .before .if1 .left) (c .before .before .put-sets .ensures)) (c .before .before .before .before .before .if1 .left)
+same-length c = let c5 = c .before .before .before .before .before in let c8 = c5 .before .before .before in
+    same-long _ _ _ _ (headed (0x6c ∷ _ ∷ _ ∷ []) (Old c8) _ _ (8 * c8 .args .k) (c5 .if1 .left) (c .before .before .put-sets .ensures)) (c5 .if1 .left)
 
 returns-2 : tie.Need-returns-2
-returns-2 c = rw (length-take-le _ _ (c .before .before .before .before .before .before .before .before .pre .0), ← flag-is (c .before .before .before .before)) (written _ _ _ _ (c .before .before .before .before .before .if1 .left) (headed (0x6c ∷ _ ∷ _ ∷ []) (Old (c .before .before .before .before .before .before .before .before)) _ _ (8 * c .before .before .before .before .before .before .before .before .args .k) (c .before .before .before .before .before .if1 .left) (c .before .before .put-sets .ensures)))
+returns-2 c = let c2 = c .before .before in let c4 = c2 .before .before in let c5 = c4 .before in let c8 = c5 .before .before .before in
+    rw (length-take-le _ _ (c8 .pre .0), ← flag-is c4) (written _ _ _ _ (c5 .if1 .left) (headed (0x6c ∷ _ ∷ _ ∷ []) (Old c8) _ _ (8 * c8 .args .k) (c5 .if1 .left) (c2 .put-sets .ensures)))
 
 pub put-page-spec : {M : Type 1} → statement M
-put-page-spec =
-    tie.close
-    (tie.spec
-    mul-len
-    add-len
-    returns
-    slice-write-free
-    cast-free
-    slice-write-free-2
-    flag-requires
-    slice-write-free-3
-    sub-put-sets
-    part-put-sets-start
-    part-put-sets-end
-    put-sets-requires
-    same-length
-    returns-2)
+put-page-spec = tie.close (tie.spec mul-len add-len returns slice-write-free cast-free slice-write-free-2 flag-requires slice-write-free-3 sub-put-sets
+    part-put-sets-start part-put-sets-end put-sets-requires same-length returns-2)

@@ -48,24 +48,13 @@ put-terms-requires : tie.Need-put-terms-requires
 put-terms-requires c κs = (c .before .before .before .pre, headed-room (0x70 ∷ _ ∷ []) (Old (c .before .before .before)) _ (c .before .if1 .left))
 
 same-length : tie.Need-same-length
-same-length c = same-long _ _ _ _ (headed (0x70 ∷ _ ∷ []) (Old (c .before .before .before .before .before .before)) _ _ (3 * c .before .before .before .before .before .before .args .k) (c .before .before .before .before .if1 .left) (c .before .before .put-terms .ensures)) (c .before .before .before .before .if1 .left)
+same-length c = let c4 = c .before .before .before .before in let c6 = c4 .before .before in
+    same-long _ _ _ _ (headed (0x70 ∷ _ ∷ []) (Old c6) _ _ (3 * c6 .args .k) (c4 .if1 .left) (c .before .before .put-terms .ensures)) (c4 .if1 .left)
 
 returns-2 : tie.Need-returns-2
-returns-2 c = rw (length-take-le _ _ (there (c .before .before .before .before .before .before))) (written _ _ _ _ (c .before .before .before .before .if1 .left) (headed (0x70 ∷ _ ∷ []) (Old (c .before .before .before .before .before .before)) _ _ (3 * c .before .before .before .before .before .before .args .k) (c .before .before .before .before .if1 .left) (c .before .before .put-terms .ensures)))
+returns-2 c = let c4 = c .before .before .before .before in let c6 = c4 .before .before in
+    rw (length-take-le _ _ (there c6)) (written _ _ _ _ (c4 .if1 .left) (headed (0x70 ∷ _ ∷ []) (Old c6) _ _ (3 * c6 .args .k) (c4 .if1 .left) (c .before .before .put-terms .ensures)))
 
 pub put-primes-spec : {M : Type 1} → statement M
-put-primes-spec =
-    tie.close
-    (tie.spec
-    mul-len
-    add-len
-    returns
-    slice-write-free
-    cast-free
-    slice-write-free-2
-    sub-put-terms
-    part-put-terms-start
-    part-put-terms-end
-    put-terms-requires
-    same-length
-    returns-2)
+put-primes-spec = tie.close (tie.spec mul-len add-len returns slice-write-free cast-free slice-write-free-2 sub-put-terms part-put-terms-start
+    part-put-terms-end put-terms-requires same-length returns-2)

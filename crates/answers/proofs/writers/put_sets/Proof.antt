@@ -44,7 +44,8 @@ loop-less : tie.Need-loop-less Inv-loop μ-loop
 loop-less c = omega arith
 
 loop-again : tie.Need-loop-again Inv-loop μ-loop
-loop-again c = blocks-next _ _ _ _ _ _ _ (c .before .before .before .before .before .before .loop .inv) 0 _ (c .before .before .before .before .before .loop-test .taken) (c .before .before .put-number .ensures)
+loop-again c = let c5 = c .before .before .before .before .before in
+    blocks-next _ _ _ _ _ _ _ (c5 .before .loop .inv) 0 _ (c5 .loop-test .taken) (c .before .before .put-number .ensures)
 
 same-length : tie.Need-same-length Inv-loop μ-loop
 same-length c = blocks-long _ _ _ _ _ _ _ (c .before .loop .inv)
@@ -53,21 +54,5 @@ returns : tie.Need-returns Inv-loop μ-loop
 returns c = blocks-all _ _ _ _ _ _ _ (c .before .loop .inv) (c .loop-test .left)
 
 pub put-sets-spec : {M : Type 1} → statement M
-put-sets-spec =
-    tie.close
-    (tie.spec
-    Inv-loop
-    μ-loop
-    loop-holds
-    mul-put-number
-    sub-put-number
-    part-put-number-start
-    part-put-number-end
-    mul-put-number-2
-    shared-slice-read-put-number
-    put-number-requires
-    add-i
-    loop-less
-    loop-again
-    same-length
-    returns)
+put-sets-spec = tie.close (tie.spec Inv-loop μ-loop loop-holds mul-put-number sub-put-number part-put-number-start part-put-number-end mul-put-number-2
+    shared-slice-read-put-number put-number-requires add-i loop-less loop-again same-length returns)

@@ -23,5 +23,4 @@ returns : tie.Need-returns
 returns c = stored (_ ∷ _ ∷ _ ∷ []) _ (c .pre)
 
 pub put-term-spec : {M : Type 1} → statement M
-put-term-spec =
-    tie.close (tie.spec slice-write-free slice-write-free-2 slice-write-free-3 same-length returns)
+put-term-spec = tie.close (tie.spec slice-write-free slice-write-free-2 slice-write-free-3 same-length returns)

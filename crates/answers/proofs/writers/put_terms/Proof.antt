@@ -44,7 +44,8 @@ loop-less : tie.Need-loop-less Inv-loop μ-loop
 loop-less c = omega arith
 
 loop-again : tie.Need-loop-again Inv-loop μ-loop
-loop-again c = blocks-next _ _ _ _ _ _ _ (c .before .before .before .before .before .before .loop .inv) (record { care = 0; value = 0; outputs = 0 }) _ (c .before .before .before .before .before .loop-test .taken) (c .before .before .put-term .ensures)
+loop-again c = let c5 = c .before .before .before .before .before in
+    blocks-next _ _ _ _ _ _ _ (c5 .before .loop .inv) (record { care = 0; value = 0; outputs = 0 }) _ (c5 .loop-test .taken) (c .before .before .put-term .ensures)
 
 same-length : tie.Need-same-length Inv-loop μ-loop
 same-length c = blocks-long _ _ _ _ _ _ _ (c .before .loop .inv)
@@ -53,21 +54,5 @@ returns : tie.Need-returns Inv-loop μ-loop
 returns c = blocks-all _ _ _ _ _ _ _ (c .before .loop .inv) (c .loop-test .left)
 
 pub put-terms-spec : {M : Type 1} → statement M
-put-terms-spec =
-    tie.close
-    (tie.spec
-    Inv-loop
-    μ-loop
-    loop-holds
-    mul-put-term
-    sub-put-term
-    part-put-term-start
-    part-put-term-end
-    mul-put-term-2
-    array-copy-out-put-term
-    put-term-requires
-    add-i
-    loop-less
-    loop-again
-    same-length
-    returns)
+put-terms-spec = tie.close (tie.spec Inv-loop μ-loop loop-holds mul-put-term sub-put-term part-put-term-start part-put-term-end mul-put-term-2
+    array-copy-out-put-term put-term-requires add-i loop-less loop-again same-length returns)

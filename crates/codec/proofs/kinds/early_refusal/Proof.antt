@@ -18,22 +18,18 @@ width-of-requires : tie.Need-width-of-requires
 width-of-requires c κs = search needs
 
 returns-2 : tie.Need-returns-2
-returns-2 c = early-short (kindIs (c .before .before .before .before .before .before .args .k)) (c .before .before .before .before .before .before .args .place) (c .before .before .before .before .before .before .args .rest) _ _ _ (c .before .before .before .before .before .is-none .ensures) (c .before .before .before .before .if1 .left) (c .before .before .before .is-allowed .ensures) (c .before .before .if2 .taken) (c .before .width-of .ensures) (c .if3 .taken)
+returns-2 c = let c2 = c .before .before in let c4 = c2 .before .before in let c6 = c4 .before .before in
+    early-short (kindIs (c6 .args .k)) (c6 .args .place) (c6 .args .rest) _ _ _ (c4 .before .is-none .ensures) (c4 .if1 .left)
+    (c2 .before .is-allowed .ensures) (c2 .if2 .taken) (c .before .width-of .ensures) (c .if3 .taken)
 
 returns-3 : tie.Need-returns-3
-returns-3 c = early-passed (kindIs (c .before .before .before .before .before .before .args .k)) (c .before .before .before .before .before .before .args .place) (c .before .before .before .before .before .before .args .rest) _ _ _ (c .before .before .before .before .before .is-none .ensures) (c .before .before .before .before .if1 .left) (c .before .before .before .is-allowed .ensures) (c .before .before .if2 .taken) (c .before .width-of .ensures) (c .if3 .left)
+returns-3 c = let c2 = c .before .before in let c4 = c2 .before .before in let c6 = c4 .before .before in
+    early-passed (kindIs (c6 .args .k)) (c6 .args .place) (c6 .args .rest) _ _ _ (c4 .before .is-none .ensures) (c4 .if1 .left)
+    (c2 .before .is-allowed .ensures) (c2 .if2 .taken) (c .before .width-of .ensures) (c .if3 .left)
 
 returns-4 : tie.Need-returns-4
-returns-4 c = early-place (kindIs (c .before .before .before .before .args .k)) (c .before .before .before .before .args .place) (c .before .before .before .before .args .rest) _ _ (c .before .before .before .is-none .ensures) (c .before .before .if1 .left) (c .before .is-allowed .ensures) (c .if2 .left)
+returns-4 c = let c2 = c .before .before in let c4 = c2 .before .before in
+    early-place (kindIs (c4 .args .k)) (c4 .args .place) (c4 .args .rest) _ _ (c2 .before .is-none .ensures) (c2 .if1 .left) (c .before .is-allowed .ensures) (c .if2 .left)
 
 pub early-refusal-spec : {M : Type 1} → statement M
-early-refusal-spec =
-    tie.close
-    (tie.spec
-    is-none-requires
-    returns
-    is-allowed-requires
-    width-of-requires
-    returns-2
-    returns-3
-    returns-4)
+early-refusal-spec = tie.close (tie.spec is-none-requires returns is-allowed-requires width-of-requires returns-2 returns-3 returns-4)

@@ -77,30 +77,6 @@ returns-8 : tie.Need-returns-8
 returns-8 c = described-as _ _ _ (c .before .enum-told8 .given .1) (c .described8 .ensures)
 
 pub form-of-spec : {M : Type 1} → statement M
-form-of-spec =
-    tie.close
-    (tie.spec
-    enum-told
-    described-requires
-    enum-told-2
-    described-requires-2
-    enum-told-3
-    described-requires-3
-    enum-told-4
-    described-requires-4
-    enum-told-5
-    described-requires-5
-    enum-told-6
-    described-requires-6
-    enum-told-7
-    described-requires-7
-    enum-told-8
-    described-requires-8
-    returns
-    returns-2
-    returns-3
-    returns-4
-    returns-5
-    returns-6
-    returns-7
-    returns-8)
+form-of-spec = tie.close (tie.spec enum-told described-requires enum-told-2 described-requires-2 enum-told-3 described-requires-3 enum-told-4
+    described-requires-4 enum-told-5 described-requires-5 enum-told-6 described-requires-6 enum-told-7 described-requires-7 enum-told-8
+    described-requires-8 returns returns-2 returns-3 returns-4 returns-5 returns-6 returns-7 returns-8)

@@ -37,24 +37,12 @@ loop-less : tie.Need-loop-less Inv-loop μ-loop
 loop-less c = omega arith
 
 loop-again : tie.Need-loop-again Inv-loop μ-loop
-loop-again c = read-next _ _ _ _ _ _ (c .before .before .before .before .before .pre) (c .before .before .loop-test .taken) (c .before .before .before .loop .inv) (c .long .ensures .0) (c .long .ensures .1) refl
+loop-again c = let c2 = c .before .before in
+    read-next _ _ _ _ _ _ (c2 .before .before .before .pre) (c2 .loop-test .taken) (c2 .before .loop .inv) (c .long .ensures .0) (c .long .ensures .1) refl
 
 returns : tie.Need-returns Inv-loop μ-loop
 returns c = read-all _ _ _ _ (c .loop-test .left) (c .before .loop .inv)
 
 pub number-at-spec : {M : Type 1} → statement M
-number-at-spec =
-    tie.close
-    (tie.spec
-    Inv-loop
-    μ-loop
-    loop-holds
-    sub-i
-    mul-x
-    add-long
-    shared-slice-read-long
-    long-requires
-    add-x
-    loop-less
-    loop-again
+number-at-spec = tie.close (tie.spec Inv-loop μ-loop loop-holds sub-i mul-x add-long shared-slice-read-long long-requires add-x loop-less loop-again
     returns)

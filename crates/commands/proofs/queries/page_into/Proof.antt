@@ -11,7 +11,8 @@ fill-requires : tie.Need-fill-requires
 fill-requires c κs = search needs
 
 put-page-requires : tie.Need-put-page-requires
-put-page-requires c κs = let w = page-within (rowCovers (c .before .before .before .before .before .before .before .before .before .args .n) (now (c .before .before .before .before .before .before .before .before .before .args .rows))) (c .before .before .before .before .before .before .before .before .before .args .start) (now (c .before .before .before .before .before .before .before .before .before .args .row)) _ _ (c .before .before .before .before .fill .ensures) in (w .1, omega (arith, w .0, c .before .before .before .before .before .before .before .before .before .pre .1))
+put-page-requires c κs = let c4 = c .before .before .before .before in let c9 = c4 .before .before .before .before .before in
+    let w = page-within (rowCovers (c9 .args .n) (now (c9 .args .rows))) (c9 .args .start) (now (c9 .args .row)) _ _ (c4 .fill .ensures) in (w .1, omega (arith, w .0, c9 .pre .1))
 
 same-length : tie.Need-same-length
 same-length c = search needs
@@ -20,8 +21,10 @@ same-length-2 : tie.Need-same-length-2
 same-length-2 c = search needs
 
 returns : tie.Need-returns
-returns c = page-answer (rowCovers (c .before .before .before .before .before .before .before .before .before .before .before .before .args .n) (now (c .before .before .before .before .before .before .before .before .before .before .before .before .args .rows))) (c .before .before .before .before .before .before .before .before .before .before .before .before .args .start) (now (c .before .before .before .before .before .before .before .before .before .before .before .before .args .row)) _ _ (c .before .before .before .before .before .before .before .fill .ensures) (now (c .before .before .before .before .before .before .before .before .before .before .before .before .args .free)) (c .before .before .put-page .last .0) (c .before .before .put-page .result) (c .before .before .put-page .ensures)
+returns c = let c2 = c .before .before in let c12 = c2 .before .before .before .before .before .before .before .before .before .before in
+    page-answer (rowCovers (c12 .args .n) (now (c12 .args .rows))) (c12 .args .start) (now (c12 .args .row)) _ _
+    (c2 .before .before .before .before .before .fill .ensures) (now (c12 .args .free)) (c2 .put-page .last .0) (c2 .put-page .result)
+    (c2 .put-page .ensures)
 
 pub page-into-spec : {M : Type 1} → statement M
-page-into-spec =
-    tie.close (tie.spec fill-requires put-page-requires same-length same-length-2 returns)
+page-into-spec = tie.close (tie.spec fill-requires put-page-requires same-length same-length-2 returns)

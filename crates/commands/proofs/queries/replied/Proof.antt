@@ -22,6 +22,4 @@ returns-2 : tie.Need-returns-2
 returns-2 c = rw (c .before .before .reply .given .1, c .after-query .ensures)
 
 pub replied-spec : {M : Type 1} → statement M
-replied-spec =
-    tie.close
-    (tie.spec enum-told refused-requires enum-known-reply after-query-requires returns returns-2)
+replied-spec = tie.close (tie.spec enum-told refused-requires enum-known-reply after-query-requires returns returns-2)

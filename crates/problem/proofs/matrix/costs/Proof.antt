@@ -41,24 +41,20 @@ loop-less : tie.Need-loop-less Inv-loop μ-loop
 loop-less c = omega arith
 
 loop-again : tie.Need-loop-again Inv-loop μ-loop
-loop-again c = (omega arith, mapped-next termCost 64 (term 0 0 0) (c .before .before .before .before .args .t1) (c .before .before .before .loop .i) (c .before .before .before .loop .all) _ (omega (arith, c .before .before .before .before .pre)) (omega (arith, c .before .before .before .before .good .0 .1, c .before .before .before .before .pre)) (c .cost .ensures) (c .before .before .before .loop .inv .1))
+loop-again c = let c3 = c .before .before .before in let c4 = c3 .before in (
+  omega arith,
+  mapped-next termCost 64 (term 0 0 0) (c4 .args .t1) (c3 .loop .i) (c3 .loop .all) _ (omega (arith, c4 .pre))
+      (omega (arith, c4 .good .0 .1, c4 .pre)) (c .cost .ensures) (c3 .loop .inv .1),
+)
 
 returns : tie.Need-returns Inv-loop μ-loop
-returns c = record { size = c .before .loop .inv .1 .0; costs = let e : c .before .loop .i ≡ c .before .before .args .count = omega (arith, c .before .loop .inv .0) in subst (λ (k : ℕ). take k (c .before .loop .all) ≡ map termCost (take k (c .before .before .args .t1))) e (c .before .loop .inv .1 .1) }
+returns c = record {
+  size = c .before .loop .inv .1 .0;
+  costs = let e : c .before .loop .i ≡ c .before .before .args .count = omega
+      (arith, c .before .loop .inv .0) in subst (λ (k : ℕ). take k (c .before .loop .all) ≡ map termCost (take k (c .before .before .args .t1))) e
+      (c .before .loop .inv .1 .1);
+}
 
 pub costs-spec : {M : Type 1} → statement M
-costs-spec =
-    tie.close
-    (tie.spec
-    Inv-loop
-    μ-loop
-    loop-holds
-    mul-t
-    array-copy-out-t
-    cost-requires
-    mul-all
-    array-write-all
-    add-i
-    loop-less
-    loop-again
+costs-spec = tie.close (tie.spec Inv-loop μ-loop loop-holds mul-t array-copy-out-t cost-requires mul-all array-write-all add-i loop-less loop-again
     returns)

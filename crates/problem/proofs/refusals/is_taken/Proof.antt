@@ -20,5 +20,4 @@ returns-2 : tie.Need-returns-2
 returns-2 c = taken-row _ _ _ _ _ (c .before .before .bound .ensures) (c .before .before .before .wide .ensures) (c .before .if1 .left)
 
 pub is-taken-spec : {M : Type 1} → statement M
-is-taken-spec =
-    tie.close (tie.spec wide-requires bound-requires returns element-copy-out-result returns-2)
+is-taken-spec = tie.close (tie.spec wide-requires bound-requires returns element-copy-out-result returns-2)

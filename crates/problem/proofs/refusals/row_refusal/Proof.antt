@@ -14,11 +14,12 @@ bad-row-requires : tie.Need-bad-row-requires
 bad-row-requires c κs = search needs
 
 returns-2 : tie.Need-returns-2
-returns-2 c = let a = c .before .before .before .before .args in row-bad _ (a .s .m) _ _ (a .on) (a .dc) _ (c .before .before .before .is-taken .ensures) (c .before .before .if1 .left) _ (c .before .bad-row .ensures) (c .if2 .taken)
+returns-2 c = let c2 = c .before .before in
+    let a = c2 .before .before .args in row-bad _ (a .s .m) _ _ (a .on) (a .dc) _ (c2 .before .is-taken .ensures) (c2 .if1 .left) _ (c .before .bad-row .ensures) (c .if2 .taken)
 
 returns-3 : tie.Need-returns-3
-returns-3 c = let a = c .before .before .before .before .args in row-good _ (a .s .m) _ _ (a .on) (a .dc) _ (c .before .before .before .is-taken .ensures) (c .before .before .if1 .left) _ (c .before .bad-row .ensures) (c .if2 .left)
+returns-3 c = let c2 = c .before .before in
+    let a = c2 .before .before .args in row-good _ (a .s .m) _ _ (a .on) (a .dc) _ (c2 .before .is-taken .ensures) (c2 .if1 .left) _ (c .before .bad-row .ensures) (c .if2 .left)
 
 pub row-refusal-spec : {M : Type 1} → statement M
-row-refusal-spec =
-    tie.close (tie.spec is-taken-requires returns bad-row-requires returns-2 returns-3)
+row-refusal-spec = tie.close (tie.spec is-taken-requires returns bad-row-requires returns-2 returns-3)

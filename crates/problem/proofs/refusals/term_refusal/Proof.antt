@@ -21,5 +21,4 @@ returns-3 : tie.Need-returns-3
 returns-3 c = term-malformed _ _ _ _ _ (c .before .formed .ensures) (c .if1 .left)
 
 pub term-refusal-spec : {M : Type 1} → statement M
-term-refusal-spec =
-    tie.close (tie.spec formed-requires holds-no-off-requires returns returns-2 returns-3)
+term-refusal-spec = tie.close (tie.spec formed-requires holds-no-off-requires returns returns-2 returns-3)
