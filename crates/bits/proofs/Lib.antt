@@ -5,3 +5,4 @@ pub mod Members
 pub mod Parts
 pub mod Tops
 pub mod Steps
+pub mod Lists

@@ -17,7 +17,7 @@ use Rattle.model.specs.Refusals.{refuse, firstOf, refusalsOf, size, badRow}
 use Rattle.model.proofs.Runs.{first-before, first-behind}
 use Rattle.model.proofs.Sound.{refusalsOf-no}
 use Rattle.table.specs.declared.prime_list.PrimeList.{PrimeList}
-use Rattle.table.specs.Lists.{Filled}
+use Rattle.bits.specs.Lists.{Filled}
 use Rattle.table.specs.Cubes.{MayOf}
 use Rattle.table.specs.Primes.{Listed, AllPrimes}
 use Rattle.table.proofs.Uses.{whole-list}

@@ -15,7 +15,7 @@ use Rattle.model.specs.Table.{Cell, onCells, holds}
 use Rattle.model.specs.Sets.{rowOf, covers, coverable}
 use Rattle.model.proofs.Lists.{every-e, every-i, below-e, below-i, T-true, T-false}
 use Rattle.incidence.specs.Rows.{hasVertex, Driving, cellRow, vertexRows, cellHeld, vertexHeld, TellsCoverable}
-use Rattle.table.specs.Lists.{parts}
+use Rattle.bits.specs.Lists.{parts}
 use Rattle.incidence.proofs.Candidates.{held-row}
 use Rattle.incidence.proofs.Matrix.{rowsAt, cells-rows}
 

@@ -11,7 +11,7 @@ use Rattle.model.specs.Base.{bit, below, every, implies}
 use Rattle.model.specs.Table.{Table, inCube, holds, onCells}
 use Rattle.model.specs.Sets.{rowOf, coverable}
 use Rattle.model.specs.Candidates.{basis, covering}
-use Rattle.table.specs.Lists.{parts}
+use Rattle.bits.specs.Lists.{parts}
 
 -- on has the on bytes of table p, of n inputs and m outputs
 pub record OnBytes (p : Table) (n m : ℕ) (on : List ℕ) : Type 0 where

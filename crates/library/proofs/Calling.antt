@@ -22,7 +22,7 @@ use Rattle.model.specs.Library.{unpack, badVertex, refusalsOfWord, callRefusals
 use Rattle.model.proofs.Lists.{zero-at, T-true, and-l, and-r, some-i, below-i, all-append}
 use Rattle.model.proofs.Runs.{Numbered, first-before, first-behind}
 use Rattle.model.proofs.Library.{listed-refused}
-use Rattle.table.specs.Lists.{Filled}
+use Rattle.bits.specs.Lists.{Filled}
 use Rattle.table.specs.Cubes.{Allowed, MayOf}
 use Rattle.rows.specs.Covers.{rowCovers}
 use Rattle.lister.specs.Lister.{Paged}

@@ -7,7 +7,7 @@ ghost use mathlib.Core.List.{map};
 ghost use Prim.Native.Nat.{_≤_};
 ghost use lib.ListN.{length};
 ghost use Rattle.model.specs.Library.{unpack, listCovers};
-ghost use Rattle.table.specs.Lists as lists;
+ghost use Rattle.bits.specs.Lists as lists;
 ghost use Rattle.problem.specs.Problems.{Sized, Holds};
 ghost use Rattle.library.specs.Library.{Answers, calledTable, rightSizes, someBad, TableRefusal, problemOf, Padded, WordRefusal, WordsRefusal, RowFilled};
 use bits::byte;

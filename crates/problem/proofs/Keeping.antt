@@ -2,15 +2,14 @@
 use Prim.Native.Nat.{ℕ, _^_, _≤_, _<_}
 use native.Mathlib.Omega.{arith}
 use native.Mathlib.Decide.{ℕ-discrete}
-use native.Mathlib.Numerals.{add-one}
 use mathlib.Core.Path.{_≡_, refl, sym, ap, _∙_}
 use mathlib.Core.Bool.{false}
 use mathlib.Core.List.{List, [], _∷_, _++_}
 use borrow.Author.Tests.{eq-eqb, ne-eqb}
 use lib.Dec.{T, ltb, eqb}
-use lib.ListN.{getD, length, set, replicate, length-set, length-append, length-replicate}
+use lib.ListN.{getD, length, set, replicate, length-set, length-replicate}
 use lib.Pow.{pow-mono}
-use lib.Seq.{getD-set-same, getD-set-other, take-suc-set}
+use lib.Seq.{getD-set-same, getD-set-other}
 use Rattle.model.specs.Base.{some}
 use Rattle.model.specs.declared.Term.{Term}
 use Rattle.model.specs.Primes.{primes}
@@ -19,7 +18,8 @@ use Rattle.model.specs.Commands.{Context, operand, operandTerm, tableOf, isQuer
 use Rattle.model.specs.Invariants.{Valid}
 use Rattle.model.proofs.Codes.{any-query}
 use Rattle.model.proofs.Lists.{zero-at}
-use Rattle.table.specs.Lists.{Filled}
+use Rattle.bits.specs.Lists.{Filled}
+use Rattle.bits.proofs.Lists.{filled-next}
 use Rattle.problem.specs.declared.TableRows.{TableRows}
 use Rattle.problem.specs.declared.Candidates.{Candidates}
 use Rattle.problem.specs.declared.Problem.{Problem}
@@ -106,18 +106,11 @@ pub holds-candidates : (place : ℕ) (p : Problem) (q : model.Problem) (cs : Can
     → Holds (atPlace place (withCandidates cs p)) (model.atPlace place (model.withCands ts q))
 holds-candidates place p q cs ts h c = record { place = refl; settings = h .settings; rows = h .rows; cands = c }
 
-holds-term : (cs : Candidates) (ts : List Term) (t : Term) → HoldsCands cs ts → cs .count < 64 → HoldsCands (termPut cs t) (ts ++ (t ∷ []))
-unfolding termPut
-holds-term cs ts t h l = record {
-  size = length-set (cs .terms) (cs .count) t ∙ h .size;
-  counted = omega (arith, length-append ts (t ∷ []), h .counted);
-  same = rw (add-one (cs .count)) (take-suc-set (cs .terms) (cs .count) t (omega (arith, h .size)) ∙ ap (λ (us : List Term). us ++ (t ∷ [])) (h .same));
-}
-
 pub after-T : (x : Context) (p : Problem) (t : Term) → Holds p (x .problem) → operandTerm x ≡ t → p .candidates .count < 64
     → Holds (atPlace model.inTerms (withCandidates (termPut (p .candidates) t) p)) (problemAfter x model.Kind.T)
-unfolding problemAfter
-after-T x p t h e l = rw e (holds-candidates model.inTerms p (x .problem) (termPut (p .candidates) t) (x .problem .cands ++ (t ∷ [])) h (holds-term (p .candidates) (x .problem .cands) t (h .cands) l))
+unfolding problemAfter termPut
+after-T x p t h e l = rw e (holds-candidates model.inTerms p (x .problem) (termPut (p .candidates) t) (x .problem .cands ++ (t ∷ [])) h
+    (filled-next 64 (p .candidates .terms) (p .candidates .count) (x .problem .cands) t (h .cands) l))
 
 pub after-P : (x : Context) (p : Problem) (terms : List Term) (count : ℕ) → Holds p (x .problem) → Filled 64 (primes (tableOf (x .problem))) terms count
     → Holds (atPlace model.queried (withCandidates (listed terms count) p)) (problemAfter x model.Kind.P)

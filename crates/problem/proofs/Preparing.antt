@@ -1,13 +1,11 @@
 -- The laws behind the covering matrix: the rows of a problem, reduced, have its covers and its cheapest.
-use Prim.Native.Nat.{ℕ, _+_, _≤_, _<_}
+use Prim.Native.Nat.{ℕ, _≤_}
 use native.Mathlib.Omega.{arith}
-use native.Mathlib.Numerals.{add-one}
-use mathlib.Core.Path.{_≡_, refl, sym, ap, ap₂, _∙_, subst, subst⁻¹}
+use mathlib.Core.Path.{_≡_, sym, ap, _∙_, subst, subst⁻¹}
 use mathlib.Core.Bool.{Bool}
-use mathlib.Core.List.{List, [], _∷_, _++_, map}
-use lib.ListN.{getD, length, take, set, replicate, length-map, length-replicate, length-set}
+use mathlib.Core.List.{List, [], map}
+use lib.ListN.{length, take, replicate, length-map, length-replicate}
 use lib.Pow.{pow-mono}
-use lib.Seq.{take-suc, take-suc-set, take-length}
 use Rattle.model.specs.Base.{bit, below}
 use Rattle.model.specs.declared.Term.{Term}
 use Rattle.model.specs.Table.{holds, onCells}
@@ -21,7 +19,6 @@ use Rattle.rows.proofs.Same.{reduced-irredundants, reduced-cheapest, reduced-co
 use Rattle.rows.specs.Order.{SameRows}
 use Rattle.rows.specs.Covers.{rowCovers}
 use Rattle.rows.proofs.Ordering.{ordered-irredundants, ordered-cheapest, ordered-coverable}
-use Rattle.table.specs.Lists.{Filled}
 use Rattle.incidence.specs.Rows.{OnBytes, Put, AllRows, TellsCoverable}
 use Rattle.incidence.proofs.Uses.{put-front, some-on-table}
 use Rattle.problem.specs.declared.Problem.{Problem}
@@ -103,30 +100,3 @@ rows-listed p q rows n h d m = ap (λ (i : ℕ). irredundants (ofRows (replicate
 
 pub prepared-all : (p : Problem) (m : Matrix) (out : List ℕ) → PutsRows p out (m .count) → TellsCovered p (m .covered) → Prepares p out m
 prepared-all p m out d c = record { size = d .size; within = d .within; matrix = λ q h. record { rows-of = d .rows q h; told = c q h } }
-
--- ---- an array that a loop fills entry by entry
-
-module _ {A B : Type 0} (f : A → B) (cap : ℕ) where
-  -- the first i entries are done
-  abbrev pub MappedBelow : List A → ℕ → List B → Type 0
-  MappedBelow xs i all = (length all ≡ cap) × (take i all ≡ map f (take i xs))
-
-  map-more : (xs : List A) (x : A) → map f (xs ++ (x ∷ [])) ≡ map f xs ++ (f x ∷ [])
-  map-more [] x = refl
-  map-more (y ∷ xs) x = ap (λ (l : List B). f y ∷ l) (map-more xs x)
-
-  pub mapped-next : (d : A) (xs : List A) (i : ℕ) (all : List B) (w : B) → i < cap → i < length xs → w ≡ f (getD xs i d) → MappedBelow xs i all → MappedBelow xs (i + 1) (set all i w)
-  mapped-next d xs i all w l k e c = (
-    length-set all i w ∙ c .0,
-    rw (add-one i) (take-suc-set all i w (omega (arith, c .0)) ∙ ap₂ (λ (ys : List B) (y : B). ys ++ (y ∷ [])) (c .1) e
-        ∙ sym (map-more (take i xs) (getD xs i d)) ∙ ap (map f) (sym (take-suc xs i d k))),
-  )
-
-  pub mapped-all : (xs : List A) (i : ℕ) (all : List B) → length xs ≤ i → i ≤ length xs → MappedBelow xs i all → Filled cap (map f xs) all (length xs)
-  mapped-all xs i all l k c =
-      let e : i ≡ length xs = omega arith in
-      record {
-        size = c .0;
-        counted = sym (length-map xs f);
-        same = subst (λ (n : ℕ). take n all ≡ map f (take n xs)) e (c .1) ∙ ap (map f) (take-length xs);
-      }

@@ -9,7 +9,7 @@ use Rattle.model.specs.declared.Term.{Term}
 use Rattle.model.specs.Table.{term}
 use Rattle.model.specs.Commands as model
 use Rattle.model.specs.Invariants.{Valid}
-use Rattle.table.specs.Lists.{Filled}
+use Rattle.bits.specs.Lists.{Filled}
 use Rattle.problem.specs.declared.Settings.{Settings}
 use Rattle.problem.specs.declared.TableRows.{TableRows}
 use Rattle.problem.specs.declared.Candidates.{Candidates}

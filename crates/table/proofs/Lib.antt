@@ -1,4 +1,3 @@
-pub mod Lists
 pub mod Halves
 pub mod Legality
 pub mod Literals

@@ -14,9 +14,9 @@ use Rattle.model.specs.Primes.{prime, primes, terms}
 use Rattle.model.proofs.Cubes.{Formed, legal-formed, prime-e}
 use Rattle.table.specs.declared.prime_list.PrimeList.{PrimeList}
 use Rattle.table.specs.Cubes.{Allowed, PrimeOutputs}
-use Rattle.table.specs.Lists.{upTo}
+use Rattle.bits.specs.Lists.{upTo}
 use Rattle.table.specs.Primes.{Listed, Extends, ofCube, ofCare, ExtendsByCube, ExtendsByCare, ExtendsByCares, AllPrimes}
-use Rattle.table.proofs.Lists.{upTo-split, upTo-next, rest, passes-none, passes-one, first-next, first-full, counts}
+use Rattle.bits.proofs.Lists.{upTo-split, upTo-next, rest, passes-none, passes-one, first-next, first-full, counts}
 
 -- ---- one term more
 

@@ -16,7 +16,7 @@ use Rattle.model.specs.Table.{Table}
 use Rattle.model.specs.Library.{badVertex}
 use Rattle.model.proofs.Lists.{or-l, or-r}
 use Rattle.table.specs.declared.prime_list.PrimeList.{PrimeList}
-use Rattle.table.specs.Lists.{Filled}
+use Rattle.bits.specs.Lists.{Filled}
 use Rattle.table.specs.Primes.{Listed}
 
 -- ---- the bytes of a table

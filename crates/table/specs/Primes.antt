@@ -10,7 +10,7 @@ use Rattle.model.specs.Table.{Table, term}
 use Rattle.model.specs.Primes.{prime, primes}
 use Rattle.table.specs.declared.prime_list.PrimeList.{PrimeList}
 use Rattle.table.specs.Cubes.{Allowed}
-use Rattle.table.specs.Lists.{Filled, parts, upTo}
+use Rattle.bits.specs.Lists.{Filled, parts, upTo}
 
 -- r has the first 64 of the terms ts, and tells whether there are more
 pub record Listed (ts : List Term) (r : PrimeList) : Type 0 where

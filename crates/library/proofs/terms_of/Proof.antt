@@ -5,7 +5,7 @@ use native.Mathlib.Omega.{arith}
 use mathlib.Core.Path.{refl}
 use lib.ListN.{length}
 use Rattle.model.specs.Library.{unpack}
-use Rattle.problem.proofs.Preparing.{MappedBelow, mapped-next, mapped-all}
+use Rattle.bits.proofs.Lists.{MappedBelow, mapped-next, mapped-all}
 use Rattle.library.proofs.terms_of.Statement.{statement}
 use Rattle.library.proofs.terms_of.Tie as tie
 

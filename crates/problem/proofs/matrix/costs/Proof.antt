@@ -6,7 +6,7 @@ use lib.ListN.{take}
 use Rattle.model.specs.Table.{term}
 use Rattle.model.specs.Candidates.{termCost}
 use native.Mathlib.Omega.{arith}
-use Rattle.problem.proofs.Preparing.{MappedBelow, mapped-next}
+use Rattle.bits.proofs.Lists.{MappedBelow, mapped-next}
 use Rattle.problem.proofs.matrix.costs.Statement.{statement}
 use Rattle.problem.proofs.matrix.costs.Tie as tie
 

@@ -1,4 +1,4 @@
--- Lists by parts, lists in arrays, and a filter that passes one entry. Nothing here is from the paper.
+-- Lists by parts, lists in arrays, arrays that a loop fills, and a filter that passes one entry. Nothing here is from the paper.
 use Prim.Native.Nat.{ℕ, zero, suc, _+_, _-_, _≤_, _<_, min}
 use native.Mathlib.Omega.{arith}
 use native.Mathlib.Decide.{decLt}
@@ -8,10 +8,10 @@ use mathlib.Core.Bool.{Bool, true, false, cond}
 use mathlib.Core.List.{List, [], _∷_, _++_, map, map-append, append-nil, append-assoc}
 use borrow.Author.Tests.{eq-eqb, ne-eqb}
 use lib.Dec.{eqb}
-use lib.ListN.{length, take, set, length-append, length-take, length-set}
-use lib.Seq.{take-all, take-append-le, take-suc-set}
+use lib.ListN.{getD, length, take, set, length-append, length-take, length-set, length-map}
+use lib.Seq.{take-all, take-append-le, take-suc, take-suc-set, take-length}
 use Rattle.model.specs.Base.{from, below, filter, join}
-use Rattle.table.specs.Lists.{Filled, parts, upTo}
+use Rattle.bits.specs.Lists.{Filled, parts, upTo}
 
 -- ---- numbers in a row, in two parts
 
@@ -97,7 +97,7 @@ module _ {A : Type 0} where
   -- ---- an array that holds a list, with one entry more
 
   module _ (cap : ℕ) (array : List A) (count : ℕ) where
-    filled-next : (xs : List A) (x : A) → Filled cap xs array count → count < cap → Filled cap (xs ++ (x ∷ [])) (set array count x) (count + 1)
+    pub filled-next : (xs : List A) (x : A) → Filled cap xs array count → count < cap → Filled cap (xs ++ (x ∷ [])) (set array count x) (count + 1)
     filled-next xs x f l = record {
       size = length-set array count x ∙ f .size;
       counted = omega (arith, f .counted, length-append xs (x ∷ []));
@@ -125,3 +125,26 @@ module _ {A : Type 0} where
       first-full ys l =
           let n : cap ≤ length xs = omega (arith, counts) in
           subst⁻¹ (λ (zs : List A). Filled cap zs array count) (take-append-le cap xs ys n) f
+
+-- ---- an array that a loop fills entry by entry
+
+module _ {A B : Type 0} (f : A → B) (cap : ℕ) where
+  -- the first i entries are done
+  abbrev pub MappedBelow : List A → ℕ → List B → Type 0
+  MappedBelow xs i all = (length all ≡ cap) × (take i all ≡ map f (take i xs))
+
+  pub mapped-next : (d : A) (xs : List A) (i : ℕ) (all : List B) (w : B) → i < cap → i < length xs → w ≡ f (getD xs i d) → MappedBelow xs i all → MappedBelow xs (i + 1) (set all i w)
+  mapped-next d xs i all w l k e c = (
+    length-set all i w ∙ c .0,
+    rw (add-one i) (take-suc-set all i w (omega (arith, c .0)) ∙ ap₂ (λ (ys : List B) (y : B). ys ++ (y ∷ [])) (c .1) e
+        ∙ sym (map-append f (take i xs) (getD xs i d ∷ [])) ∙ ap (map f) (sym (take-suc xs i d k))),
+  )
+
+  pub mapped-all : (xs : List A) (i : ℕ) (all : List B) → length xs ≤ i → i ≤ length xs → MappedBelow xs i all → Filled cap (map f xs) all (length xs)
+  mapped-all xs i all l k c =
+      let e : i ≡ length xs = omega arith in
+      record {
+        size = c .0;
+        counted = sym (length-map xs f);
+        same = subst (λ (n : ℕ). take n all ≡ map f (take n xs)) e (c .1) ∙ ap (map f) (take-length xs);
+      }
