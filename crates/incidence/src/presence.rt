@@ -1,4 +1,4 @@
-// The cover test of refusal 12, as L and the library call ask it: document 000's presence function at the set of all candidates.
+// The cover test of refusal 12: document 000's presence function at the set of all candidates. It is asked once for a covering matrix.
 //
 // The function is a product of sums, one sum for each on cell over the candidates that hold it; a cell that all hold keeps its
 // sum, and a sum without a candidate makes the product 0.

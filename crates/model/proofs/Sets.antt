@@ -1,8 +1,9 @@
 -- The cover facts, over any candidates, once.
 use Prim.Native.Nat.{ℕ, zero, suc, _-_, _/_, _%_, _^_, _≤_, _<_}
 use native.Mathlib.Omega.{arith}
+use native.Mathlib.Decide.{ℕ-discrete}
 use native.Mathlib.Nat.{pow-suc, le-refl}
-use mathlib.Core.Path.{_≡_, refl, ap}
+use mathlib.Core.Path.{_≡_, refl, sym, ap}
 use mathlib.Core.Logic.{_↔_, _⊎_, inl, inr}
 use mathlib.Core.Bool.{Bool, true, false, not, cond, _&&_}
 use mathlib.Core.List.{List, [], _∷_, List·Memᴰ, List·Memᴰ·head, List·Memᴰ·tail}
@@ -162,6 +163,25 @@ module _ {A X : Type 0} (k : Covering A X) where
   irredundant-i s r = and-i (cover k s) (none-redundant s) (r .covering) (every-i (λ i. not (redundant k s i)) (below (length (k .cands))) (λ i m. not-T (redundant k s i) (λ t.
       let q = redundant-e s i t in
       r .tight (s - 2 ^ i) (without-within i s (q .0)) (λ e. omega (arith, bit-le i s (q .0), pow-pos i, e)) (q .1))))
+
+  -- "with no wanted cell, set 0 is the only irredundant cover"
+  pub none-wanted : k .points ≡ [] → (s : ℕ) → Irredundant k s ↔ (s ≡ 0)
+  unfolding cover covers
+  none-wanted e s = (
+    λ r. go r (ℕ-discrete s 0),
+    λ z. rw z (record {
+      among = pow-pos (length (k .cands));
+      covering = rw e tt;
+      tight = λ a w d c. let q = lacks (length (k .cands)) a 0 (pow-pos (length (k .cands))) w d in omega (arith, bit-le (q .0) 0 (q .2), pow-pos (q .0));
+    }),
+  )
+    where
+      none : (i s : ℕ) → T (bit i 0) → T (bit i s)
+      none i s t = absurd (omega (arith, bit-le i 0 t, pow-pos i))
+
+      go : Irredundant k s → Dec (s ≡ 0) → s ≡ 0
+      go r (yes z) = z
+      go r (no d) = absurd (r .tight 0 (λ i. none i s) (λ z. d (sym z)) (rw e tt))
 
   -- the list is that of the irredundant covers
   pub listed : (s : ℕ) → List·Memᴰ s (irredundants k) ↔ Irredundant k s

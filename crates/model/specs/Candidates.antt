@@ -29,7 +29,7 @@ listCost b ts = sum (b .weight) ts
 abbrev pub covering : Basis → Covering Term Cell
 covering b = record { points = onCells (b .table); holds = holds; weight = b .weight; cands = b .cands }
 
--- demand 2: "a set is a cover when it holds every wanted cell and no off cell"; a set holds what its members hold
+-- demand 2: "a cover holds every wanted cell and no off cell"; a set holds what its members hold
 pub record HoldsExactly (b : Basis) (s : ℕ) : Type 0 where
   pub every-wanted : (c : Cell) → List·Memᴰ c (cells (b .table)) → T (isOn (b .table) c) → (t : Term) × List·Memᴰ t (members (b .cands) s) × T (holds t c)
   pub no-off : (c : Cell) → List·Memᴰ c (cells (b .table)) → T (isOff (b .table) c) → (t : Term) → List·Memᴰ t (members (b .cands) s) → T (holds t c) → ⊥
