@@ -1,4 +1,5 @@
 -- `commands::end` meets its contract.
+use native.Mathlib.Omega.{arith}
 use Rattle.commands.proofs.Handling.{end-early, end-long, end-written}
 use borrow.Author.Needs.{needs}
 use Rattle.commands.proofs.end.Statement.{statement}
@@ -8,7 +9,7 @@ refused-requires : tie.Need-refused-requires
 refused-requires c κs = search needs
 
 returns : tie.Need-returns
-returns c = end-early (c .before .before .before .args .p) (c .before .before .before .args .rest) _ _ (c .before .if1 .taken) (c .refused .ensures)
+returns c = end-early (c .before .before .before .args .p) (c .before .before .before .args .rest) _ _ (omega (arith, c .before .if1 .taken)) (c .refused .ensures)
 
 put-end-requires : tie.Need-put-end-requires
 put-end-requires c κs = search needs

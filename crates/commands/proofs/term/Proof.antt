@@ -1,4 +1,5 @@
 -- `commands::term` meets its contract.
+use native.Mathlib.Omega.{arith}
 use Rattle.commands.proofs.Handling.{term-refused, term-many, term-kept}
 use borrow.Author.Needs.{needs}
 use Rattle.commands.proofs.term.Statement.{statement}
@@ -17,7 +18,7 @@ refused-requires-2 : tie.Need-refused-requires-2
 refused-requires-2 c κs = search needs
 
 returns-2 : tie.Need-returns-2
-returns-2 c = term-many _ _ _ (c .before .before .before .before .term-refusal .ensures) _ (c .before .before .before .if1 .left) (c .before .if2 .taken) (c .refused2 .ensures)
+returns-2 c = term-many _ _ _ (c .before .before .before .before .term-refusal .ensures) _ (c .before .before .before .if1 .left) (omega (arith, c .before .if2 .taken)) (c .refused2 .ensures)
 
 with-term-requires : tie.Need-with-term-requires
 with-term-requires c κs = search needs

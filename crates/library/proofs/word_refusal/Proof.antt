@@ -1,4 +1,5 @@
 -- `library::word_refusal` meets its contract.
+use native.Mathlib.Omega.{arith}
 use denote.Ref.{now}
 use Rattle.library.proofs.Calling.{word-top, word-term}
 use borrow.Author.Needs.{needs}
@@ -6,7 +7,7 @@ use Rattle.library.proofs.word_refusal.Statement.{statement}
 use Rattle.library.proofs.word_refusal.Tie as tie
 
 returns : tie.Need-returns
-returns c = let a = c .before .args in word-top (now (a .may)) (a .n) (a .m) (a .w) (c .if1 .taken)
+returns c = let a = c .before .args in word-top (now (a .may)) (a .n) (a .m) (a .w) (omega (arith, c .if1 .taken))
 
 unpacked-requires : tie.Need-unpacked-requires
 unpacked-requires c κs = search needs
