@@ -46,7 +46,8 @@ fn refresh(p: Problem, k: Kind, ready: bool, m: Matrix, rows: &mut [u64]) -> Mat
     m
 }
 
-// The commands one by one, until one is refused, E is answered or the job's bytes end. The covering matrix is kept from query to query.
+// The commands one by one, but the rows behind I in one go, until one is refused, E is answered or the job's bytes end. The covering matrix
+// is kept from query to query. p is set right behind the step: so the compiler copies the record once, and not twice.
 pub fn run(job: &[u8], answers: &mut [u8]) -> u64
     requires { ⌜ (length (now job) ≤ 32768) × (length (now answers) ≤ 32768) ⌝ }
     ensures { λ r. ⌜ Met (called (now (job .entry)) (now (answers .entry)) r (now (answers .exit))) ⌝ }
@@ -68,6 +69,7 @@ pub fn run(job: &[u8], answers: &mut [u8]) -> u64
         let found = &rows[..count];
         let free = &mut answers[written..];
         let e = step::step(p, found, m.covered, job, at, free);
+        p = e.problem;
         if e.number != 0 {
             return pack(e.number, at, written);
         }
@@ -75,7 +77,6 @@ pub fn run(job: &[u8], answers: &mut [u8]) -> u64
         if kinds::is_end(k) {
             return pack(0, at + 1, written);
         }
-        p = e.problem;
         at = at + 1 + kinds::width_of(k);
         if row_block::starts(p.place, job, at) {
             let block = row_block::read_rows(p, job, at);

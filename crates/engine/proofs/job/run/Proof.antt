@@ -1,4 +1,4 @@
--- `engine::job::run` meets its contract: each turn of the loop is one law of `Running`.
+-- `engine::job::run` meets its contract: each turn of the loop is one law of `Running`, and of `Blocks` where rows are read.
 use Prim.Native.Nat.{ℕ, _+_, _-_}
 use native.Mathlib.Omega.{arith}
 use mathlib.Core.Path.{_≡_, refl, sym, ap, _∙_, subst⁻¹}
@@ -34,9 +34,9 @@ query-is : (c : tie.After-is-query Inv-loop μ-loop) → let c7 = c .before .bef
 query-is c = c .is-query .ensures ∙ ap isQueryKind (kind-is (c .before .before .before .before))
 
 end-is : (c : tie.After-is-end Inv-loop μ-loop) →
-    let c16 = c .before .before .before .before .before .before .before .before .before .before .before .before .before .before .before .before in
-    c .is-end .result ≡ is (kindOf (getD (now (c16 .before .before .before .before .args .job)) (c16 .loop .at) 0)) Kind.E
-end-is c = c .is-end .ensures ∙ ap (λ (k : Kind). is k Kind.E) (kind-is (c .before .before .before .before .before .before .before .before .before .before .before .before .before))
+    let c17 = c .before .before .before .before .before .before .before .before .before .before .before .before .before .before .before .before .before in
+    c .is-end .result ≡ is (kindOf (getD (now (c17 .before .before .before .before .args .job)) (c17 .loop .at) 0)) Kind.E
+end-is c = c .is-end .ensures ∙ ap (λ (k : Kind). is k Kind.E) (kind-is (c .before .before .before .before .before .before .before .before .before .before .before .before .before .before))
 
 width-is : (c : tie.After-width-of Inv-loop μ-loop) →
     let c19 = c .before .before .before .before .before .before .before .before .before .before .before .before .before .before .before .before .before .before .before in
@@ -71,10 +71,10 @@ next : (c : tie.After-width-of Inv-loop μ-loop) → let c9 = c .before .before 
     let l = c19 .loop in let a = c19 .before .before .before .before .args in let r = c12 .before .before .refresh in let s = c9 .step in Going
     (now (a .job)) (now (a .answers)) (withTail (l .written) (l .answers) (s .last .1 .1 .1 .1 .1 .0)) (s .result .problem) (r .last .1 .1 .1 .1 .0)
     (r .result) (c12 .is-query .result) (l .at + 1 + c .width-of .result) (l .written + s .result .written)
-next c = let c3 = c .before .before .before in let c9 = c3 .before .before .before .before .before .before in let c12 = c9 .before .before .before in
+next c = let c2 = c .before .before in let c9 = c2 .before .before .before .before .before .before .before in let c12 = c9 .before .before .before in
     let c18 = c12 .before .before .before .before .before .before in
     let r = c12 .before .before .refresh .ensures in going-next (c18 .before .loop .inv) (c18 .loop-test .taken) (stepped c9)
-    (c3 .before .before .if1 .left) refl (r .size) (r .within) (next-matrix c12) (sym (end-is c3) ∙ c .before .before .if2 .left) (width-is c)
+    (c2 .before .before .if1 .left) refl (r .size) (r .within) (next-matrix c12) (sym (end-is c2) ∙ c .before .if2 .left) (width-is c)
 
 empty-requires : tie.Need-empty-requires Inv-loop μ-loop
 empty-requires c κs = tt
@@ -117,46 +117,47 @@ step-requires c κs = let c2 = c .before .before in let c8 = c2 .before .before 
     (reached (c8 .before .loop .inv), (c8 .loop-test .taken, omega (arith, slice-aggregate-found (c .before), array-share-prefix-rows c2)))
 
 pack-requires : tie.Need-pack-requires Inv-loop μ-loop
-pack-requires c κs = let c13 = c .before .before .before .before .before .before .before .before .before .before .before .before .before in
-    let c18 = c13 .before .before .before .before .before in
-    (omega (arith, c13 .loop-test .taken, c18 .pre .0), omega (arith, c13 .before .loop .inv .counted, c13 .before .loop .inv .fits, c18 .pre .1))
+pack-requires c κs = let c14 = c .before .before .before .before .before .before .before .before .before .before .before .before .before .before in
+    let c19 = c14 .before .before .before .before .before in
+    (omega (arith, c14 .loop-test .taken, c19 .pre .0), omega (arith, c14 .before .loop .inv .counted, c14 .before .loop .inv .fits, c19 .pre .1))
 
 same-length : tie.Need-same-length Inv-loop μ-loop
-same-length c = let c5 = c .before .before .before .before .before in
-    let c15 = c5 .before .before .before .before .before .before .before .before .before .before in
-    let l = c15 .loop in same-len-mid (l .written) (length (l .answers) - l .written) (l .answers) (c5 .step .last .1 .1 .1 .1 .1 .0) (c5 .step .kept .1 .1 .1 .1 .1 .0) ∙ long (l .inv)
+same-length c = let c6 = c .before .before .before .before .before .before in
+    let c16 = c6 .before .before .before .before .before .before .before .before .before .before in
+    let l = c16 .loop in same-len-mid (l .written) (length (l .answers) - l .written) (l .answers) (c6 .step .last .1 .1 .1 .1 .1 .0) (c6 .step .kept .1 .1 .1 .1 .1 .0) ∙ long (l .inv)
 
 returns : tie.Need-returns Inv-loop μ-loop
-returns c = let c14 = c .before .before .before .before .before .before .before .before .before .before .before .before .before .before in
-    going-refused (c14 .before .loop .inv) (c14 .loop-test .taken) (stepped (c .before .before .before .before .before)) (c .before .if1 .taken) (c .pack .ensures)
+returns c = let c6 = c .before .before .before .before .before .before in
+    let c15 = c6 .before .before .before .before .before .before .before .before .before in
+    going-refused (c15 .before .loop .inv) (c15 .loop-test .taken) (stepped c6) (c .before .if1 .taken) (c .pack .ensures)
 
 add-written : tie.Need-add-written Inv-loop μ-loop
-add-written c = let c5 = c .before .before .before .before .before in
-    let c14 = c5 .before .before .before .before .before .before .before .before .before in
-    omega (arith, room-left (c14 .before .loop .inv) (c14 .loop-test .taken) (stepped c5) (c .before .if1 .left), c14 .before .before .before .before .before .pre .1)
+add-written c = let c6 = c .before .before .before .before .before .before in
+    let c15 = c6 .before .before .before .before .before .before .before .before .before in
+    omega (arith, room-left (c15 .before .loop .inv) (c15 .loop-test .taken) (stepped c6) (c .before .if1 .left), c15 .before .before .before .before .before .pre .1)
 
 is-end-requires : tie.Need-is-end-requires Inv-loop μ-loop
 is-end-requires c κs = tt
 
 add-pack : tie.Need-add-pack Inv-loop μ-loop
 add-pack c =
-    let c16 = c .before .before .before .before .before .before .before .before .before .before .before .before .before .before .before .before in
-    omega (arith, c16 .loop-test .taken, c16 .before .before .before .before .before .pre .0)
+    let c17 = c .before .before .before .before .before .before .before .before .before .before .before .before .before .before .before .before .before in
+    omega (arith, c17 .loop-test .taken, c17 .before .before .before .before .before .pre .0)
 
 pack-requires-2 : tie.Need-pack-requires-2 Inv-loop μ-loop
-pack-requires-2 c κs = let c3 = c .before .before .before in let c7 = c3 .before .before .before .before in
-    let c16 = c7 .before .before .before .before .before .before .before .before .before in let c21 = c16 .before .before .before .before .before in
-    (omega (arith, c16 .loop-test .taken, c21 .pre .0), omega (arith, room-left (c16 .before .loop .inv) (c16 .loop-test .taken) (stepped c7) (c3 .if1 .left), c21 .pre .1))
+pack-requires-2 c κs = let c3 = c .before .before .before in let c8 = c3 .before .before .before .before .before in
+    let c17 = c8 .before .before .before .before .before .before .before .before .before in let c22 = c17 .before .before .before .before .before in
+    (omega (arith, c17 .loop-test .taken, c22 .pre .0), omega (arith, room-left (c17 .before .loop .inv) (c17 .loop-test .taken) (stepped c8) (c3 .if1 .left), c22 .pre .1))
 
 same-length-2 : tie.Need-same-length-2 Inv-loop μ-loop
-same-length-2 c = let c8 = c .before .before .before .before .before .before .before .before in
-    let c18 = c8 .before .before .before .before .before .before .before .before .before .before in
-    let l = c18 .loop in same-len-mid (l .written) (length (l .answers) - l .written) (l .answers) (c8 .step .last .1 .1 .1 .1 .1 .0) (c8 .step .kept .1 .1 .1 .1 .1 .0) ∙ long (l .inv)
+same-length-2 c = let c9 = c .before .before .before .before .before .before .before .before .before in
+    let c19 = c9 .before .before .before .before .before .before .before .before .before .before in
+    let l = c19 .loop in same-len-mid (l .written) (length (l .answers) - l .written) (l .answers) (c9 .step .last .1 .1 .1 .1 .1 .0) (c9 .step .kept .1 .1 .1 .1 .1 .0) ∙ long (l .inv)
 
 returns-2 : tie.Need-returns-2 Inv-loop μ-loop
-returns-2 c = let c2 = c .before .before in let c4 = c2 .before .before in let c8 = c4 .before .before .before .before in
-    let c17 = c8 .before .before .before .before .before .before .before .before .before in
-    going-ended (c17 .before .loop .inv) (c17 .loop-test .taken) (stepped c8) (c4 .if1 .left) (sym (end-is c2) ∙ c .before .if2 .taken) (c .pack2 .ensures)
+returns-2 c = let c2 = c .before .before in let c4 = c2 .before .before in let c9 = c4 .before .before .before .before .before in
+    let c18 = c9 .before .before .before .before .before .before .before .before .before in
+    going-ended (c18 .before .loop .inv) (c18 .loop-test .taken) (stepped c9) (c4 .if1 .left) (sym (end-is c2) ∙ c .before .if2 .taken) (c .pack2 .ensures)
 
 add-at : tie.Need-add-at Inv-loop μ-loop
 add-at c =
@@ -167,9 +168,9 @@ width-of-requires : tie.Need-width-of-requires Inv-loop μ-loop
 width-of-requires c κs = tt
 
 add-at-2 : tie.Need-add-at-2 Inv-loop μ-loop
-add-at-2 c = let c5 = c .before .before .before .before .before in let c9 = c5 .before .before .before .before in
+add-at-2 c = let c4 = c .before .before .before .before in let c9 = c4 .before .before .before .before .before in
     let c18 = c9 .before .before .before .before .before .before .before .before .before in let c19 = c18 .before in
-    let w = width-fits (c19 .loop .inv) (c18 .loop-test .taken) (stepped c9) (c5 .if1 .left) in omega (arith, c18 .loop-test .taken, c19 .before .before .before .before .pre .0, w, width-is c)
+    let w = width-fits (c19 .loop .inv) (c18 .loop-test .taken) (stepped c9) (c4 .if1 .left) in omega (arith, c18 .loop-test .taken, c19 .before .before .before .before .pre .0, w, width-is c)
 
 starts-requires : tie.Need-starts-requires Inv-loop μ-loop
 starts-requires c κs = tt
