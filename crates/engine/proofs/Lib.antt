@@ -1,2 +1,3 @@
 pub mod Dispatching
 pub mod Running
+pub mod Blocks

@@ -36,15 +36,22 @@ use Rattle.engine.specs.Jobs.{called, IsMatrix, Refreshed}
 
 -- ---- one command of the definitions' run
 
+-- before the job's end there is one more
+pub one-left : {at end : ℕ} (n : ℕ) → at < end → end < at + n → (f : ℕ) × (n ≡ suc f)
+one-left zero l e = absurd (omega (arith, l, e))
+one-left (suc n) l e = (n, refl)
+
 module _ (f : ℕ) (q : model.Problem) (job : List ℕ) (at free : ℕ) (here : at < length job) where
-  x : Context
+  unfoldable pub x : Context
   x = contextAt q job at free
 
   head : drop at job ≡ getD job at 0 ∷ drop (at + 1) job
   head = rw (add-one at) (drop-cons job at 0 here)
 
-  rest : Run
-  rest = commands engine f (problemAfter (contextAt q job at free) (kindOf (getD job at 0))) (drop (width (kindOf (getD job at 0))) (drop (at + 1) job)) (free - length (bytesOf (answer (contextAt q job at free)))) (at + 1 + width (kindOf (getD job at 0)))
+  unfoldable pub rest : Run
+  rest = commands engine f (problemAfter (contextAt q job at free) (kindOf (getD job at 0)))
+      (drop (width (kindOf (getD job at 0))) (drop (at + 1) job)) (free - length (bytesOf (answer (contextAt q job at free))))
+      (at + 1 + width (kindOf (getD job at 0)))
 
   run-refused : (refusal x ≡ 0 → ⊥) → commands engine (suc f) q (drop at job) free at ≡ stop (refusal x) at (x ∷ [])
   unfolding x rest
@@ -54,7 +61,7 @@ module _ (f : ℕ) (q : model.Problem) (job : List ℕ) (at free : ℕ) (here : 
   unfolding x rest
   run-ended z e = rw (head, z, e)
 
-  run-next : refusal x ≡ 0 → is (kindOf (getD job at 0)) Kind.E ≡ false → commands engine (suc f) q (drop at job) free at ≡ answerThen engine x rest
+  pub run-next : refusal x ≡ 0 → is (kindOf (getD job at 0)) Kind.E ≡ false → commands engine (suc f) q (drop at job) free at ≡ answerThen engine x rest
   unfolding x rest
   run-next z e = rw (head, z, e)
 
@@ -116,7 +123,11 @@ pub record Going (job old answers : List ℕ) (p : Problem) (rows : List ℕ) (m
   pub offset : run job (length old) .offset ≡ commands engine fuel problem (drop at job) (length old - length out) at .offset
   pub written : written (run job (length old)) ≡ out ++ written (commands engine fuel problem (drop at job) (length old - length out) at)
 
-pub going-first : {job old rows : List ℕ} {p : Problem} {covered : Bool} → length job ≤ 32768 → length old ≤ 32768 → p ≡ noProblem → length rows ≡ 2048 → Going job old old p rows (record { count = 0; covered = covered }) false 0 0
+pub not-ready : false ≡ true → ⊥
+not-ready z = let y : _≡_ {A = ℕ} 0 1 = cc in omega arith
+
+pub going-first : {job old rows : List ℕ} {p : Problem} {covered : Bool} → length job ≤ 32768 → length old ≤ 32768 → p ≡ noProblem
+    → length rows ≡ 2048 → Going job old old p rows (record { count = 0; covered = covered }) false 0 0
 unfolding runBy
 going-first {job} {old} {rows} {p} {covered} h g e s = record {
   fuel = suc (length job);
@@ -131,7 +142,7 @@ going-first {job} {old} {rows} {p} {covered} h g e s = record {
   fits = omega arith;
   size = s;
   few = omega arith;
-  matrix = λ z. absurd (no z);
+  matrix = λ z. absurd (not-ready z);
   number = rw (le-ltb 32768 (length job) h, le-ltb 32768 (length old) g, all-free);
   offset = rw (le-ltb 32768 (length job) h, le-ltb 32768 (length old) g, all-free);
   written = rw (le-ltb 32768 (length job) h, le-ltb 32768 (length old) g, all-free);
@@ -139,9 +150,6 @@ going-first {job} {old} {rows} {p} {covered} h g e s = record {
   where
     all-free : length old - 0 ≡ length old
     all-free = omega arith
-
-    no : false ≡ true → ⊥
-    no z = let y : _≡_ {A = ℕ} 0 1 = cc in omega arith
 
 module _ {job old answers : List ℕ} {p : Problem} {rows : List ℕ} {m : Matrix} {ready : Bool} {at done : ℕ} (w : Going job old answers p rows m ready at done) where
   pub long : length answers ≡ length old
@@ -165,21 +173,20 @@ module _ {job old answers : List ℕ} {p : Problem} {rows : List ℕ} {m : Matri
   put : (ans last : List ℕ) → last ≡ ans ++ drop (length ans) (tail done answers) → withTail done answers last ≡ (w .out ++ ans) ++ drop (length (w .out ++ ans)) old
   put ans last e =
       with-tail done answers last done-le
-      ∙ ap₂ (λ (a b : List ℕ). a ++ b) front-of (e ∙ ap (λ (l : List ℕ). ans ++ drop (length ans) l) tail-of ∙ ap (λ (l : List ℕ). ans ++ l) (drop-drop (length ans) (length (w .out)) old ∙ ap (λ (k : ℕ). drop k old) (sym (length-append (w .out) ans))))
+      ∙ ap₂ (λ (a b : List ℕ). a ++ b) front-of (e ∙ ap (λ (l : List ℕ). ans ++ drop (length ans) l) tail-of
+      ∙ ap (λ (l : List ℕ). ans ++ l) (drop-drop (length ans) (length (w .out)) old ∙ ap (λ (k : ℕ). drop k old) (sym (length-append (w .out) ans))))
       ∙ sym (append-assoc (w .out) ans (drop (length (w .out ++ ans)) old))
 
   put-same : (last : List ℕ) → last ≡ tail done answers → withTail done answers last ≡ answers
   put-same last e = with-tail done answers last done-le ∙ ap (λ (l : List ℕ). take done answers ++ l) (e ∙ tail-is done answers) ∙ take-append-drop done answers
 
   fuel-suc : at < length job → (f : ℕ) × (w .fuel ≡ suc f)
-  fuel-suc l = go (w .fuel) refl
-    where
-      go : (n : ℕ) → w .fuel ≡ n → (f : ℕ) × (w .fuel ≡ suc f)
-      go zero e = absurd (omega (arith, w .enough))
-      go (suc n) e = (n, e)
+  fuel-suc l = one-left (w .fuel) l (w .enough)
 
   -- the call ends with this number and offset, and nothing more is written
-  met : (n offset r : ℕ) (xs : List Context) (after : List ℕ) → commands engine (w .fuel) (w .problem) (drop at job) (length old - length (w .out)) at ≡ stop n offset xs → r ≡ n * 2 ^ 32 + offset * 2 ^ 16 + done → after ≡ answers → Met (called job old r after)
+  met : (n offset r : ℕ) (xs : List Context) (after : List ℕ)
+      → commands engine (w .fuel) (w .problem) (drop at job) (length old - length (w .out)) at ≡ stop n offset xs → r ≡ n * 2 ^ 32 + offset * 2 ^ 16 + done
+      → after ≡ answers → Met (called job old r after)
   unfolding packed bufferAfter written
   met n offset r xs after e q a =
       let l : written (run job (length old)) ≡ w .out = w .written ∙ ap (λ (y : Run). w .out ++ written y) e ∙ nothing-left (w .out) n offset xs in
@@ -213,7 +220,8 @@ module _ {job old answers : List ℕ} {p : Problem} {rows : List ℕ} {m : Matri
     unfolding x
     going-refused {r} d q =
         met (refusal ctx) at r (ctx ∷ []) (withTail done answers last)
-        (ap (λ (n : ℕ). commands engine n (w .problem) (drop at job) (length old - length (w .out)) at) (fuel-suc here .1) ∙ run-refused (fuel-suc here .0) (w .problem) job at (length old - length (w .out)) here (λ z. d (s' .number ∙ z)))
+        (ap (λ (n : ℕ). commands engine n (w .problem) (drop at job) (length old - length (w .out)) at) (fuel-suc here .1)
+        ∙ run-refused (fuel-suc here .0) (w .problem) job at (length old - length (w .out)) here (λ z. d (s' .number ∙ z)))
         (q ∙ ap (λ (n : ℕ). n * 2 ^ 32 + at * 2 ^ 16 + done) (s' .number))
         (put-same last (s' .refused d))
 
@@ -246,8 +254,10 @@ module _ {job old answers : List ℕ} {p : Problem} {rows : List ℕ} {m : Matri
       pub going-ended : {r : ℕ} → is (kindOf (getD job at 0)) Kind.E ≡ true → r ≡ 0 * 2 ^ 32 + (at + 1) * 2 ^ 16 + (done + e .written) → Met (called job old r (withTail done answers last))
       unfolding packed bufferAfter written x
       going-ended {r} k q =
-          let step = ap (λ (n : ℕ). commands engine n (w .problem) (drop at job) (length old - length (w .out)) at) (fuel-suc here .1) ∙ run-ended (fuel-suc here .0) (w .problem) job at (length old - length (w .out)) here (sym (s' .number) ∙ z) k in
-          let l : written (run job (length old)) ≡ w .out ++ ans = one-more (stop 0 (at + 1) []) (w .written ∙ ap (λ (y : Run). w .out ++ written y) step) ∙ nothing-left (w .out ++ ans) 0 (at + 1) [] in
+          let step = ap (λ (n : ℕ). commands engine n (w .problem) (drop at job) (length old - length (w .out)) at) (fuel-suc here .1)
+          ∙ run-ended (fuel-suc here .0) (w .problem) job at (length old - length (w .out)) here (sym (s' .number) ∙ z) k in
+          let l : written (run job (length old)) ≡ w .out ++ ans =
+          one-more (stop 0 (at + 1) []) (w .written ∙ ap (λ (y : Run). w .out ++ written y) step) ∙ nothing-left (w .out ++ ans) 0 (at + 1) [] in
           record {
             returned = q ∙ rw (w .number, w .offset, step, l, count-is);
             after = put-back ∙ rw l;
@@ -265,7 +275,8 @@ module _ {job old answers : List ℕ} {p : Problem} {rows : List ℕ} {m : Matri
           → is (kindOf (getD job at 0)) Kind.E ≡ false → at' ≡ at + 1 + width (kindOf (getD job at 0)) → Going job old (withTail done answers last) q rows' m' ready' at' (done + e .written)
       unfolding x rest
       going-next {q} {rows'} {m'} {ready'} {at'} qe sz fw mx k ae =
-          let step = ap (λ (n : ℕ). commands engine n (w .problem) (drop at job) (length old - length (w .out)) at) (fuel-suc here .1) ∙ run-next (fuel-suc here .0) (w .problem) job at (length old - length (w .out)) here (sym (s' .number) ∙ z) k in
+          let step = ap (λ (n : ℕ). commands engine n (w .problem) (drop at job) (length old - length (w .out)) at) (fuel-suc here .1)
+          ∙ run-next (fuel-suc here .0) (w .problem) job at (length old - length (w .out)) here (sym (s' .number) ∙ z) k in
           record {
             fuel = fuel-suc here .0;
             problem = problemAfter ctx (kindOf (getD job at 0));
@@ -288,7 +299,9 @@ module _ {job old answers : List ℕ} {p : Problem} {rows : List ℕ} {m : Matri
           rest-is : drop (width (kindOf (getD job at 0))) (drop (at + 1) job) ≡ drop at' job
           rest-is = drop-drop (width (kindOf (getD job at 0))) (at + 1) job ∙ ap (λ (i : ℕ). drop i job) (sym ae)
 
-          moved : commands engine (fuel-suc here .0) (problemAfter ctx (kindOf (getD job at 0))) (drop (width (kindOf (getD job at 0))) (drop (at + 1) job)) (length old - length (w .out) - length (bytesOf (answer ctx))) (at + 1 + width (kindOf (getD job at 0)))
+          moved : commands engine (fuel-suc here .0) (problemAfter ctx (kindOf (getD job at 0)))
+              (drop (width (kindOf (getD job at 0))) (drop (at + 1) job)) (length old - length (w .out) - length (bytesOf (answer ctx)))
+              (at + 1 + width (kindOf (getD job at 0)))
               ≡ commands engine (fuel-suc here .0) (problemAfter ctx (kindOf (getD job at 0))) (drop at' job) (length old - length (w .out ++ ans)) at'
           moved = rw (rest-is, free-left, ← ae)
 

@@ -6,6 +6,7 @@ ghost use Rattle.model.specs.Calls.{Met};
 ghost use Rattle.codec.specs.Kinds.{kindIs};
 ghost use Rattle.problem.specs.Problems.{Sized};
 ghost use Rattle.engine.specs.Jobs.{called, Refreshed};
+use crate::row_block;
 use crate::step;
 use bits::byte;
 use codec::kinds;
@@ -45,7 +46,8 @@ fn refresh(p: Problem, k: Kind, ready: bool, m: Matrix, rows: &mut [u64]) -> Mat
     m
 }
 
-// The commands one by one, until one is refused, E is answered or the job's bytes end. The covering matrix is kept from query to query.
+// The commands one by one, but the rows behind I in one go, until one is refused, E is answered or the job's bytes end. The covering matrix
+// is kept from query to query. p is set right behind the step: so the compiler copies the record once, and not twice.
 pub fn run(job: &[u8], answers: &mut [u8]) -> u64
     requires { ⌜ (length (now job) ≤ 32768) × (length (now answers) ≤ 32768) ⌝ }
     ensures { λ r. ⌜ Met (called (now (job .entry)) (now (answers .entry)) r (now (answers .exit))) ⌝ }
@@ -64,14 +66,10 @@ pub fn run(job: &[u8], answers: &mut [u8]) -> u64
         m = refresh(p, k, ready, m, &mut rows);
         ready = kinds::is_query(k);
         let count = m.count;
-        let e = step::step(
-            p,
-            &rows[..count],
-            m.covered,
-            job,
-            at,
-            &mut answers[written..],
-        );
+        let found = &rows[..count];
+        let free = &mut answers[written..];
+        let e = step::step(p, found, m.covered, job, at, free);
+        p = e.problem;
         if e.number != 0 {
             return pack(e.number, at, written);
         }
@@ -79,9 +77,13 @@ pub fn run(job: &[u8], answers: &mut [u8]) -> u64
         if kinds::is_end(k) {
             return pack(0, at + 1, written);
         }
-        let next = e.problem;
-        p = next;
         at = at + 1 + kinds::width_of(k);
+        if row_block::starts(p.place, job, at) {
+            let block = row_block::read_rows(p, job, at);
+            p = block.problem;
+            at = block.at;
+            ready = false;
+        }
     }
     pack(2, at, written)
 }

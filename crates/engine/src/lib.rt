@@ -1,11 +1,12 @@
 // The engine: jobs of commands over a problem, and their answers.
 //
 // `cover_job` is what a C program links to; its contract cites only definitions of crate `model`. `step` is any command of a
-// job, `job` goes through them. The call for Rattle is `library::list_covers`, in a crate of its own.
+// job, `row_block` the R commands in one go, `job` goes through them. The call for Rattle is `library::list_covers`, in a crate of its own.
 ghost use Rattle.model.specs.Calls.{Met};
 ghost use Rattle.engine.specs.Jobs.{called};
 
 pub mod job;
+pub mod row_block;
 pub mod step;
 
 // Runs a job on two byte buffers: returns number × 2^32 + offset × 2^16 + written, and leaves the bytes of the finished answers in front

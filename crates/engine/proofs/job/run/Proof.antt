@@ -1,4 +1,4 @@
--- `engine::job::run` meets its contract: each turn of the loop is one law of `Running`.
+-- `engine::job::run` meets its contract: each turn of the loop is one law of `Running`, and of `Blocks` where rows are read.
 use Prim.Native.Nat.{ℕ, _+_, _-_}
 use native.Mathlib.Omega.{arith}
 use mathlib.Core.Path.{_≡_, refl, sym, ap, _∙_, subst⁻¹}
@@ -13,7 +13,8 @@ use Rattle.codec.specs.Kinds.{kindIs}
 use Rattle.problem.proofs.Keeping.{reached-sized}
 use Rattle.engine.specs.Steps.{Stepped, contextAt}
 use Rattle.engine.specs.Jobs.{IsMatrix}
-use Rattle.engine.proofs.Running.{Going, going-first, long, done-le, reached, tail, going-cut, going-refused, going-ended, going-next, room-left, width-fits}
+use Rattle.engine.proofs.Running.{Going, going-first, long, done-le, reached, tail, withTail, going-cut, going-refused, going-ended, going-next, room-left, width-fits}
+use Rattle.engine.proofs.Blocks.{going-behind}
 use Rattle.engine.proofs.job.run.Statement.{statement}
 use Rattle.engine.proofs.job.run.Tie as tie
 
@@ -24,31 +25,56 @@ abbrev μ-loop : tie.MeasureT-loop
 μ-loop job answers₀ p₀ rows₀ m₀ ready₀ at₀ written₀ answers p rows m ready at written = length job - at
 
 -- the command at this place
-kind-is : (c : tie.After-kind-of Inv-loop μ-loop) → kindIs (c .kind-of .result) ≡ kindOf (getD (now (c .before .before .before .before .before .before .before .args .job)) (c .before .before .before .loop .at) 0)
+kind-is : (c : tie.After-kind-of Inv-loop μ-loop) → let c3 = c .before .before .before in
+    kindIs (c .kind-of .result) ≡ kindOf (getD (now (c3 .before .before .before .before .args .job)) (c3 .loop .at) 0)
 kind-is c = c .kind-of .ensures
 
-query-is : (c : tie.After-is-query Inv-loop μ-loop) → c .is-query .result ≡ isQueryKind (kindOf (getD (now (c .before .before .before .before .before .before .before .before .before .before .before .args .job)) (c .before .before .before .before .before .before .before .loop .at) 0))
+query-is : (c : tie.After-is-query Inv-loop μ-loop) → let c7 = c .before .before .before .before .before .before .before in
+    c .is-query .result ≡ isQueryKind (kindOf (getD (now (c7 .before .before .before .before .args .job)) (c7 .loop .at) 0))
 query-is c = c .is-query .ensures ∙ ap isQueryKind (kind-is (c .before .before .before .before))
 
-end-is : (c : tie.After-is-end Inv-loop μ-loop) → c .is-end .result ≡ is (kindOf (getD (now (c .before .before .before .before .before .before .before .before .before .before .before .before .before .before .before .before .before .before .before .before .args .job)) (c .before .before .before .before .before .before .before .before .before .before .before .before .before .before .before .before .loop .at) 0)) Kind.E
-end-is c = c .is-end .ensures ∙ ap (λ (k : Kind). is k Kind.E) (kind-is (c .before .before .before .before .before .before .before .before .before .before .before .before .before))
+end-is : (c : tie.After-is-end Inv-loop μ-loop) →
+    let c17 = c .before .before .before .before .before .before .before .before .before .before .before .before .before .before .before .before .before in
+    c .is-end .result ≡ is (kindOf (getD (now (c17 .before .before .before .before .args .job)) (c17 .loop .at) 0)) Kind.E
+end-is c = c .is-end .ensures ∙ ap (λ (k : Kind). is k Kind.E) (kind-is (c .before .before .before .before .before .before .before .before .before .before .before .before .before .before))
 
-width-is : (c : tie.After-width-of Inv-loop μ-loop) → let a = c .before .before .before .before .before .before .before .before .before .before .before .before .before .before .before .before .before .before .before .loop .at in a + 1 + c .width-of .result ≡ a + 1 + width (kindOf (getD (now (c .before .before .before .before .before .before .before .before .before .before .before .before .before .before .before .before .before .before .before .before .before .before .before .args .job)) (c .before .before .before .before .before .before .before .before .before .before .before .before .before .before .before .before .before .before .before .loop .at) 0))
-width-is c = ap (λ (w : ℕ). c .before .before .before .before .before .before .before .before .before .before .before .before .before .before .before .before .before .before .before .loop .at + 1 + w) (c .width-of .ensures ∙ ap width (kind-is (c .before .before .before .before .before .before .before .before .before .before .before .before .before .before .before .before)))
+width-is : (c : tie.After-width-of Inv-loop μ-loop) →
+    let c19 = c .before .before .before .before .before .before .before .before .before .before .before .before .before .before .before .before .before .before .before in
+    let a = c19 .loop .at in a + 1 + c .width-of .result ≡ a + 1 + width (kindOf (getD (now (c19 .before .before .before .before .args .job)) (c19 .loop .at) 0))
+width-is c =
+    let c16 = c .before .before .before .before .before .before .before .before .before .before .before .before .before .before .before .before in
+    ap (λ (w : ℕ). c16 .before .before .before .loop .at + 1 + w) (c .width-of .ensures ∙ ap width (kind-is c16))
 
 -- the covering matrix that a query looks at
-matrix-is : (c : tie.After-refresh Inv-loop μ-loop) → T (isQueryKind (kindOf (getD (now (c .before .before .before .before .before .before .before .before .before .args .job)) (c .before .before .before .before .before .loop .at) 0))) → IsMatrix (c .before .before .before .before .before .loop .inv .problem) (c .refresh .last .1 .1 .1 .1 .0) (c .refresh .result)
-matrix-is c t = let i = c .before .before .before .before .before .loop .inv in c .refresh .ensures .matrix (i .problem) (i .holds) (i .matrix) (subst⁻¹ (λ (k : Kind). T (isQueryKind k)) (kind-is (c .before .before)) t)
+matrix-is : (c : tie.After-refresh Inv-loop μ-loop) → let c5 = c .before .before .before .before .before in
+    T (isQueryKind (kindOf (getD (now (c5 .before .before .before .before .args .job)) (c5 .loop .at) 0))) → IsMatrix (c5 .loop .inv .problem) (c .refresh .last .1 .1 .1 .1 .0) (c .refresh .result)
+matrix-is c t = let c2 = c .before .before in
+    let i = c2 .before .before .before .loop .inv in c .refresh .ensures .matrix (i .problem) (i .holds) (i .matrix) (subst⁻¹ (λ (k : Kind). T (isQueryKind k)) (kind-is c2) t)
 
-next-matrix : (c : tie.After-is-query Inv-loop μ-loop) → c .is-query .result ≡ true
-    → let r = c .before .before .refresh in T (isQueryKind (kindOf (getD (now (c .before .before .before .before .before .before .before .before .before .before .before .args .job)) (c .before .before .before .before .before .before .before .loop .at) 0))) × IsMatrix (c .before .before .before .before .before .before .before .loop .inv .problem) (r .last .1 .1 .1 .1 .0) (r .result)
-next-matrix c e = let q : T (isQueryKind (kindOf (getD (now (c .before .before .before .before .before .before .before .before .before .before .before .args .job)) (c .before .before .before .before .before .before .before .loop .at) 0))) = subst⁻¹ (λ (b : Bool). T b) (sym (query-is c) ∙ e) tt in (q, matrix-is (c .before .before) q)
+next-matrix : (c : tie.After-is-query Inv-loop μ-loop) → let c2 = c .before .before in let c7 = c2 .before .before .before .before .before in
+    let c11 = c7 .before .before .before .before in
+    c .is-query .result ≡ true → let r = c2 .refresh in T (isQueryKind (kindOf (getD (now (c11 .args .job)) (c7 .loop .at) 0))) × IsMatrix (c7 .loop .inv .problem) (r .last .1 .1 .1 .1 .0) (r .result)
+next-matrix c e = let c2 = c .before .before in let c7 = c2 .before .before .before .before .before in
+    let q : T (isQueryKind (kindOf (getD (now (c7 .before .before .before .before .args .job)) (c7 .loop .at) 0))) = subst⁻¹ (λ (b : Bool). T b) (sym (query-is c) ∙ e) tt in (q, matrix-is c2 q)
 
 -- the step in the problem that the invariant names
-stepped : (c : tie.After-step Inv-loop μ-loop)
-    → let l = c .before .before .before .before .before .before .before .before .before .before .loop in let free = tail (l .written) (l .answers) in
-    Stepped (contextAt (l .inv .problem) (now (c .before .before .before .before .before .before .before .before .before .before .before .before .before .before .args .job)) (l .at) (length free)) free (c .step .last .1 .1 .1 .1 .1 .0) (c .step .result)
-stepped c = let i = c .before .before .before .before .before .before .before .before .before .before .loop .inv in c .step .ensures .in-problem (i .problem) (i .holds) (i .valid) (matrix-is (c .before .before .before .before .before))
+stepped : (c : tie.After-step Inv-loop μ-loop) → let c10 = c .before .before .before .before .before .before .before .before .before .before in
+    let l = c10 .loop in let free = tail (l .written) (l .answers) in Stepped
+    (contextAt (l .inv .problem) (now (c10 .before .before .before .before .args .job)) (l .at) (length free)) free (c .step .last .1 .1 .1 .1 .1 .0)
+    (c .step .result)
+stepped c = let c5 = c .before .before .before .before .before in
+    let i = c5 .before .before .before .before .before .loop .inv in c .step .ensures .in-problem (i .problem) (i .holds) (i .valid) (matrix-is c5)
+
+-- the command is answered and applied
+next : (c : tie.After-width-of Inv-loop μ-loop) → let c9 = c .before .before .before .before .before .before .before .before .before in
+    let c12 = c9 .before .before .before in let c19 = c12 .before .before .before .before .before .before .before in
+    let l = c19 .loop in let a = c19 .before .before .before .before .args in let r = c12 .before .before .refresh in let s = c9 .step in Going
+    (now (a .job)) (now (a .answers)) (withTail (l .written) (l .answers) (s .last .1 .1 .1 .1 .1 .0)) (s .result .problem) (r .last .1 .1 .1 .1 .0)
+    (r .result) (c12 .is-query .result) (l .at + 1 + c .width-of .result) (l .written + s .result .written)
+next c = let c2 = c .before .before in let c9 = c2 .before .before .before .before .before .before .before in let c12 = c9 .before .before .before in
+    let c18 = c12 .before .before .before .before .before .before in
+    let r = c12 .before .before .refresh .ensures in going-next (c18 .before .loop .inv) (c18 .loop-test .taken) (stepped c9)
+    (c2 .before .before .if1 .left) refl (r .size) (r .within) (next-matrix c12) (sym (end-is c2) ∙ c .before .if2 .left) (width-is c)
 
 empty-requires : tie.Need-empty-requires Inv-loop μ-loop
 empty-requires c κs = tt
@@ -74,65 +100,104 @@ is-query-requires c κs = tt
 array-share-prefix-rows : tie.Need-array-share-prefix-rows Inv-loop μ-loop
 array-share-prefix-rows c = omega (arith, c .before .before .refresh .ensures .within, c .before .before .refresh .ensures .size)
 
-slice-aggregate-step : tie.Need-slice-aggregate-step Inv-loop μ-loop
-slice-aggregate-step c = sym (length-take-le _ _ (array-share-prefix-rows (c .before)))
+slice-aggregate-found : tie.Need-slice-aggregate-found Inv-loop μ-loop
+slice-aggregate-found c = sym (length-take-le _ _ (array-share-prefix-rows (c .before)))
 
-sub-step : tie.Need-sub-step Inv-loop μ-loop
-sub-step c = done-le (c .before .before .before .before .before .before .before .before .loop .inv)
+sub-free : tie.Need-sub-free Inv-loop μ-loop
+sub-free c = done-le (c .before .before .before .before .before .before .before .before .loop .inv)
 
-part-step-start : tie.Need-part-step-start Inv-loop μ-loop
-part-step-start c = done-le (c .before .before .before .before .before .before .before .before .loop .inv)
+part-free-start : tie.Need-part-free-start Inv-loop μ-loop
+part-free-start c = done-le (c .before .before .before .before .before .before .before .before .loop .inv)
 
-part-step-end : tie.Need-part-step-end Inv-loop μ-loop
-part-step-end c = omega arith
+part-free-end : tie.Need-part-free-end Inv-loop μ-loop
+part-free-end c = omega arith
 
 step-requires : tie.Need-step-requires Inv-loop μ-loop
-step-requires c κs = (reached (c .before .before .before .before .before .before .before .before .before .loop .inv), (c .before .before .before .before .before .before .before .before .loop-test .taken, omega (arith, slice-aggregate-step (c .before), array-share-prefix-rows (c .before .before))))
+step-requires c κs = let c2 = c .before .before in let c8 = c2 .before .before .before .before .before .before in
+    (reached (c8 .before .loop .inv), (c8 .loop-test .taken, omega (arith, slice-aggregate-found (c .before), array-share-prefix-rows c2)))
 
 pack-requires : tie.Need-pack-requires Inv-loop μ-loop
-pack-requires c κs = (omega (arith, c .before .before .before .before .before .before .before .before .before .before .before .before .before .loop-test .taken, c .before .before .before .before .before .before .before .before .before .before .before .before .before .before .before .before .before .before .pre .0), omega (arith, c .before .before .before .before .before .before .before .before .before .before .before .before .before .before .loop .inv .counted, c .before .before .before .before .before .before .before .before .before .before .before .before .before .before .loop .inv .fits, c .before .before .before .before .before .before .before .before .before .before .before .before .before .before .before .before .before .before .pre .1))
+pack-requires c κs = let c14 = c .before .before .before .before .before .before .before .before .before .before .before .before .before .before in
+    let c19 = c14 .before .before .before .before .before in
+    (omega (arith, c14 .loop-test .taken, c19 .pre .0), omega (arith, c14 .before .loop .inv .counted, c14 .before .loop .inv .fits, c19 .pre .1))
 
 same-length : tie.Need-same-length Inv-loop μ-loop
-same-length c = let l = c .before .before .before .before .before .before .before .before .before .before .before .before .before .before .before .loop in same-len-mid (l .written) (length (l .answers) - l .written) (l .answers) (c .before .before .before .before .before .step .last .1 .1 .1 .1 .1 .0) (c .before .before .before .before .before .step .kept .1 .1 .1 .1 .1 .0) ∙ long (l .inv)
+same-length c = let c6 = c .before .before .before .before .before .before in
+    let c16 = c6 .before .before .before .before .before .before .before .before .before .before in
+    let l = c16 .loop in same-len-mid (l .written) (length (l .answers) - l .written) (l .answers) (c6 .step .last .1 .1 .1 .1 .1 .0) (c6 .step .kept .1 .1 .1 .1 .1 .0) ∙ long (l .inv)
 
 returns : tie.Need-returns Inv-loop μ-loop
-returns c = going-refused (c .before .before .before .before .before .before .before .before .before .before .before .before .before .before .before .loop .inv) (c .before .before .before .before .before .before .before .before .before .before .before .before .before .before .loop-test .taken) (stepped (c .before .before .before .before .before)) (c .before .if1 .taken) (c .pack .ensures)
+returns c = let c6 = c .before .before .before .before .before .before in
+    let c15 = c6 .before .before .before .before .before .before .before .before .before in
+    going-refused (c15 .before .loop .inv) (c15 .loop-test .taken) (stepped c6) (c .before .if1 .taken) (c .pack .ensures)
 
 add-written : tie.Need-add-written Inv-loop μ-loop
-add-written c = omega (arith, room-left (c .before .before .before .before .before .before .before .before .before .before .before .before .before .before .before .loop .inv) (c .before .before .before .before .before .before .before .before .before .before .before .before .before .before .loop-test .taken) (stepped (c .before .before .before .before .before)) (c .before .if1 .left), c .before .before .before .before .before .before .before .before .before .before .before .before .before .before .before .before .before .before .before .pre .1)
+add-written c = let c6 = c .before .before .before .before .before .before in
+    let c15 = c6 .before .before .before .before .before .before .before .before .before in
+    omega (arith, room-left (c15 .before .loop .inv) (c15 .loop-test .taken) (stepped c6) (c .before .if1 .left), c15 .before .before .before .before .before .pre .1)
 
 is-end-requires : tie.Need-is-end-requires Inv-loop μ-loop
 is-end-requires c κs = tt
 
 add-pack : tie.Need-add-pack Inv-loop μ-loop
-add-pack c = omega (arith, c .before .before .before .before .before .before .before .before .before .before .before .before .before .before .before .before .loop-test .taken, c .before .before .before .before .before .before .before .before .before .before .before .before .before .before .before .before .before .before .before .before .before .pre .0)
+add-pack c =
+    let c17 = c .before .before .before .before .before .before .before .before .before .before .before .before .before .before .before .before .before in
+    omega (arith, c17 .loop-test .taken, c17 .before .before .before .before .before .pre .0)
 
 pack-requires-2 : tie.Need-pack-requires-2 Inv-loop μ-loop
-pack-requires-2 c κs = (omega (arith, c .before .before .before .before .before .before .before .before .before .before .before .before .before .before .before .before .loop-test .taken, c .before .before .before .before .before .before .before .before .before .before .before .before .before .before .before .before .before .before .before .before .before .pre .0), omega (arith, room-left (c .before .before .before .before .before .before .before .before .before .before .before .before .before .before .before .before .before .loop .inv) (c .before .before .before .before .before .before .before .before .before .before .before .before .before .before .before .before .loop-test .taken) (stepped (c .before .before .before .before .before .before .before)) (c .before .before .before .if1 .left), c .before .before .before .before .before .before .before .before .before .before .before .before .before .before .before .before .before .before .before .before .before .pre .1))
+pack-requires-2 c κs = let c3 = c .before .before .before in let c8 = c3 .before .before .before .before .before in
+    let c17 = c8 .before .before .before .before .before .before .before .before .before in let c22 = c17 .before .before .before .before .before in
+    (omega (arith, c17 .loop-test .taken, c22 .pre .0), omega (arith, room-left (c17 .before .loop .inv) (c17 .loop-test .taken) (stepped c8) (c3 .if1 .left), c22 .pre .1))
 
 same-length-2 : tie.Need-same-length-2 Inv-loop μ-loop
-same-length-2 c = let l = c .before .before .before .before .before .before .before .before .before .before .before .before .before .before .before .before .before .before .loop in same-len-mid (l .written) (length (l .answers) - l .written) (l .answers) (c .before .before .before .before .before .before .before .before .step .last .1 .1 .1 .1 .1 .0) (c .before .before .before .before .before .before .before .before .step .kept .1 .1 .1 .1 .1 .0) ∙ long (l .inv)
+same-length-2 c = let c9 = c .before .before .before .before .before .before .before .before .before in
+    let c19 = c9 .before .before .before .before .before .before .before .before .before .before in
+    let l = c19 .loop in same-len-mid (l .written) (length (l .answers) - l .written) (l .answers) (c9 .step .last .1 .1 .1 .1 .1 .0) (c9 .step .kept .1 .1 .1 .1 .1 .0) ∙ long (l .inv)
 
 returns-2 : tie.Need-returns-2 Inv-loop μ-loop
-returns-2 c = going-ended (c .before .before .before .before .before .before .before .before .before .before .before .before .before .before .before .before .before .before .loop .inv) (c .before .before .before .before .before .before .before .before .before .before .before .before .before .before .before .before .before .loop-test .taken) (stepped (c .before .before .before .before .before .before .before .before)) (c .before .before .before .before .if1 .left) (sym (end-is (c .before .before)) ∙ c .before .if2 .taken) (c .pack2 .ensures)
+returns-2 c = let c2 = c .before .before in let c4 = c2 .before .before in let c9 = c4 .before .before .before .before .before in
+    let c18 = c9 .before .before .before .before .before .before .before .before .before in
+    going-ended (c18 .before .loop .inv) (c18 .loop-test .taken) (stepped c9) (c4 .if1 .left) (sym (end-is c2) ∙ c .before .if2 .taken) (c .pack2 .ensures)
 
 add-at : tie.Need-add-at Inv-loop μ-loop
-add-at c = omega (arith, c .before .before .before .before .before .before .before .before .before .before .before .before .before .before .before .before .before .loop-test .taken, c .before .before .before .before .before .before .before .before .before .before .before .before .before .before .before .before .before .before .before .before .before .before .pre .0)
+add-at c =
+    let c17 = c .before .before .before .before .before .before .before .before .before .before .before .before .before .before .before .before .before in
+    omega (arith, c17 .loop-test .taken, c17 .before .before .before .before .before .pre .0)
 
 width-of-requires : tie.Need-width-of-requires Inv-loop μ-loop
 width-of-requires c κs = tt
 
 add-at-2 : tie.Need-add-at-2 Inv-loop μ-loop
-add-at-2 c = let w = width-fits (c .before .before .before .before .before .before .before .before .before .before .before .before .before .before .before .before .before .before .before .loop .inv) (c .before .before .before .before .before .before .before .before .before .before .before .before .before .before .before .before .before .before .loop-test .taken) (stepped (c .before .before .before .before .before .before .before .before .before)) (c .before .before .before .before .before .if1 .left) in omega (arith, c .before .before .before .before .before .before .before .before .before .before .before .before .before .before .before .before .before .before .loop-test .taken, c .before .before .before .before .before .before .before .before .before .before .before .before .before .before .before .before .before .before .before .before .before .before .before .pre .0, w, width-is c)
+add-at-2 c = let c4 = c .before .before .before .before in let c9 = c4 .before .before .before .before .before in
+    let c18 = c9 .before .before .before .before .before .before .before .before .before in let c19 = c18 .before in
+    let w = width-fits (c19 .loop .inv) (c18 .loop-test .taken) (stepped c9) (c4 .if1 .left) in omega (arith, c18 .loop-test .taken, c19 .before .before .before .before .pre .0, w, width-is c)
+
+starts-requires : tie.Need-starts-requires Inv-loop μ-loop
+starts-requires c κs = tt
+
+read-rows-requires : tie.Need-read-rows-requires Inv-loop μ-loop
+read-rows-requires c κs = let w = next (c .before .before) in (reached w, (c .before .starts .ensures (subst⁻¹ (λ (b : Bool). T b) (c .if3 .taken) tt), w .within))
 
 loop-less : tie.Need-loop-less Inv-loop μ-loop
-loop-less c = omega (arith, c .before .before .before .before .before .before .before .before .before .before .before .before .before .before .before .before .before .before .loop-test .taken)
+loop-less c = omega (
+  arith,
+  c .before .before .before .before .before .before .before .before .before .before .before .before .before .before .before .before .before .before .before .before .before .before .loop-test .taken,
+  c .before .read-rows .ensures .forward,
+)
 
 loop-again : tie.Need-loop-again Inv-loop μ-loop
-loop-again c = let r = c .before .before .before .before .before .before .before .before .before .before .before .before .before .before .refresh .ensures in going-next (c .before .before .before .before .before .before .before .before .before .before .before .before .before .before .before .before .before .before .before .loop .inv) (c .before .before .before .before .before .before .before .before .before .before .before .before .before .before .before .before .before .before .loop-test .taken) (stepped (c .before .before .before .before .before .before .before .before .before)) (c .before .before .before .before .before .if1 .left) refl (r .size) (r .within) (next-matrix (c .before .before .before .before .before .before .before .before .before .before .before .before)) (sym (end-is (c .before .before .before)) ∙ c .before .before .if2 .left) (width-is c)
+loop-again c = going-behind (next (c .before .before .before .before)) (c .before .read-rows .ensures)
+
+loop-less-2 : tie.Need-loop-less-2 Inv-loop μ-loop
+loop-less-2 c =
+    omega (arith, c .before .before .before .before .before .before .before .before .before .before .before .before .before .before .before .before .before .before .before .before .loop-test .taken)
+
+loop-again-2 : tie.Need-loop-again-2 Inv-loop μ-loop
+loop-again-2 c = next (c .before .before)
 
 pack-requires-3 : tie.Need-pack-requires-3 Inv-loop μ-loop
-pack-requires-3 c κs = let i = c .before .loop .inv in (omega (arith, i .within, c .before .before .before .before .before .pre .0), omega (arith, i .counted, i .fits, c .before .before .before .before .before .pre .1))
+pack-requires-3 c κs = let c5 = c .before .before .before .before .before in
+    let i = c .before .loop .inv in (omega (arith, i .within, c5 .pre .0), omega (arith, i .counted, i .fits, c5 .pre .1))
 
 same-length-3 : tie.Need-same-length-3 Inv-loop μ-loop
 same-length-3 c = long (c .before .before .loop .inv)
@@ -154,10 +219,10 @@ run-spec =
     refresh-requires
     is-query-requires
     array-share-prefix-rows
-    slice-aggregate-step
-    sub-step
-    part-step-start
-    part-step-end
+    slice-aggregate-found
+    sub-free
+    part-free-start
+    part-free-end
     step-requires
     pack-requires
     same-length
@@ -171,8 +236,12 @@ run-spec =
     add-at
     width-of-requires
     add-at-2
+    starts-requires
+    read-rows-requires
     loop-less
     loop-again
+    loop-less-2
+    loop-again-2
     pack-requires-3
     same-length-3
     returns-3)

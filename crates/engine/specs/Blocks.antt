@@ -1,0 +1,42 @@
+-- What the contracts of a block of R commands cite.
+use Prim.Native.Nat.{ℕ, _+_, _≤_, _<_}
+use mathlib.Core.Path.{_≡_}
+use mathlib.Core.List.{List}
+use lib.ListN.{getD, length, drop}
+use Rattle.model.specs.Commands as model
+use Rattle.model.specs.Commands.{kindOf}
+use Rattle.model.specs.Refusals.{firstOf}
+use Rattle.model.specs.Rules.{engine}
+use Rattle.model.specs.Job.{Run, commands, written}
+use Rattle.model.specs.Invariants.{Valid}
+use Rattle.problem.specs.declared.Settings.{Settings}
+use Rattle.problem.specs.declared.Problem.{Problem}
+use Rattle.problem.specs.Problems.{Holds}
+use Rattle.problem.specs.Refusing.{rowRefusals}
+
+-- an R with its operands stands at `at`, and neither 7 nor 8 applies
+pub record RowAt (s : Settings) (given job : List ℕ) (at : ℕ) : Type 0 where
+  pub room : at + 4 ≤ length job
+  pub kind : kindOf (getD job at 0) ≡ model.Kind.R
+  pub accepted : 0 ≡ firstOf (rowRefusals (s .n) (s .m) given (getD job (at + 1) 0) (getD job (at + 2) 0) (getD job (at + 3) 0))
+
+-- what is left of a job's run: from `at` on with the problem q and so much free, at most so many commands
+abbrev pub restOf : List ℕ → ℕ → model.Problem → ℕ → ℕ → Run
+restOf job most q free at = commands engine most q (drop at job) free at
+
+-- the rest of a run is that from a later place on, where p holds the problem: the commands between are answered and write nothing
+pub record GoesOn (job : List ℕ) (r : Run) (free : ℕ) (p : Problem) (at : ℕ) : Type 0 where
+  pub problem : model.Problem
+  pub most : ℕ
+  pub enough : length job < at + most
+  pub holds : Holds p problem
+  pub valid : Valid problem
+  pub number : r .number ≡ restOf job most problem free at .number
+  pub offset : r .offset ≡ restOf job most problem free at .offset
+  pub written : written r ≡ written (restOf job most problem free at)
+
+-- from `at` on with p, and from `behind` on with the record `next`, every run is the same
+pub record Reads (p : Problem) (job : List ℕ) (at : ℕ) (next : Problem) (behind : ℕ) : Type 0 where
+  pub forward : at ≤ behind
+  pub within : behind ≤ length job
+  pub in-problem : (q : model.Problem) → Holds p q → Valid q → (most free : ℕ) → length job < at + most → GoesOn job (restOf job most q free at) free next behind

@@ -1,0 +1,79 @@
+// The R commands of a job, which stand in one block right behind I.
+//
+// `step` takes any command, and copies the whole record for it. Here the record is copied once for all the rows that are accepted; the
+// command behind them, a refused R too, is left to `step`.
+ghost use mathlib.Core.Path.{_≡_};
+ghost use Prim.Native.Nat.{_≤_};
+ghost use lib.Dec.{T};
+ghost use lib.ListN.{length};
+ghost use Rattle.model.specs.Commands as model;
+ghost use Rattle.problem.specs.Problems.{Reached};
+ghost use Rattle.engine.specs.Blocks.{RowAt, Reads};
+use bits::byte;
+use problem::Problem;
+use problem::Settings;
+use problem::refusals;
+
+// The problem behind a block, and where the block ends.
+pub struct Block {
+    pub problem: Problem,
+    pub at: usize,
+}
+
+// Whether a block starts at `at`: I came last, and the byte is that of an R.
+pub fn starts(place: u8, job: &[u8], at: usize) -> bool
+    ensures { λ r. ⌜ (T r → place ≡ model.begun) ⌝ }
+{
+    if place == 1 {
+        if at < job.len() {
+            return job[at] == 0x52;
+        }
+    }
+    false
+}
+
+// Whether an R stands at `at` that is accepted.
+fn is_accepted(s: Settings, given: &[u8; 256], job: &[u8], at: usize) -> bool
+    requires { ⌜ (s .n ≤ 8) × (s .m ≤ 8) ⌝ }
+    requires { ⌜ at ≤ length (now job) ⌝ }
+    ensures { λ r. ⌜ (T r → RowAt s (now (given .entry)) (now (job .entry)) at) ⌝ }
+{
+    if job.len() - at < 4 {
+        return false;
+    }
+    if job[at] == 0x52 {
+        return refusals::row_refusal(s, given, job[at + 1], job[at + 2], job[at + 3]) == 0;
+    }
+    false
+}
+
+// The accepted R commands from `at` on.
+pub fn read_rows(p: Problem, job: &[u8], at: usize) -> Block
+    requires { ⌜ Reached p ⌝ }
+    requires { ⌜ (p .place ≡ model.begun) × (at ≤ length (now job)) ⌝ }
+    ensures { λ r. ⌜ Reads p (now (job .entry)) at (r .problem) (r .at) ⌝ }
+{
+    let settings = p.settings;
+    let candidates = p.candidates;
+    let mut rows = p.rows;
+    let mut place = p.place;
+    let mut i = at;
+    while is_accepted(settings, &rows.given, job, i) {
+        let v = byte::wide(job[i + 1]);
+        rows.on[v] = job[i + 2];
+        rows.dc[v] = job[i + 3];
+        rows.given[v] = 1;
+        place = 2;
+        i = i + 4;
+    }
+    let problem = Problem {
+        place: place,
+        settings: settings,
+        rows: rows,
+        candidates: candidates,
+    };
+    Block {
+        problem: problem,
+        at: i,
+    }
+}
