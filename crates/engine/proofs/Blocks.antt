@@ -30,7 +30,7 @@ use Rattle.problem.proofs.Keeping.{reached-sized}
 use Rattle.commands.specs.declared.Effect.{Effect}
 use Rattle.commands.proofs.Handling.{row-kept}
 use Rattle.engine.specs.Steps.{Stepped, contextAt}
-use Rattle.engine.specs.Blocks.{RowAt, restOf, GoesOn, Reads}
+use Rattle.engine.specs.Blocks.{RowAt, restOf, GoesOn, ReadsRows}
 use Rattle.engine.proofs.Dispatching.{Read, step-R}
 use Rattle.engine.proofs.Running.{one-left, x, rest, run-next, Going, not-ready}
 
@@ -122,7 +122,7 @@ recordOf place settings rows candidates = record { place = place; settings = set
 
 -- the loop's invariant: from p on the block is read up to i, and the next R is at its place
 pub record Reading (p : Problem) (job : List ℕ) (at : ℕ) (now : Problem) (i : ℕ) : Type 0 where
-  pub reads : Reads p job at now i
+  pub reads : ReadsRows p job at now i
   pub behind-I : model.begun ≤ now .place
   pub in-rows : now .place ≤ model.inRows
 
@@ -152,7 +152,7 @@ reading-next {now = now} b a e = record {
 -- ---- the job's loop behind the block
 
 pub going-behind : {job old answers : List ℕ} {p next : Problem} {rows : List ℕ} {m : Matrix} {ready : Bool} {at behind done : ℕ}
-    → Going job old answers p rows m ready at done → Reads p job at next behind → Going job old answers next rows m false behind done
+    → Going job old answers p rows m ready at done → ReadsRows p job at next behind → Going job old answers next rows m false behind done
 going-behind {old = old} w b =
     let g = b .in-problem (w .problem) (w .holds) (w .valid) (w .fuel) (length old - length (w .out)) (w .enough) in
     record {

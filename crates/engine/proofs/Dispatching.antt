@@ -92,7 +92,8 @@ module _ {p : Problem} {job : List ℕ} {at : ℕ} {k : Kind} {n rest : ℕ} (d 
     module _ (c : model.Kind) (g : kindIs k ≡ c) {old new : List ℕ} {e : Effect} where
       as-kind : (q : model.Problem) → Holds p q → Handled (contextAt q job at (length old)) c old new e → Stepped (contextAt q job at (length old)) old new e
       as-kind q h w =
-          let u : Handled (contextAt q job at (length old)) (kindOf (getD job at 0)) old new e = subst (λ (c : model.Kind). Handled (contextAt q job at (length old)) c old new e) (sym g ∙ d .kind) w in
+          let u : Handled (contextAt q job at (length old)) (kindOf (getD job at 0)) old new e =
+          subst (λ (c : model.Kind). Handled (contextAt q job at (length old)) c old new e) (sym g ∙ d .kind) w in
           record { number = u .number ∙ sym (late-here q (length old) h); refused = u .refused; answered = u .answered }
 
     -- a command behind I, in every problem that p holds
@@ -104,8 +105,13 @@ module _ {p : Problem} {job : List ℕ} {at : ℕ} {k : Kind} {n rest : ℕ} (d 
         begun = subst (λ (x : ℕ). model.begun ≤ x) (h .place) (place-one (kindIs k) (p .place) (subst⁻¹ (λ (x : model.Kind). T (not (is x model.Kind.I))) g i) (passed .1));
       }
 
-      behind-I : {rows old new : List ℕ} {covered : Bool} {e : Effect} → ((x : Context) → Found p x → (T (isQueryKind c) → MatrixOf (basisOf (x .problem)) rows covered) → x .rest ≡ drop (at + 1) job → x .free ≡ length old → Handled x c old new e) → Steps p rows covered job at old new e
-      behind-I {rows} {old} {new} {covered} {e} w = record { in-problem = λ q h v f. as-kind c g q h (w (contextAt q job at (length old)) (found q (length old) h v) (λ t. f (subst (λ (x : model.Kind). T (isQueryKind x)) (sym g ∙ d .kind) t)) refl refl) }
+      behind-I : {rows old new : List ℕ} {covered : Bool} {e : Effect}
+          → ((x : Context) → Found p x → (T (isQueryKind c) → MatrixOf (basisOf (x .problem)) rows covered) → x .rest ≡ drop (at + 1) job → x .free ≡ length old → Handled x c old new e)
+          → Steps p rows covered job at old new e
+      behind-I {rows} {old} {new} {covered} {e} w = record {
+        in-problem = λ q h v f. as-kind c g q h
+            (w (contextAt q job at (length old)) (found q (length old) h v) (λ t. f (subst (λ (x : model.Kind). T (isQueryKind x)) (sym g ∙ d .kind) t)) refl refl);
+      }
 
     op : (x : Context) → x .rest ≡ drop (at + 1) job → (i j : ℕ) → at + 1 + i ≡ j → operand x i ≡ getD job j 0
     op x r i j e = ap (λ (bs : List ℕ). getD bs i 0) r ∙ at-op i j e
@@ -126,7 +132,8 @@ module _ {p : Problem} {job : List ℕ} {at : ℕ} {k : Kind} {n rest : ℕ} (d 
       pub step-P : kindIs k ≡ model.Kind.P → HandlesP p old new e → Steps p rows covered job at old new e
       step-P g w = behind-I model.Kind.P g tt (λ x f m r a. w x f a)
 
-      pub step-L : {s c : ℕ} → kindIs k ≡ model.Kind.L → s ≡ number (take 8 (drop (at + 1) job)) → c ≡ getD job (at + 9) 0 → HandlesL p rows covered s c old new e → Steps p rows covered job at old new e
+      pub step-L : {s c : ℕ} → kindIs k ≡ model.Kind.L → s ≡ number (take 8 (drop (at + 1) job)) → c ≡ getD job (at + 9) 0
+          → HandlesL p rows covered s c old new e → Steps p rows covered job at old new e
       step-L {s} {c} g i j w = behind-I model.Kind.L g tt (λ x f m r a. w x f (m tt) (ap (λ (bs : List ℕ). number (take 8 bs)) r ∙ sym i) (op x r 8 (at + 9) (omega arith) ∙ sym j) a)
 
       pub step-C : kindIs k ≡ model.Kind.C → HandlesC p rows covered old new e → Steps p rows covered job at old new e

@@ -14,8 +14,8 @@ use lib.Seq.{take-append-seam, drop-append-seam, drop-length, drop-drop, drop-co
 use Rattle.model.specs.Base.{join}
 use Rattle.model.specs.Commands as model
 use Rattle.model.specs.Candidates.{Basis}
-use Rattle.model.specs.Commands.{Kind, Context, basisOf, kindOf, is, isQueryKind, width, problemAfter}
-use Rattle.model.proofs.Codes.{any-query}
+use Rattle.model.specs.Commands.{Kind, Context, kindOf, is, isQueryKind, width, problemAfter}
+use Rattle.model.proofs.Codes.{query-keeps}
 use Rattle.model.specs.Answers.{bytesOf, answer}
 use Rattle.model.specs.Rules.{engine, refusal}
 use Rattle.model.specs.Job.{Run, stop, answerThen, commands, run, runBy, written, packed, bufferAfter}
@@ -68,11 +68,6 @@ module _ (f : ℕ) (q : model.Problem) (job : List ℕ) (at free : ℕ) (here : 
 nothing-left : (out : List ℕ) (n offset : ℕ) (xs : List Context) → out ++ written (stop n offset xs) ≡ out
 unfolding written
 nothing-left out n offset xs = append-nil out
-
--- a query leaves the table and the candidates
-basis-kept : (y : Context) (c : Kind) → T (isQueryKind c) → basisOf (problemAfter y c) ≡ basisOf (y .problem)
-unfolding problemAfter
-basis-kept y = any-query (λ c. basisOf (problemAfter y c) ≡ basisOf (y .problem)) (refl, (refl, tt))
 
 -- ---- the covering matrix: one that stands, one made anew, and a command that looks at none
 
@@ -290,7 +285,7 @@ module _ {job old answers : List ℕ} {p : Problem} {rows : List ℕ} {m : Matri
             fits = omega (arith, count-is, room-left);
             size = sz;
             few = fw;
-            matrix = λ t. subst⁻¹ (λ (b : Basis). MatrixOf b (take (m' .count) rows') (m' .covered)) (basis-kept ctx (kindOf (getD job at 0)) (mx t .0)) (mx t .1);
+            matrix = λ t. subst⁻¹ (λ (b : Basis). MatrixOf b (take (m' .count) rows') (m' .covered)) (query-keeps ctx (kindOf (getD job at 0)) (mx t .0)) (mx t .1);
             number = w .number ∙ ap (λ (y : Run). y .number) step ∙ ap (λ (y : Run). y .number) moved;
             offset = w .offset ∙ ap (λ (y : Run). y .offset) step ∙ ap (λ (y : Run). y .offset) moved;
             written = one-more _ (w .written ∙ ap (λ (y : Run). w .out ++ written y) step) ∙ ap (λ (y : Run). (w .out ++ ans) ++ written y) moved;

@@ -36,7 +36,7 @@ pub record GoesOn (job : List ℕ) (r : Run) (free : ℕ) (p : Problem) (at : �
   pub written : written r ≡ written (restOf job most problem free at)
 
 -- from `at` on with p, and from `behind` on with the record `next`, every run is the same
-pub record Reads (p : Problem) (job : List ℕ) (at : ℕ) (next : Problem) (behind : ℕ) : Type 0 where
+pub record ReadsRows (p : Problem) (job : List ℕ) (at : ℕ) (next : Problem) (behind : ℕ) : Type 0 where
   pub forward : at ≤ behind
   pub within : behind ≤ length job
   pub in-problem : (q : model.Problem) → Holds p q → Valid q → (most free : ℕ) → length job < at + most → GoesOn job (restOf job most q free at) free next behind

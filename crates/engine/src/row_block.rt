@@ -8,7 +8,7 @@ ghost use lib.Dec.{T};
 ghost use lib.ListN.{length};
 ghost use Rattle.model.specs.Commands as model;
 ghost use Rattle.problem.specs.Problems.{Reached};
-ghost use Rattle.engine.specs.Blocks.{RowAt, Reads};
+ghost use Rattle.engine.specs.Blocks.{RowAt, ReadsRows};
 use bits::byte;
 use problem::Problem;
 use problem::Settings;
@@ -51,7 +51,7 @@ fn is_accepted(s: Settings, given: &[u8; 256], job: &[u8], at: usize) -> bool
 pub fn read_rows(p: Problem, job: &[u8], at: usize) -> Block
     requires { ⌜ Reached p ⌝ }
     requires { ⌜ (p .place ≡ model.begun) × (at ≤ length (now job)) ⌝ }
-    ensures { λ r. ⌜ Reads p (now (job .entry)) at (r .problem) (r .at) ⌝ }
+    ensures { λ r. ⌜ ReadsRows p (now (job .entry)) at (r .problem) (r .at) ⌝ }
 {
     let settings = p.settings;
     let candidates = p.candidates;

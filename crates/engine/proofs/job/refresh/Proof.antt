@@ -23,5 +23,4 @@ returns-3 : tie.Need-returns-3
 returns-3 c = refreshed-none (c .before .before .before .pre .1 .0) (c .before .before .before .pre .1 .1) (c .before .is-query .ensures) (c .if1 .left)
 
 pub refresh-spec : {M : Type 1} → statement M
-refresh-spec =
-    tie.close (tie.spec is-query-requires returns prepare-requires same-length returns-2 returns-3)
+refresh-spec = tie.close (tie.spec is-query-requires returns prepare-requires same-length returns-2 returns-3)

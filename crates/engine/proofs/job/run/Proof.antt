@@ -206,42 +206,7 @@ returns-3 : tie.Need-returns-3 Inv-loop μ-loop
 returns-3 c = going-cut (c .before .before .loop .inv) (c .before .loop-test .left) (c .pack3 .ensures)
 
 pub run-spec : {M : Type 1} → statement M
-run-spec =
-    tie.close
-    (tie.spec
-    Inv-loop
-    μ-loop
-    empty-requires
-    loop-holds
-    shared-slice-read-kind-of
-    kind-of-requires
-    slice-aggregate-refresh
-    refresh-requires
-    is-query-requires
-    array-share-prefix-rows
-    slice-aggregate-found
-    sub-free
-    part-free-start
-    part-free-end
-    step-requires
-    pack-requires
-    same-length
-    returns
-    add-written
-    is-end-requires
-    add-pack
-    pack-requires-2
-    same-length-2
-    returns-2
-    add-at
-    width-of-requires
-    add-at-2
-    starts-requires
-    read-rows-requires
-    loop-less
-    loop-again
-    loop-less-2
-    loop-again-2
-    pack-requires-3
-    same-length-3
-    returns-3)
+run-spec = tie.close (tie.spec Inv-loop μ-loop empty-requires loop-holds shared-slice-read-kind-of kind-of-requires slice-aggregate-refresh
+    refresh-requires is-query-requires array-share-prefix-rows slice-aggregate-found sub-free part-free-start part-free-end step-requires pack-requires
+    same-length returns add-written is-end-requires add-pack pack-requires-2 same-length-2 returns-2 add-at width-of-requires add-at-2 starts-requires
+    read-rows-requires loop-less loop-again loop-less-2 loop-again-2 pack-requires-3 same-length-3 returns-3)

@@ -41,18 +41,5 @@ returns-3 : tie.Need-returns-3
 returns-3 c = λ t. absurd t
 
 pub is-accepted-spec : {M : Type 1} → statement M
-is-accepted-spec =
-    tie.close
-    (tie.spec
-    sub-if1
-    returns
-    shared-slice-read-if2
-    add-row-refusal
-    shared-slice-read-row-refusal
-    add-row-refusal-2
-    shared-slice-read-row-refusal-2
-    add-row-refusal-3
-    shared-slice-read-row-refusal-3
-    row-refusal-requires
-    returns-2
-    returns-3)
+is-accepted-spec = tie.close (tie.spec sub-if1 returns shared-slice-read-if2 add-row-refusal shared-slice-read-row-refusal add-row-refusal-2
+    shared-slice-read-row-refusal-2 add-row-refusal-3 shared-slice-read-row-refusal-3 row-refusal-requires returns-2 returns-3)

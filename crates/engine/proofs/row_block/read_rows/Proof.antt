@@ -78,24 +78,6 @@ returns : tie.Need-returns Inv-loop μ-loop
 returns c = c .before .before .before .before .loop .inv .reads
 
 pub read-rows-spec : {M : Type 1} → statement M
-read-rows-spec =
-    tie.close
-    (tie.spec
-    Inv-loop
-    μ-loop
-    loop-holds
-    is-accepted-requires
-    add-wide
-    shared-slice-read-wide
-    wide-requires
-    add-rows
-    shared-slice-read-rows
-    element-write-rows
-    add-rows-2
-    shared-slice-read-rows-2
-    element-write-rows-2
-    element-write-rows-3
-    add-i
-    loop-less
-    loop-again
+read-rows-spec = tie.close (tie.spec Inv-loop μ-loop loop-holds is-accepted-requires add-wide shared-slice-read-wide wide-requires add-rows
+    shared-slice-read-rows element-write-rows add-rows-2 shared-slice-read-rows-2 element-write-rows-2 element-write-rows-3 add-i loop-less loop-again
     returns)

@@ -6,7 +6,6 @@ use denote.Ref.{now}
 use lib.ListN.{length}
 use Rattle.model.specs.Commands.{width}
 use Rattle.codec.specs.Kinds.{kindIs}
-use Rattle.problem.proofs.Keeping.{reached-sized}
 use Rattle.engine.proofs.Dispatching.{Read, operands-there, step-early, step-I, step-R, step-T, step-P, step-L, step-C, step-E, step-none}
 use borrow.Author.Needs.{needs}
 use Rattle.engine.proofs.step.step.Statement.{statement}
@@ -140,93 +139,52 @@ refused-requires-2 : tie.Need-refused-requires-2
 refused-requires-2 c κs = search needs
 
 returns-2 : tie.Need-returns-2
-returns-2 c = step-I (read (c .before .before .before .before .before .before)) (c .before .before .before .before .before .if1 .left) (ap kindIs (c .before .before .before .enum-told .given .1)) (c .init .ensures)
+returns-2 c = let c3 = c .before .before .before in let c5 = c3 .before .before in
+    step-I (read (c5 .before)) (c5 .if1 .left) (ap kindIs (c3 .enum-told .given .1)) (c .init .ensures)
 
 returns-3 : tie.Need-returns-3
-returns-3 c = step-R (read (c .before .before .before .before .before .before .before)) (c .before .before .before .before .before .before .if1 .left) (ap kindIs (c .before .before .before .before .enum-told2 .given .1)) (c .row .ensures)
+returns-3 c = let c4 = c .before .before .before .before in let c6 = c4 .before .before in
+    step-R (read (c6 .before)) (c6 .if1 .left) (ap kindIs (c4 .enum-told2 .given .1)) (c .row .ensures)
 
 returns-4 : tie.Need-returns-4
-returns-4 c = step-T (read (c .before .before .before .before .before)) (c .before .before .before .before .if1 .left) (ap kindIs (c .before .before .enum-told3 .given .1)) (c .before .term-at .ensures) (c .term .ensures)
+returns-4 c = let c4 = c .before .before .before .before in
+    step-T (read (c4 .before)) (c4 .if1 .left) (ap kindIs (c .before .before .enum-told3 .given .1)) (c .before .term-at .ensures) (c .term .ensures)
 
 same-length : tie.Need-same-length
 same-length c = search needs
 
 returns-5 : tie.Need-returns-5
-returns-5 c = step-P (read (c .before .before .before .before .before .before .before)) (c .before .before .before .before .before .before .if1 .left) (ap kindIs (c .before .before .before .before .enum-told4 .given .1)) (c .before .before .primes .ensures)
+returns-5 c = let c4 = c .before .before .before .before in let c6 = c4 .before .before in
+    step-P (read (c6 .before)) (c6 .if1 .left) (ap kindIs (c4 .enum-told4 .given .1)) (c .before .before .primes .ensures)
 
 same-length-2 : tie.Need-same-length-2
 same-length-2 c = search needs
 
 returns-6 : tie.Need-returns-6
-returns-6 c = step-L (read (c .before .before .before .before .before .before .before .before .before)) (c .before .before .before .before .before .before .before .before .if1 .left) (ap kindIs (c .before .before .before .before .before .before .enum-told5 .given .1)) (c .before .before .before .before .before .number-at .ensures) refl (c .before .before .list .ensures)
+returns-6 c = let c5 = c .before .before .before .before .before in let c8 = c5 .before .before .before in
+    step-L (read (c8 .before)) (c8 .if1 .left) (ap kindIs (c5 .before .enum-told5 .given .1)) (c5 .number-at .ensures) refl (c .before .before .list .ensures)
 
 same-length-3 : tie.Need-same-length-3
 same-length-3 c = search needs
 
 returns-7 : tie.Need-returns-7
-returns-7 c = step-C (read (c .before .before .before .before .before .before .before)) (c .before .before .before .before .before .before .if1 .left) (ap kindIs (c .before .before .before .before .enum-told6 .given .1)) (c .before .before .least-cost .ensures)
+returns-7 c = let c4 = c .before .before .before .before in let c6 = c4 .before .before in
+    step-C (read (c6 .before)) (c6 .if1 .left) (ap kindIs (c4 .enum-told6 .given .1)) (c .before .before .least-cost .ensures)
 
 same-length-4 : tie.Need-same-length-4
 same-length-4 c = search needs
 
 returns-8 : tie.Need-returns-8
-returns-8 c = step-E (read (c .before .before .before .before .before .before .before)) (c .before .before .before .before .before .before .if1 .left) (ap kindIs (c .before .before .before .before .enum-told7 .given .1)) (c .before .before .end .ensures)
+returns-8 c = let c4 = c .before .before .before .before in let c6 = c4 .before .before in
+    step-E (read (c6 .before)) (c6 .if1 .left) (ap kindIs (c4 .enum-told7 .given .1)) (c .before .before .end .ensures)
 
 returns-9 : tie.Need-returns-9
 returns-9 c = step-none (read (c .before .before .before .before)) (c .before .before .before .if1 .left) (ap kindIs (c .before .enum-told8 .given .1))
 
 pub step-spec : {M : Type 1} → statement M
-step-spec =
-    tie.close
-    (tie.spec
-    shared-slice-read-kind-of
-    kind-of-requires
-    sub-rest
-    sub-rest-2
-    early-refusal-requires
-    refused-requires
-    returns
-    enum-told
-    add-init
-    shared-slice-read-init
-    add-init-2
-    shared-slice-read-init-2
-    init-requires
-    enum-told-2
-    add-row
-    shared-slice-read-row
-    add-row-2
-    shared-slice-read-row-2
-    add-row-3
-    shared-slice-read-row-3
-    row-requires
-    enum-told-3
-    add-term-at
-    term-at-requires
-    term-requires
-    enum-told-4
-    primes-requires
-    enum-told-5
-    add-number-at
-    number-at-requires
-    add-list
-    shared-slice-read-list
-    list-requires
-    enum-told-6
-    least-cost-requires
-    enum-told-7
-    end-requires
-    enum-told-8
-    refused-requires-2
-    returns-2
-    returns-3
-    returns-4
-    same-length
-    returns-5
-    same-length-2
-    returns-6
-    same-length-3
-    returns-7
-    same-length-4
-    returns-8
-    returns-9)
+step-spec = tie.close (tie.spec shared-slice-read-kind-of kind-of-requires sub-rest sub-rest-2 early-refusal-requires refused-requires returns
+    enum-told add-init shared-slice-read-init add-init-2 shared-slice-read-init-2 init-requires enum-told-2 add-row shared-slice-read-row add-row-2
+    shared-slice-read-row-2 add-row-3 shared-slice-read-row-3 row-requires enum-told-3 add-term-at term-at-requires term-requires enum-told-4
+    primes-requires enum-told-5 add-number-at number-at-requires add-list shared-slice-read-list list-requires enum-told-6 least-cost-requires
+    enum-told-7 end-requires enum-told-8 refused-requires-2 returns-2 returns-3 returns-4 same-length returns-5 same-length-2 returns-6 same-length-3
+    returns-7 same-length-4 returns-8 returns-9)
