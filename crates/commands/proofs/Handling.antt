@@ -41,10 +41,10 @@ module _ (x : Context) (k : model.Kind) where
   late-last : firstOf (refusalsOf x k) ≡ 0 → lateRefusal x k ≡ firstOf (refuse 14 (ltb (x .free) (length (answerBytes x k))) ∷ [])
   late-last e = first-behind (refusalsOf x k) (refuse 14 (ltb (x .free) (length (answerBytes x k))) ∷ []) (refusalsOf-no x k) e
 
-  pub late-long : 0 ≡ firstOf (refusalsOf x k) → x .free < length (answerBytes x k) → 14 ≡ lateRefusal x k
+  late-long : 0 ≡ firstOf (refusalsOf x k) → x .free < length (answerBytes x k) → 14 ≡ lateRefusal x k
   late-long e l = sym (late-last (sym e) ∙ (rw (lt-ltb (x .free) (length (answerBytes x k)) l)))
 
-  pub late-none : 0 ≡ firstOf (refusalsOf x k) → length (answerBytes x k) ≤ x .free → 0 ≡ lateRefusal x k
+  late-none : 0 ≡ firstOf (refusalsOf x k) → length (answerBytes x k) ≤ x .free → 0 ≡ lateRefusal x k
   late-none e l = sym (late-last (sym e) ∙ (rw (le-ltb (x .free) (length (answerBytes x k)) l)))
 
   -- ---- effects
@@ -52,7 +52,7 @@ module _ (x : Context) (k : model.Kind) where
   pub handled-refused : (old : List ℕ) (p : Problem) (n : ℕ) (e : Effect) → e ≡ refusedAs p n → n ≡ lateRefusal x k → (n ≡ 0 → ⊥) → Handled x k old old e
   handled-refused old p n e q l d = rw q record { number = l; refused = λ h. refl; answered = λ z. absurd (d z) }
 
-  pub handled-silent : (old : List ℕ) (q : Problem) → answerBytes x k ≡ [] → 0 ≡ firstOf (refusalsOf x k) → Holds q (problemAfter x k)
+  handled-silent : (old : List ℕ) (q : Problem) → answerBytes x k ≡ [] → 0 ≡ firstOf (refusalsOf x k) → Holds q (problemAfter x k)
       → Handled x k old old (record { number = 0; written = 0; problem = q })
   handled-silent old q a e h = record {
     number = late-none e (omega (arith, ap length a));

@@ -62,7 +62,7 @@ rows-cost-any k rows s = rows-cost k s
 -- ---- a page
 
 module _ (all : List ℕ) (s : ℕ) (old new : List ℕ) (f : PageFill) (p : Paged all s old new f) where
-  pub page-front : take (f .count) new ≡ page all s (length old)
+  page-front : take (f .count) new ≡ page all s (length old)
   page-front = ap (take (f .count)) (p .row) ∙ take-at (page all s (length old)) (drop (length (page all s (length old))) old) (f .count) (sym (p .count))
 
   pub page-within : (f .count ≤ length old) × (f .count ≤ length new)
@@ -88,12 +88,12 @@ module _ (x : Context) (k : model.Kind) (p : Problem) (old new : List ℕ) (r : 
 -- ---- 12, of any query
 
 module _ (p : Problem) (rows : List ℕ) (b : Bool) (x : Context) (k : model.Kind) (q : T (isQueryKind k)) (f : Found p x) (d : MatrixOf (basisOf (x .problem)) rows b) where
-  pub query-uncovered : (old : List ℕ) (e : Effect) → b ≡ false → e ≡ refusedAs p 12 → Handled x k old old e
+  query-uncovered : (old : List ℕ) (e : Effect) → b ≡ false → e ≡ refusedAs p 12 → Handled x k old old e
   query-uncovered old e z w =
       let own : 12 ≡ firstOf (refusalsOf x k) = rw (refusalsOf-query x k q, ← d .told, z) in
       handled-refused x k old p 12 e w (late-own x k 12 own (λ n. omega (arith, n))) (λ n. omega (arith, n))
 
-  pub query-covered : b ≡ true → 0 ≡ firstOf (refusalsOf x k)
+  query-covered : b ≡ true → 0 ≡ firstOf (refusalsOf x k)
   query-covered z = rw (refusalsOf-query x k q, ← d .told, z)
 
 -- ---- L

@@ -80,7 +80,7 @@ module _ {p : Problem} {job : List ℕ} {at : ℕ} {k : Kind} {n rest : ℕ} (d 
     unfolding refusalBy refusalsBy early-list late-list answer
     late-here q free h = let x = contextAt q job at free in first-behind (early-list x) (late-list x) (early-numbered x) (sym (early-here q free h) ∙ z)
 
-    pub passed : T (not (is (kindIs k) model.Kind.none)) × T (allowed (kindIs k) (p .place)) × (width (kindIs k) ≤ rest)
+    passed : T (not (is (kindIs k) model.Kind.none)) × T (allowed (kindIs k) (p .place)) × (width (kindIs k) ≤ rest)
     passed = early-e (kindIs k) (p .place) rest (sym z ∙ d .early)
 
     pub operands-there : at + 1 + width (kindIs k) ≤ length job

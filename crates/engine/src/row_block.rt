@@ -20,7 +20,8 @@ pub struct Block {
     pub at: usize,
 }
 
-// Whether a block starts at `at`: I came last, and the byte is that of an R.
+// Whether a block starts at `at`: I came last, and the byte is that of an R. Only a yes is promised to mean something: a no leaves the
+// command to `step`.
 pub fn starts(place: u8, job: &[u8], at: usize) -> bool
     ensures { λ r. ⌜ (T r → place ≡ model.begun) ⌝ }
 {
@@ -32,7 +33,7 @@ pub fn starts(place: u8, job: &[u8], at: usize) -> bool
     false
 }
 
-// Whether an R stands at `at` that is accepted.
+// Whether an R stands at `at` that is accepted. Here too a no only leaves the command to `step`.
 fn is_accepted(s: Settings, given: &[u8; 256], job: &[u8], at: usize) -> bool
     requires { ⌜ (s .n ≤ 8) × (s .m ≤ 8) ⌝ }
     requires { ⌜ at ≤ length (now job) ⌝ }

@@ -25,7 +25,7 @@ use Rattle.problem.specs.declared.Candidates.{Candidates}
 use Rattle.problem.specs.declared.Problem.{Problem}
 use Rattle.problem.specs.Problems.{noRows, listed, startedWith, noProblem, atPlace, withRows, withCandidates, rowPut, termPut, Sized, HoldsRows, HoldsCands, Holds, Reached}
 
-pub sized : (p : Problem) (q : model.Problem) → Holds p q → Valid q → Sized p
+sized : (p : Problem) (q : model.Problem) → Holds p q → Valid q → Sized p
 sized p q h v = record {
   inputs = omega (arith, h .settings .inputs, v .sound .inputs);
   outputs = omega (arith, h .settings .outputs, v .sound .outputs);
@@ -102,7 +102,7 @@ after-R x p v on dc h w o e f g l = rw (e, f, g) record {
 
 -- ---- other candidates: T and P
 
-pub holds-candidates : (place : ℕ) (p : Problem) (q : model.Problem) (cs : Candidates) (ts : List Term) → Holds p q → HoldsCands cs ts
+holds-candidates : (place : ℕ) (p : Problem) (q : model.Problem) (cs : Candidates) (ts : List Term) → Holds p q → HoldsCands cs ts
     → Holds (atPlace place (withCandidates cs p)) (model.atPlace place (model.withCands ts q))
 holds-candidates place p q cs ts h c = record { place = refl; settings = h .settings; rows = h .rows; cands = c }
 

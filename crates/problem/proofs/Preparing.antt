@@ -27,7 +27,7 @@ use Rattle.problem.specs.declared.matrix.Matrix.{Matrix}
 use Rattle.problem.specs.Matrix.{TellsCovered, RowsOf, PutsRows, Prepares}
 
 -- the on bytes of the table that p holds
-pub held-on : (p : Problem) (q : model.Problem) → Sized p → Holds p q → OnBytes (tableOf q) (p .settings .n) (p .settings .m) (p .rows .on)
+held-on : (p : Problem) (q : model.Problem) → Sized p → Holds p q → OnBytes (tableOf q) (p .settings .n) (p .settings .m) (p .rows .on)
 held-on p q z h = record { inputs = sym (h .settings .inputs); outputs = sym (h .settings .outputs); bytes = λ v l. h .rows .on-bytes v (omega (arith, pow-mono (z .inputs))) }
 
 -- the candidates are those that p holds
@@ -54,7 +54,7 @@ module _ (b : Basis) where
   all-costs : List ℕ
   all-costs = map (b .weight) (b .cands)
 
-  pub rows-of : (rows out : List ℕ) (r : ℕ) → rows ≡ map (rowOf holds (b .cands)) (onCells (b .table)) → Reduced rows out r → RowsOf b (take r out)
+  rows-of : (rows out : List ℕ) (r : ℕ) → rows ≡ map (rowOf holds (b .cands)) (onCells (b .table)) → Reduced rows out r → RowsOf b (take r out)
   unfolding all-rows all-costs
   rows-of rows out r e d = record {
     listed = sym (rows-irredundants (covering b)) ∙ reduced-irredundants all-costs all-rows out r d' ∙ costs-apart all-costs
