@@ -2,6 +2,7 @@
 use Prim.Native.Nat.{ℕ, _+_, _^_, _≤_, _<_}
 use native.Mathlib.Omega.{arith}
 use mathlib.Core.Path.{_≡_, refl, sym, ap, ap₂, _∙_, subst}
+use mathlib.Core.Logic.{inl, inr}
 use mathlib.Core.Bool.{Bool, true, false, cond, _&&_, and-true}
 use mathlib.Core.List.{List, [], _∷_, _++_, map}
 use borrow.Author.Count.{below-more}
@@ -14,10 +15,10 @@ use Rattle.model.specs.Base.{bit, below, every, some, join, implies}
 use Rattle.model.specs.Table.{Cell, onCells, holds}
 use Rattle.model.specs.Sets.{rowOf, covers, coverable}
 use Rattle.model.proofs.Lists.{every-e, every-i, below-e, below-i, T-true, T-false}
-use Rattle.incidence.specs.Rows.{hasVertex, Driving, cellRow, vertexRows, cellHeld, vertexHeld, TellsCoverable}
+use Rattle.incidence.specs.Rows.{hasVertex, CubesFor, Driving, cellRow, vertexRows, cellHeld, vertexHeld, TellsCoverable}
 use Rattle.bits.specs.Lists.{parts}
 use Rattle.incidence.proofs.Candidates.{held-row}
-use Rattle.incidence.proofs.Matrix.{rowsAt, cells-rows}
+use Rattle.incidence.proofs.Matrix.{no-bit, rowsAt, cells-rows}
 
 -- ---- a test of the numbers below k, one by one
 
@@ -90,6 +91,16 @@ rows-held : (ts : List Term) (cs : List Cell) → every (ltb 0) (map (rowOf hold
 rows-held ts [] = refl
 rows-held ts (c ∷ cs) = ap₂ _&&_ (held-row holds ts c) (rows-held ts cs)
 
+-- a vertex without an on cell
+all-hold : (f : ℕ → Bool) (js : List ℕ) → ((j : ℕ) → f j ≡ true) → every f js ≡ true
+all-hold f [] e = refl
+all-hold f (j ∷ js) e = rw (e j) (all-hold f js e)
+
+held-for : (on : ℕ) (ts : List Term) (v cubes : ℕ) (driving : List ℕ) (m : ℕ) → CubesFor on ts v cubes → vertexHeld on cubes driving m ≡ vertexHeld on (rowOf hasVertex ts v) driving m
+unfolding cellHeld
+held-for on ts v cubes driving m (inr e) = rw e
+held-for on ts v cubes driving m (inl z) = rw z (all-hold _ (below m) (λ j. rw (no-bit j)) ∙ sym (all-hold _ (below m) (λ j. rw (no-bit j))))
+
 module _ (on : List ℕ) (ts : List Term) (driving : List ℕ) (m : ℕ) where
   -- each on cell of vertex v is held
   abbrev heldAt : ℕ → Bool
@@ -102,8 +113,8 @@ module _ (on : List ℕ) (ts : List Term) (driving : List ℕ) (m : ℕ) where
   pub held-none : VerticesHeld 0
   held-none = record { passed = passed-none heldAt }
 
-  pub held-next : (k cubes : ℕ) (b : Bool) → VerticesHeld k → cubes ≡ rowOf hasVertex ts k → b ≡ vertexHeld (getD on k 0) cubes driving m → b ≡ true → VerticesHeld (k + 1)
-  held-next k cubes b h e g t = record { passed = passed-next heldAt k (h .passed) (subst (λ (x : Bool). T x) (sym t ∙ g ∙ ap (λ (x : ℕ). vertexHeld (getD on k 0) x driving m) e) tt) }
+  pub held-next : (k cubes : ℕ) (b : Bool) → VerticesHeld k → CubesFor (getD on k 0) ts k cubes → b ≡ vertexHeld (getD on k 0) cubes driving m → b ≡ true → VerticesHeld (k + 1)
+  held-next k cubes b h e g t = record { passed = passed-next heldAt k (h .passed) (subst (λ (x : Bool). T x) (sym t ∙ g ∙ held-for (getD on k 0) ts k cubes driving m e) tt) }
 
   module _ (n s : ℕ) (size : s ≡ 2 ^ n) (d : Driving ts m driving) where
     coverable-is : (r : Bool) → r ≡ every heldAt (below s) → TellsCoverable on n m ts r
@@ -121,5 +132,5 @@ module _ (on : List ℕ) (ts : List Term) (driving : List ℕ) (m : ℕ) where
     pub all-held : (k : ℕ) → s ≤ k → VerticesHeld k → TellsCoverable on n m ts true
     all-held k l h = coverable-is true (all-pass heldAt k s l (h .passed))
 
-    pub one-not-held : (k cubes : ℕ) (b : Bool) → k < s → cubes ≡ rowOf hasVertex ts k → b ≡ vertexHeld (getD on k 0) cubes driving m → b ≡ false → TellsCoverable on n m ts false
-    one-not-held k cubes b l e g f = coverable-is false (one-fails heldAt k s l (sym (ap (λ (x : ℕ). vertexHeld (getD on k 0) x driving m) e) ∙ sym g ∙ f))
+    pub one-not-held : (k cubes : ℕ) (b : Bool) → k < s → CubesFor (getD on k 0) ts k cubes → b ≡ vertexHeld (getD on k 0) cubes driving m → b ≡ false → TellsCoverable on n m ts false
+    one-not-held k cubes b l e g f = coverable-is false (one-fails heldAt k s l (sym (held-for (getD on k 0) ts k cubes driving m e) ∙ sym g ∙ f))

@@ -1,7 +1,8 @@
 -- The rows of the covering matrix in a buffer; the laws behind `put_cell`, `put_vertex` and `rows`.
-use Prim.Native.Nat.{ℕ, suc, _+_, _*_, _^_, _≤_, _<_}
+use Prim.Native.Nat.{ℕ, zero, suc, _+_, _*_, _^_, _≤_, _<_}
 use native.Mathlib.Omega.{arith}
 use mathlib.Core.Path.{_≡_, refl, sym, ap, ap₂, _∙_, subst, subst⁻¹}
+use mathlib.Core.Logic.{inl, inr}
 use mathlib.Core.Bool.{Bool, true, false, cond}
 use mathlib.Core.List.{List, [], _∷_, _++_, map, map-append, append-nil, append-assoc, List·Memᴰ, List·Memᴰ·head, List·Memᴰ·tail}
 use lib.Bits.{bitAnd}
@@ -13,7 +14,7 @@ use Rattle.model.specs.Table.{Table, Cell, cell, cells, isOn, onCells, holds}
 use Rattle.model.specs.Sets.{rowOf}
 use Rattle.model.proofs.Lists.{below-e}
 use Rattle.bits.specs.Lists.{parts}
-use Rattle.incidence.specs.Rows.{OnBytes, hasVertex, Driving, Put, Appends, cellRow, vertexRows, AllRows}
+use Rattle.incidence.specs.Rows.{OnBytes, hasVertex, CubesFor, Driving, Put, Appends, cellRow, vertexRows, AllRows}
 use Rattle.bits.proofs.Lists.{filter-append, parts-next}
 use Rattle.incidence.proofs.Candidates.{cell-row}
 
@@ -79,6 +80,21 @@ module _ (on cubes : ℕ) (driving : List ℕ) (a : List ℕ) (at : ℕ) where
       let e : j ≡ m = omega arith in
       subst (λ (k : ℕ). Appends a at (vertexRows on cubes driving k) k b r) e f
 
+-- ---- a vertex without an on cell
+
+pub no-bit : (j : ℕ) → bit j 0 ≡ false
+no-bit zero = refl
+no-bit (suc j) = no-bit j
+
+no-parts : (part : ℕ → List ℕ) (js : List ℕ) → ((j : ℕ) → part j ≡ []) → join (map part js) ≡ []
+no-parts part [] e = refl
+no-parts part (j ∷ js) e = rw (e j) (no-parts part js e)
+
+rows-for : (on : ℕ) (ts : List Term) (v cubes : ℕ) (driving : List ℕ) (m : ℕ) → CubesFor on ts v cubes → vertexRows on cubes driving m ≡ vertexRows on (rowOf hasVertex ts v) driving m
+unfolding vertexRows cellRow
+rows-for on ts v cubes driving m (inr e) = rw e
+rows-for on ts v cubes driving m (inl z) = rw z (no-parts _ (below m) (λ j. rw (no-bit j)) ∙ sym (no-parts _ (below m) (λ j. rw (no-bit j))))
+
 -- ---- vertex by vertex
 
 module _ (on : List ℕ) (ts : List Term) (driving : List ℕ) (m : ℕ) where
@@ -95,13 +111,13 @@ module _ (on : List ℕ) (ts : List Term) (driving : List ℕ) (m : ℕ) where
   pub rows-none : (old : List ℕ) → RowsBelow 0 old old 0
   rows-none old = record { size = refl; within = omega arith; put = record { counted = refl; most = omega arith; same = refl } }
 
-  pub rows-next : (k : ℕ) (old a b : List ℕ) (at r cubes : ℕ) → m ≤ 8 → cubes ≡ rowOf hasVertex ts k → RowsBelow k old a at
+  pub rows-next : (k : ℕ) (old a b : List ℕ) (at r cubes : ℕ) → m ≤ 8 → CubesFor (getD on k 0) ts k cubes → RowsBelow k old a at
       → Appends a at (vertexRows (getD on k 0) cubes driving m) m b r → RowsBelow (k + 1) old b r
   rows-next k old a b at r cubes l e u f = record {
     size = f .size ∙ u .size;
     within = omega (arith, u .within, f .within);
     put = subst⁻¹ (λ (xs : List ℕ). Put xs old b r) (parts-next rowsAt k)
-        (subst (λ (x : ℕ). Put (parts rowsAt k ++ vertexRows (getD on k 0) x driving m) old b r) e (f .put (parts rowsAt k) old (u .put)));
+        (subst (λ (xs : List ℕ). Put (parts rowsAt k ++ xs) old b r) (rows-for (getD on k 0) ts k cubes driving m e) (f .put (parts rowsAt k) old (u .put)));
   }
 
 -- ---- the rows so put are those of the on cells

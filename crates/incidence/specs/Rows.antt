@@ -1,6 +1,7 @@
 -- What the contracts on the rows of the covering matrix and on the cover test cite.
 use Prim.Native.Nat.{ℕ, _+_, _^_, _≤_, _<_}
 use mathlib.Core.Path.{_≡_}
+use mathlib.Core.Logic.{_⊎_}
 use mathlib.Core.Bool.{Bool, cond}
 use mathlib.Core.List.{List, [], _∷_, _++_, map}
 use lib.Bits.{bitAnd}
@@ -27,6 +28,10 @@ hasVertex t v = inCube (t .care) (t .value) v
 
 abbrev pub drivesOutput : Term → ℕ → Bool
 drivesOutput t j = bit j (t .outputs)
+
+-- r serves as the set of the candidates whose cube contains vertex v, where on is the byte of v: a vertex without an on cell asks for none
+abbrev pub CubesFor : ℕ → List Term → ℕ → ℕ → Type 0
+CubesFor on ts v r = (on ≡ 0) ⊎ (r ≡ rowOf hasVertex ts v)
 
 -- an array of 8 has at each output below m the set of the candidates that drive it
 pub record Driving (ts : List Term) (m : ℕ) (driving : List ℕ) : Type 0 where

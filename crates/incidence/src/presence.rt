@@ -36,7 +36,7 @@ pub fn coverable(on: &[u8; 256], terms: [Term; 64], count: usize, n: u8, m: u8) 
     let driving = rows::driving_all(terms, count, m);
     let mut v: usize = 0;
     while v < size {
-        let cubes = rows::cubes_at(terms, count, v as u8);
+        let cubes = rows::cubes_for(on[v], terms, count, v as u8);
         if vertex_held(on[v], cubes, driving, m) {
             v += 1;
         } else {

@@ -8,7 +8,7 @@ ghost use mathlib.Core.Bool.{cond};
 ghost use Prim.Native.Nat.{_≤_, _<_};
 ghost use lib.ListN.{length, take};
 ghost use Rattle.model.specs.Sets.{rowOf};
-ghost use Rattle.incidence.specs.Rows.{hasVertex, drivesOutput, Driving, Appends, cellRow, vertexRows, AllRows};
+ghost use Rattle.incidence.specs.Rows.{CubesFor, hasVertex, drivesOutput, Driving, Appends, cellRow, vertexRows, AllRows};
 use bits::byte;
 use model::Term;
 
@@ -20,7 +20,7 @@ fn flag(b: bool) -> u64
 }
 
 // The candidates whose cube contains vertex v, read from the last one down.
-pub fn cubes_at(terms: [Term; 64], count: usize, v: u8) -> u64
+fn cubes_at(terms: [Term; 64], count: usize, v: u8) -> u64
     requires { ⌜ count ≤ 64 ⌝ }
     ensures { λ r. ⌜ r ≡ rowOf hasVertex (take count terms) v ⌝ }
 {
@@ -31,6 +31,17 @@ pub fn cubes_at(terms: [Term; 64], count: usize, v: u8) -> u64
         set = set * 2 + flag(terms[k].in_cube(v));
     }
     set
+}
+
+// The candidates whose cube contains vertex v, for the rows of its on cells; a vertex without one is not looked at.
+pub fn cubes_for(on: u8, terms: [Term; 64], count: usize, v: u8) -> u64
+    requires { ⌜ count ≤ 64 ⌝ }
+    ensures { λ r. ⌜ CubesFor on (take count terms) v r ⌝ }
+{
+    if on == 0 {
+        return 0;
+    }
+    cubes_at(terms, count, v)
 }
 
 // The candidates that drive output j, read from the last one down.
@@ -99,7 +110,7 @@ pub fn rows(on: &[u8; 256], terms: [Term; 64], count: usize, n: u8, m: u8, out: 
     let mut end: usize = 0;
     let mut v: usize = 0;
     while v < size {
-        let cubes = cubes_at(terms, count, v as u8);
+        let cubes = cubes_for(on[v], terms, count, v as u8);
         end = put_vertex(on[v], cubes, driving, m, end, out);
         v += 1;
     }

@@ -24,12 +24,4 @@ returns : tie.Need-returns
 returns c = search needs
 
 pub run-spec : {M : Type 1} → statement M
-run-spec =
-    tie.close
-    (tie.spec
-    slice-aggregate-cover-job
-    cover-job-requires
-    array-share-prefix-answers
-    slice-aggregate-print
-    print-requires
-    returns)
+run-spec = tie.close (tie.spec slice-aggregate-cover-job cover-job-requires array-share-prefix-answers slice-aggregate-print print-requires returns)

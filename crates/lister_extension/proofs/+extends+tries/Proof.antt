@@ -110,10 +110,10 @@ extends-minus-requires-3 : (t : ℕ) → extends-lts.Need-minus-requires-3 (E t)
 extends-minus-requires-3 t c κs = search needs
 
 extends-extends-requires : (t : ℕ) → extends-lts.Need-extends-requires (E t) (extends-at t) extends.Post
-extends-extends-requires t c κs =
-    let pre = c .before .before .before .before .before .before .before .before .before .before .before .before .before .before .before .before .before .before .pre in
-    let scarcest = c .before .before .before .before .before .scarcest .ensures in
-    let others = c .before .before .before .minus2 .ensures in
+extends-extends-requires t c κs = let c3 = c .before .before .before in let c5 = c3 .before .before in
+    let pre = c5 .before .before .before .before .before .before .before .before .before .before .before .before .before .pre in
+    let scarcest = c5 .scarcest .ensures in
+    let others = c3 .minus2 .ensures in
     let rest = c .minus3 .ensures in
     (rest-less _ _ _ _ _ (pre .1) scarcest others _ _ rest _ (pre .0), rest-part _ _ _ _ _ (pre .1) scarcest others _ _ rest)
 
@@ -175,7 +175,6 @@ pub +extends+tries-spec : {M : Type 1} → statement M
 +extends+tries-spec = close μ-extends μ-tries (λ t. extends-lts.spec (E t) (extends-at t) extends.Post (extends-returns t)
     (extends-private-rows-requires t) (extends-claims-requires t) (extends-returns-2 t) (extends-minus-requires t) (extends-covers-requires t)
     (extends-returns-3 t) (extends-scarcest-requires t) (extends-linked-requires t) (extends-minus-requires-2 t) (extends-tries-requires t)
-    (extends-minus-requires-3 t) (extends-extends-requires t) (extends-returns-4 t) (extends-returns-5 t))
-    λ t. tries-lts.spec (T t) (tries-at t) tries.Post tries-Inv-loop tries-μ-loop (tries-loop-holds t) (tries-mul-row t)
-    (tries-shared-slice-read-row t) (tries-minus-requires t) (tries-narrow-requires t) (tries-extends-requires t) (tries-returns t) (tries-add-i t)
-    (tries-loop-less t) (tries-loop-again t) (tries-returns-2 t)
+    (extends-minus-requires-3 t) (extends-extends-requires t) (extends-returns-4 t) (extends-returns-5 t)) λ t. tries-lts.spec (T t) (tries-at t)
+    tries.Post tries-Inv-loop tries-μ-loop (tries-loop-holds t) (tries-mul-row t) (tries-shared-slice-read-row t) (tries-minus-requires t)
+    (tries-narrow-requires t) (tries-extends-requires t) (tries-returns t) (tries-add-i t) (tries-loop-less t) (tries-loop-again t) (tries-returns-2 t)

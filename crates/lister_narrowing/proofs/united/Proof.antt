@@ -36,9 +36,9 @@ loop-less : tie.Need-loop-less Inv-loop μ-loop
 loop-less c = minus-member-less _ _ _ (c .before .before .lowest .ensures .member) (c .minus .ensures)
 
 loop-again : tie.Need-loop-again Inv-loop μ-loop
-loop-again c =
-    let inv = c .before .before .before .before .loop .inv in
-    let lowest = c .before .before .lowest .ensures in
+loop-again c = let c2 = c .before .before in
+    let inv = c2 .before .before .loop .inv in
+    let lowest = c2 .lowest .ensures in
     (part-trans _ _ _ (minus-part _ _ _ (c .minus .ensures)) (inv .0), united-more _ _ _ _ _ _ (inv .1) (inv .0) (lowest .member) (c .before .index .ensures .is))
 
 returns : tie.Need-returns Inv-loop μ-loop

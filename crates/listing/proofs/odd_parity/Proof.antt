@@ -34,6 +34,4 @@ returns : tie.Need-returns Inv-loop μ-loop
 returns c = tt
 
 pub odd-parity-spec : {M : Type 1} → statement M
-odd-parity-spec =
-    tie.close
-    (tie.spec Inv-loop μ-loop loop-holds cast-on array-write-on add-v loop-less loop-again returns)
+odd-parity-spec = tie.close (tie.spec Inv-loop μ-loop loop-holds cast-on array-write-on add-v loop-less loop-again returns)

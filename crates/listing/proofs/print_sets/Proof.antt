@@ -49,20 +49,5 @@ returns : tie.Need-returns Inv-loop μ-loop
 returns c = tt
 
 pub print-sets-spec : {M : Type 1} → statement M
-print-sets-spec =
-    tie.close
-    (tie.spec
-    Inv-loop
-    μ-loop
-    loop-holds
-    mul-print-number
-    shared-slice-read-print-number
-    print-number-requires
-    add-i
-    loop-less
-    loop-again
-    slice-aggregate-write-all
-    write-all-requires
-    slice-aggregate-write-all-2
-    write-all-requires-2
-    returns)
+print-sets-spec = tie.close (tie.spec Inv-loop μ-loop loop-holds mul-print-number shared-slice-read-print-number print-number-requires add-i loop-less
+    loop-again slice-aggregate-write-all write-all-requires slice-aggregate-write-all-2 write-all-requires-2 returns)

@@ -65,25 +65,6 @@ returns-3 : tie.Need-returns-3
 returns-3 c = search needs
 
 pub show-cheapest-spec : {M : Type 1} → statement M
-show-cheapest-spec =
-    tie.close
-    (tie.spec
-    slice-aggregate-rows
-    rows-requires
-    costs-requires
-    array-share-prefix-all
-    slice-aggregate-cheapest
-    array-share-prefix-costs
-    slice-aggregate-cheapest-2
-    cheapest-requires
-    enum-known-set
-    slice-aggregate-write-all
-    write-all-requires
-    print-number-requires
-    print-number-requires-2
-    slice-aggregate-write-all-2
-    write-all-requires-2
-    enum-told
-    returns
-    returns-2
-    returns-3)
+show-cheapest-spec = tie.close (tie.spec slice-aggregate-rows rows-requires costs-requires array-share-prefix-all slice-aggregate-cheapest
+    array-share-prefix-costs slice-aggregate-cheapest-2 cheapest-requires enum-known-set slice-aggregate-write-all write-all-requires
+    print-number-requires print-number-requires-2 slice-aggregate-write-all-2 write-all-requires-2 enum-told returns returns-2 returns-3)

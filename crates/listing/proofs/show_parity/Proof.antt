@@ -68,26 +68,7 @@ returns-2 : tie.Need-returns-2
 returns-2 c = search needs
 
 pub show-parity-spec : {M : Type 1} → statement M
-show-parity-spec =
-    tie.close
-    (tie.spec
-    odd-parity-requires
-    allowed-requires
-    primes-requires
-    slice-aggregate-write-all
-    write-all-requires
-    print-number-requires
-    slice-aggregate-write-all-2
-    write-all-requires-2
-    words-requires
-    slice-aggregate-show
-    array-share-prefix-on
-    slice-aggregate-show-2
-    array-share-prefix-dc
-    slice-aggregate-show-3
-    array-share-prefix-all
-    slice-aggregate-show-4
-    show-requires
-    show-cheapest-requires
-    returns
-    returns-2)
+show-parity-spec = tie.close (tie.spec odd-parity-requires allowed-requires primes-requires slice-aggregate-write-all write-all-requires
+    print-number-requires slice-aggregate-write-all-2 write-all-requires-2 words-requires slice-aggregate-show array-share-prefix-on
+    slice-aggregate-show-2 array-share-prefix-dc slice-aggregate-show-3 array-share-prefix-all slice-aggregate-show-4 show-requires
+    show-cheapest-requires returns returns-2)

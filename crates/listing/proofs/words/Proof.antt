@@ -43,18 +43,5 @@ returns : tie.Need-returns Inv-loop μ-loop
 returns c = tt
 
 pub words-spec : {M : Type 1} → statement M
-words-spec =
-    tie.close
-    (tie.spec
-    Inv-loop
-    μ-loop
-    loop-holds
-    mul-t
-    array-copy-out-t
-    word-requires
-    mul-all
-    array-write-all
-    add-i
-    loop-less
-    loop-again
+words-spec = tie.close (tie.spec Inv-loop μ-loop loop-holds mul-t array-copy-out-t word-requires mul-all array-write-all add-i loop-less loop-again
     returns)

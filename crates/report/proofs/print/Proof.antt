@@ -45,19 +45,6 @@ returns-2 : tie.Need-returns-2
 returns-2 c = search needs
 
 pub print-spec : {M : Type 1} → statement M
-print-spec =
-    tie.close
-    (tie.spec
-    print-decimal-requires
-    slice-aggregate-write-all
-    write-all-requires
-    print-decimal-requires-2
-    slice-aggregate-write-all-2
-    write-all-requires-2
-    print-decimal-requires-3
-    slice-aggregate-write-all-3
-    write-all-requires-3
-    slice-aggregate-print-lines
-    print-lines-requires
-    returns
-    returns-2)
+print-spec = tie.close (tie.spec print-decimal-requires slice-aggregate-write-all write-all-requires print-decimal-requires-2
+    slice-aggregate-write-all-2 write-all-requires-2 print-decimal-requires-3 slice-aggregate-write-all-3 write-all-requires-3
+    slice-aggregate-print-lines print-lines-requires returns returns-2)

@@ -77,29 +77,6 @@ returns : tie.Need-returns Inv-loop μ-loop
 returns c = tt
 
 pub print-line-spec : {M : Type 1} → statement M
-print-line-spec =
-    tie.close
-    (tie.spec
-    Inv-loop
-    μ-loop
-    at-most-32-requires
-    loop-holds
-    shared-slice-read-b
-    high-requires
-    mul-line
-    array-write-line
-    low-requires
-    mul-line-2
-    add-line
-    array-write-line-2
-    add-i
-    loop-less
-    loop-again
-    mul-line-3
-    array-write-line-3
-    mul-line-4
-    add-line-2
-    array-share-prefix-line
-    slice-aggregate-write-all
-    write-all-requires
-    returns)
+print-line-spec = tie.close (tie.spec Inv-loop μ-loop at-most-32-requires loop-holds shared-slice-read-b high-requires mul-line array-write-line
+    low-requires mul-line-2 add-line array-write-line-2 add-i loop-less loop-again mul-line-3 array-write-line-3 mul-line-4 add-line-2
+    array-share-prefix-line slice-aggregate-write-all write-all-requires returns)

@@ -45,19 +45,5 @@ returns-2 : tie.Need-returns-2 Inv-loop μ-loop
 returns-2 c = tt
 
 pub print-lines-spec : {M : Type 1} → statement M
-print-lines-spec =
-    tie.close
-    (tie.spec
-    Inv-loop
-    μ-loop
-    loop-holds
-    sub-print-line
-    part-print-line-start
-    part-print-line-end
-    print-line-requires
-    sub-if1
-    returns
-    add-i
-    loop-less
-    loop-again
-    returns-2)
+print-lines-spec = tie.close (tie.spec Inv-loop μ-loop loop-holds sub-print-line part-print-line-start part-print-line-end print-line-requires sub-if1
+    returns add-i loop-less loop-again returns-2)

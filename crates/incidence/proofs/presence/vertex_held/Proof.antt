@@ -47,18 +47,5 @@ returns-2 : tie.Need-returns-2 Inv-loop μ-loop
 returns-2 c = all-pass _ _ _ (c .loop-test .left) (c .before .loop .inv)
 
 pub vertex-held-spec : {M : Type 1} → statement M
-vertex-held-spec =
-    tie.close
-    (tie.spec
-    Inv-loop
-    μ-loop
-    loop-holds
-    has-requires
-    wide-requires
-    mul-if2
-    array-read-if2
-    returns
-    add-j
-    loop-less
-    loop-again
+vertex-held-spec = tie.close (tie.spec Inv-loop μ-loop loop-holds has-requires wide-requires mul-if2 array-read-if2 returns add-j loop-less loop-again
     returns-2)

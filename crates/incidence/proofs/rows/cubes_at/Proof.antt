@@ -56,19 +56,5 @@ returns : tie.Need-returns Inv-loop μ-loop
 returns c = row-done hasVertex (c .before .before .args .t1) (c .before .before .args .count) _ _ _ (c .loop-test .left) (c .before .loop .inv .1)
 
 pub cubes-at-spec : {M : Type 1} → statement M
-cubes-at-spec =
-    tie.close
-    (tie.spec
-    Inv-loop
-    μ-loop
-    loop-holds
-    sub-k
-    mul-set
-    mul-in-cube
-    array-copy-out-in-cube
-    in-cube-requires
-    flag-requires
-    add-set
-    loop-less
-    loop-again
-    returns)
+cubes-at-spec = tie.close (tie.spec Inv-loop μ-loop loop-holds sub-k mul-set mul-in-cube array-copy-out-in-cube in-cube-requires flag-requires add-set
+    loop-less loop-again returns)

@@ -57,19 +57,5 @@ returns : tie.Need-returns Inv-loop μ-loop
 returns c = row-done drivesOutput (c .before .before .args .t1) (c .before .before .args .count) _ _ _ (c .loop-test .left) (c .before .loop .inv .1)
 
 pub driving-spec : {M : Type 1} → statement M
-driving-spec =
-    tie.close
-    (tie.spec
-    Inv-loop
-    μ-loop
-    loop-holds
-    sub-k
-    mul-set
-    mul-has
-    element-copy-out-has
-    has-requires
-    flag-requires
-    add-set
-    loop-less
-    loop-again
-    returns)
+driving-spec = tie.close (tie.spec Inv-loop μ-loop loop-holds sub-k mul-set mul-has element-copy-out-has has-requires flag-requires add-set loop-less
+    loop-again returns)

@@ -44,17 +44,5 @@ returns : tie.Need-returns Inv-loop μ-loop
 returns c = driving-end _ _ _ _ (c .loop-test .left) (c .before .loop .inv .1)
 
 pub driving-all-spec : {M : Type 1} → statement M
-driving-all-spec =
-    tie.close
-    (tie.spec
-    Inv-loop
-    μ-loop
-    loop-holds
-    driving-requires
-    wide-requires
-    mul-sets
-    array-write-sets
-    add-j
-    loop-less
-    loop-again
+driving-all-spec = tie.close (tie.spec Inv-loop μ-loop loop-holds driving-requires wide-requires mul-sets array-write-sets add-j loop-less loop-again
     returns)

@@ -26,6 +26,4 @@ returns-2 : tie.Need-returns-2
 returns-2 c = cell-not-on _ _ _ _ _ _ (c .before .has .ensures) (c .if1 .left)
 
 pub put-cell-spec : {M : Type 1} → statement M
-put-cell-spec =
-    tie.close
-    (tie.spec has-requires mul-out slice-write-out add-result same-length returns returns-2)
+put-cell-spec = tie.close (tie.spec has-requires mul-out slice-write-out add-result same-length returns returns-2)

@@ -47,18 +47,5 @@ returns : tie.Need-returns Inv-loop μ-loop
 returns c = vertex-all _ _ _ _ _ _ _ _ _ (c .loop-test .left) (c .before .loop .inv .0) (c .before .loop .inv .1)
 
 pub put-vertex-spec : {M : Type 1} → statement M
-put-vertex-spec =
-    tie.close
-    (tie.spec
-    Inv-loop
-    μ-loop
-    loop-holds
-    wide-requires
-    mul-row
-    array-read-row
-    put-cell-requires
-    add-j
-    loop-less
-    loop-again
-    same-length
-    returns)
+put-vertex-spec = tie.close (tie.spec Inv-loop μ-loop loop-holds wide-requires mul-row array-read-row put-cell-requires add-j loop-less loop-again
+    same-length returns)

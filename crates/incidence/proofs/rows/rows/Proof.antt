@@ -23,18 +23,21 @@ driving-all-requires c κs = (c .before .before .pre .0, c .before .before .pre 
 loop-holds : tie.Need-loop-holds Inv-loop μ-loop
 loop-holds c = (search needs, rows-none _ _ _ _ _)
 
-cast-cubes-at : tie.Need-cast-cubes-at Inv-loop μ-loop
-cast-cubes-at c = omega (arith, power-le _ _ (c .before .before .before .before .before .pre .1) (c .before .before .before .bound .ensures))
+element-copy-out-cubes-for : tie.Need-element-copy-out-cubes-for Inv-loop μ-loop
+element-copy-out-cubes-for c = omega (arith, power-le _ _ (c .before .before .before .before .before .pre .1) (c .before .before .before .bound .ensures))
 
-cubes-at-requires : tie.Need-cubes-at-requires Inv-loop μ-loop
-cubes-at-requires c κs = c .before .before .before .before .before .pre .0
+cast-cubes-for : tie.Need-cast-cubes-for Inv-loop μ-loop
+cast-cubes-for c = omega (arith, power-le _ _ (c .before .before .before .before .before .before .pre .1) (c .before .before .before .before .bound .ensures))
+
+cubes-for-requires : tie.Need-cubes-for-requires Inv-loop μ-loop
+cubes-for-requires c κs = c .before .before .before .before .before .before .pre .0
 
 element-copy-out-put-vertex : tie.Need-element-copy-out-put-vertex Inv-loop μ-loop
-element-copy-out-put-vertex c = omega (arith, power-le _ _ (c .before .before .before .before .before .before .pre .1) (c .before .before .before .before .bound .ensures))
+element-copy-out-put-vertex c = omega (arith, power-le _ _ (c .before .before .before .before .before .before .before .pre .1) (c .before .before .before .before .before .bound .ensures))
 
 put-vertex-requires : tie.Need-put-vertex-requires Inv-loop μ-loop
-put-vertex-requires c κs = let c4 = c .before .before .before .before in let c6 = c4 .before .before in let c8 = c6 .before .before in
-    (c8 .pre .2, omega (arith, power-le _ _ (c8 .pre .1) (c6 .bound .ensures), c4 .loop .inv .1 .within), omega (arith, c8 .pre .3, c4 .loop .inv .1 .size))
+put-vertex-requires c κs = let c5 = c .before .before .before .before .before in let c7 = c5 .before .before in let c9 = c7 .before .before in
+    (c9 .pre .2, omega (arith, power-le _ _ (c9 .pre .1) (c7 .bound .ensures), c5 .loop .inv .1 .within), omega (arith, c9 .pre .3, c5 .loop .inv .1 .size))
 
 add-v : tie.Need-add-v Inv-loop μ-loop
 add-v c = search needs
@@ -43,8 +46,8 @@ loop-less : tie.Need-loop-less Inv-loop μ-loop
 loop-less c = search needs
 
 loop-again : tie.Need-loop-again Inv-loop μ-loop
-loop-again c = let c5 = c .before .before .before .before .before in let c7 = c5 .before .before in
-    (search needs, rows-next _ _ _ _ _ _ _ _ _ _ _ (c7 .before .before .before .before .pre .2) (c5 .cubes-at .ensures) (c7 .loop .inv .1) (c .before .before .put-vertex .ensures))
+loop-again c = let c5 = c .before .before .before .before .before in let c8 = c5 .before .before .before in
+    (search needs, rows-next _ _ _ _ _ _ _ _ _ _ _ (c8 .before .before .before .before .pre .2) (c5 .cubes-for .ensures) (c8 .loop .inv .1) (c .before .before .put-vertex .ensures))
 
 same-length : tie.Need-same-length Inv-loop μ-loop
 same-length c = c .before .loop .inv .1 .size
@@ -53,20 +56,5 @@ returns : tie.Need-returns Inv-loop μ-loop
 returns c = rows-all _ _ _ _ _ _ _ _ _ _ (c .before .before .before .bound .ensures) (c .before .before .driving-all .ensures) (c .loop-test .left) (c .before .loop .inv .0) (c .before .loop .inv .1)
 
 pub rows-spec : {M : Type 1} → statement M
-rows-spec =
-    tie.close
-    (tie.spec
-    Inv-loop
-    μ-loop
-    bound-requires
-    driving-all-requires
-    loop-holds
-    cast-cubes-at
-    cubes-at-requires
-    element-copy-out-put-vertex
-    put-vertex-requires
-    add-v
-    loop-less
-    loop-again
-    same-length
-    returns)
+rows-spec = tie.close (tie.spec Inv-loop μ-loop bound-requires driving-all-requires loop-holds element-copy-out-cubes-for cast-cubes-for
+    cubes-for-requires element-copy-out-put-vertex put-vertex-requires add-v loop-less loop-again same-length returns)

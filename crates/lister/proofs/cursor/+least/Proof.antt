@@ -169,6 +169,5 @@ least-returns-7 t c =
 pub +least-spec : {M : Type 1} → statement M
 +least-spec = close μ-least λ t. least-lts.spec (G t) (least-at t) least.Post (least-returns t) (least-irredundant-requires t) (least-returns-2 t)
     (least-returns-3 t) (least-sub-j t) (least-power-requires t) (least-add-least t) (least-least-requires t) (least-returns-4 t)
-    (least-least-requires-2 t) (least-returns-5 t) (least-minus-requires t) (least-narrow-requires t) (least-least-requires-3 t)
-    (least-enum-known-low t) (least-enum-told t) (least-add-least-2 t) (least-narrow-exactly-requires t) (least-least-requires-4 t)
-    (least-returns-6 t) (least-returns-7 t)
+    (least-least-requires-2 t) (least-returns-5 t) (least-minus-requires t) (least-narrow-requires t) (least-least-requires-3 t) (least-enum-known-low
+    t) (least-enum-told t) (least-add-least-2 t) (least-narrow-exactly-requires t) (least-least-requires-4 t) (least-returns-6 t) (least-returns-7 t)

@@ -48,12 +48,12 @@ sub-s-2 : tie.Need-sub-s-2 Inv-loop μ-loop
 sub-s-2 c = omega (arith, and-le-l (c .before .before .before .before .before .before .before .before .before .before .args .at) (c .before .power .result - 1))
 
 add-s : tie.Need-add-s Inv-loop μ-loop
-add-s c =
-    let inv = c .before .before .before .loop .inv in
-    let below = c .before .before .loop-test .taken in
+add-s c = let c2 = c .before .before in
+    let inv = c2 .before .loop .inv in
+    let below = c2 .loop-test .taken in
     let power = c .before .power .ensures in
     let begins = starts _ _ _ _ inv below _ power _ refl in
-    omega (arith, climb-node _ _ _ _ inv below _ power (c .if3 .taken) _ (c .before .before .before .before .before .before .before .before .before .before .pre) begins .room)
+    omega (arith, climb-node _ _ _ _ inv below _ power (c .if3 .taken) _ (c2 .before .before .before .before .before .before .before .before .pre) begins .room)
 
 sub-narrow-level : tie.Need-sub-narrow-level Inv-loop μ-loop
 sub-narrow-level c = omega (arith, c .before .power .ensures, pow-pos (c .before .before .before .loop .i))
@@ -67,12 +67,12 @@ narrow-level-requires c κs =
     impossible-level _ _ _ _ inv below _ power (c .if3 .taken) _ _ (c .before .before .before .before .possible-levels .ensures) begins
 
 least-requires : tie.Need-least-requires Inv-loop μ-loop
-least-requires c κs =
-    let inv = c .before .before .before .before .loop .inv in
-    let below = c .before .before .before .loop-test .taken in
+least-requires c κs = let c3 = c .before .before .before in
+    let inv = c3 .before .loop .inv in
+    let below = c3 .loop-test .taken in
     let power = c .before .before .power .ensures in
     let begins = starts _ _ _ _ inv below _ power _ refl in
-    let node = climb-node _ _ _ _ inv below _ power (c .before .if3 .taken) _ (c .before .before .before .before .before .before .before .before .before .before .before .pre) begins in
+    let node = climb-node _ _ _ _ inv below _ power (c .before .if3 .taken) _ (c3 .before .before .before .before .before .before .before .before .pre) begins in
     (node, range-node _ _ _ _ _ (ap (λ (k : ℕ). k - 1) power) node (c .narrow-level .ensures))
 
 enum-known-found : tie.Need-enum-known-found Inv-loop μ-loop

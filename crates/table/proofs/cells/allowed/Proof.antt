@@ -40,16 +40,5 @@ returns : tie.Need-returns Inv-loop μ-loop
 returns c = may-all (c .before .before .args .on .now) (c .before .before .args .dc .now) (c .before .loop .may) (c .before .loop .v) (c .loop-test .left) (c .before .loop .inv .2)
 
 pub allowed-spec : {M : Type 1} → statement M
-allowed-spec =
-    tie.close
-    (tie.spec
-    Inv-loop
-    μ-loop
-    loop-holds
-    element-copy-out-may
-    element-copy-out-may-2
-    array-write-may
-    add-v
-    loop-less
-    loop-again
+allowed-spec = tie.close (tie.spec Inv-loop μ-loop loop-holds element-copy-out-may element-copy-out-may-2 array-write-may add-v loop-less loop-again
     returns)

@@ -68,18 +68,6 @@ halves-returns-4 : (t : ℕ) → halves-lts.Need-returns-4 (G t) (halves-at t) h
 halves-returns-4 t c = both-halves _ _ _ _ (c .before .before .before .before .before .before .first-free .ensures .member) _ _ _ _ refl refl (c .before .before .halves .ensures) (c .halves2 .ensures)
 
 pub +halves-spec : {M : Type 1} → statement M
-+halves-spec = close μ-halves λ t. halves-lts.spec (G t)
-    (halves-at t)
-    halves.Post
-    (halves-first-free-requires t)
-    (halves-sub-rest t)
-    (halves-pair-requires t)
-    (halves-returns t)
-    (halves-first-free-requires-2 t)
-    (halves-pair-requires-2 t)
-    (halves-pair-requires-3 t)
-    (halves-returns-2 t)
-    (halves-halves-requires t)
-    (halves-returns-3 t)
-    (halves-halves-requires-2 t)
-    (halves-returns-4 t)
++halves-spec = close μ-halves λ t. halves-lts.spec (G t) (halves-at t) halves.Post (halves-first-free-requires t) (halves-sub-rest t)
+    (halves-pair-requires t) (halves-returns t) (halves-first-free-requires-2 t) (halves-pair-requires-2 t) (halves-pair-requires-3 t)
+    (halves-returns-2 t) (halves-halves-requires t) (halves-returns-3 t) (halves-halves-requires-2 t) (halves-returns-4 t)

@@ -23,12 +23,4 @@ returns-3 : tie.Need-returns-3
 returns-3 c = c .halves .ensures _ _ (c .before .before .before .before .before .pre) (c .before .before .free-inputs .ensures)
 
 pub drives-spec : {M : Type 1} → statement M
-drives-spec =
-    tie.close
-    (tie.spec
-    element-copy-out-first
-    returns
-    free-inputs-requires
-    returns-2
-    halves-requires
-    returns-3)
+drives-spec = tie.close (tie.spec element-copy-out-first returns free-inputs-requires returns-2 halves-requires returns-3)

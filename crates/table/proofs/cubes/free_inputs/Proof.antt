@@ -24,5 +24,4 @@ returns : tie.Need-returns
 returns c = search needs
 
 pub free-inputs-spec : {M : Type 1} → statement M
-free-inputs-spec =
-    tie.close (tie.spec bound-requires sub-result wide-requires sub-result-2 cast-result returns)
+free-inputs-spec = tie.close (tie.spec bound-requires sub-result wide-requires sub-result-2 cast-result returns)

@@ -48,18 +48,5 @@ returns-2 : tie.Need-returns-2 Inv-loop μ-loop
 returns-2 c = primes-all _ _ _ _ _ _ (c .before .before .empty .ensures) (c .before .before .before .bound .ensures) (c .loop-test .left) (c .before .loop .inv .0) (c .before .loop .inv .1)
 
 pub primes-spec : {M : Type 1} → statement M
-primes-spec =
-    tie.close
-    (tie.spec
-    Inv-loop
-    μ-loop
-    bound-requires
-    empty-requires
-    loop-holds
-    cast-with-care
-    with-care-requires
-    returns
-    add-care
-    loop-less
-    loop-again
-    returns-2)
+primes-spec = tie.close (tie.spec Inv-loop μ-loop bound-requires empty-requires loop-holds cast-with-care with-care-requires returns add-care loop-less
+    loop-again returns-2)

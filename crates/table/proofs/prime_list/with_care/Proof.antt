@@ -55,18 +55,5 @@ returns-2 : tie.Need-returns-2 Inv-loop μ-loop
 returns-2 c = care-all _ _ _ _ _ _ _ (c .before .before .bound .ensures) (c .loop-test .left) (c .before .loop .inv .0) (c .before .loop .inv .1)
 
 pub with-care-spec : {M : Type 1} → statement M
-with-care-spec =
-    tie.close
-    (tie.spec
-    Inv-loop
-    μ-loop
-    bound-requires
-    loop-holds
-    cast-v
-    outputs-at-requires
-    with-requires
-    returns
-    add-value
-    loop-less
-    loop-again
-    returns-2)
+with-care-spec = tie.close (tie.spec Inv-loop μ-loop bound-requires loop-holds cast-v outputs-at-requires with-requires returns add-value loop-less
+    loop-again returns-2)

@@ -24,6 +24,4 @@ returns-2 : tie.Need-returns-2
 returns-2 c = droppable-free _ _ _ _ (c .before .before .pre .0) _ (c .before .has .ensures) _ _ (c .if1 .left)
 
 pub droppable-spec : {M : Type 1} → statement M
-droppable-spec =
-    tie.close
-    (tie.spec has-requires power-requires drives-requires within-requires returns returns-2)
+droppable-spec = tie.close (tie.spec has-requires power-requires drives-requires within-requires returns returns-2)

@@ -21,5 +21,4 @@ returns-3 c = let c2 = c .before .before in
     prime-all _ _ _ _ _ (c2 .before .before .pre) (c2 .before .drives .ensures) _ (c2 .if1 .left) (c .before .some-droppable .ensures) (c .if2 .left)
 
 pub prime-outputs-spec : {M : Type 1} → statement M
-prime-outputs-spec =
-    tie.close (tie.spec drives-requires returns some-droppable-requires returns-2 returns-3)
+prime-outputs-spec = tie.close (tie.spec drives-requires returns some-droppable-requires returns-2 returns-3)

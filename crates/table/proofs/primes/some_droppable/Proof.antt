@@ -33,15 +33,4 @@ returns-2 : tie.Need-returns-2 Inv-loop μ-loop
 returns-2 c = none-droppable _ _ _ _ _ _ (c .loop-test .left) (c .before .loop .inv)
 
 pub some-droppable-spec : {M : Type 1} → statement M
-some-droppable-spec =
-    tie.close
-    (tie.spec
-    Inv-loop
-    μ-loop
-    loop-holds
-    droppable-requires
-    returns
-    add-i
-    loop-less
-    loop-again
-    returns-2)
+some-droppable-spec = tie.close (tie.spec Inv-loop μ-loop loop-holds droppable-requires returns add-i loop-less loop-again returns-2)

@@ -34,15 +34,4 @@ returns-4 : tie.Need-returns-4
 returns-4 c = value-out _ _ _ _ (c .before .within .ensures) (c .if2 .left)
 
 pub formed-spec : {M : Type 1} → statement M
-formed-spec =
-    tie.close
-    (tie.spec
-    bound-requires
-    wide-requires
-    returns
-    within-requires
-    returns-2
-    wide-requires-2
-    bound-requires-2
-    returns-3
-    returns-4)
+formed-spec = tie.close (tie.spec bound-requires wide-requires returns within-requires returns-2 wide-requires-2 bound-requires-2 returns-3 returns-4)
