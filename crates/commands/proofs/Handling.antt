@@ -19,7 +19,7 @@ use Rattle.model.proofs.Sound.{refusalsOf-no}
 use Rattle.table.specs.declared.prime_list.PrimeList.{PrimeList}
 use Rattle.bits.specs.Lists.{Filled}
 use Rattle.table.specs.Cubes.{MayOf}
-use Rattle.table.specs.Primes.{Listed, AllPrimes}
+use Rattle.table.specs.Primes.{FirstTerms, AllPrimes}
 use Rattle.table.proofs.Uses.{whole-list}
 use Rattle.answers.specs.declared.writers.Reply.{Reply}
 use Rattle.answers.specs.declared.writers.Reply.the-variants.{Written, TooLong}
@@ -150,7 +150,7 @@ module _ (p : Problem) (t : Term) (r : ℕ) (o : RefusesTerm p t r) where
 -- ---- P
 
 module _ (p : Problem) (z : Sized p) (may : List ℕ) (of : MayOf (p .rows .on) (p .rows .dc) may) (list : PrimeList) (all : AllPrimes may (p .settings .n) list) where
-  primes-here : (x : Context) → Found p x → Listed (primes (tableOf (x .problem))) list
+  primes-here : (x : Context) → Found p x → FirstTerms (primes (tableOf (x .problem))) list
   primes-here x f = all (tableOf (x .problem)) (of (tableOf (x .problem)) (p .settings .n) (z .inputs) (held-bytes p (x .problem) z (f .holds) (f .valid)))
 
   pub few-primes : Reached p → list .count ≤ 64

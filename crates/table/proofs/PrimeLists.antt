@@ -15,7 +15,7 @@ use Rattle.model.proofs.Cubes.{Formed, legal-formed, prime-e}
 use Rattle.table.specs.declared.prime_list.PrimeList.{PrimeList}
 use Rattle.table.specs.Cubes.{Allowed, PrimeOutputs}
 use Rattle.bits.specs.Lists.{upTo}
-use Rattle.table.specs.Primes.{Listed, Extends, ofCube, ofCare, ExtendsByCube, ExtendsByCare, ExtendsByCares, AllPrimes}
+use Rattle.table.specs.Primes.{FirstTerms, Extends, ofCube, ofCare, ExtendsByCube, ExtendsByCare, ExtendsByCares, AllPrimes}
 use Rattle.bits.proofs.Lists.{upTo-split, upTo-next, rest, passes-none, passes-one, first-next, first-full, counts}
 
 -- ---- one term more
@@ -45,16 +45,16 @@ pub extends-none : (a : PrimeList) (ts : List Term) → ts ≡ [] → Extends a 
 extends-none a ts e xs h = rw (e, append-nil) h
 
 extends-both : (a b c : PrimeList) (ts us : List Term) → Extends a ts b → Extends b us c → Extends a (ts ++ us) c
-extends-both a b c ts us f g xs h = subst (λ (l : List Term). Listed l c) (append-assoc xs ts us) (g (xs ++ ts) (f xs h))
+extends-both a b c ts us f g xs h = subst (λ (l : List Term). FirstTerms l c) (append-assoc xs ts us) (g (xs ++ ts) (f xs h))
 
 -- a full list stays as it is, whatever comes
 extends-full : (a b : PrimeList) (ts us : List Term) → Extends a ts b → b .full ≡ true → Extends a (ts ++ us) b
 extends-full a b ts us f e xs h =
-    let k : Listed (xs ++ ts) b = f xs h in
+    let k : FirstTerms (xs ++ ts) b = f xs h in
     let l : 64 < length (xs ++ ts) = ltb-true 64 (length (xs ++ ts)) (sym (k .more) ∙ e) in
     let m : b .count ≡ min 64 (length (xs ++ ts)) = counts 64 (b .terms) (b .count) (xs ++ ts) (k .stored) in
     let n : length ((xs ++ ts) ++ us) ≡ length (xs ++ ts) + length us = length-append (xs ++ ts) us in
-    subst (λ (l : List Term). Listed l b) (append-assoc xs ts us)
+    subst (λ (l : List Term). FirstTerms l b) (append-assoc xs ts us)
     (record { stored = first-full 64 (b .terms) (b .count) (xs ++ ts) (k .stored) us (omega arith); more = e ∙ sym (lt-ltb 64 (length ((xs ++ ts) ++ us)) (omega arith)) })
 
 -- ---- the primes of one cube: none, or one
@@ -116,14 +116,14 @@ module _ (may : List ℕ) (n : ℕ) (a : PrimeList) where
   pub cares-next : (k : ℕ) (b c : PrimeList) → ExtendsByCares may n k a b → ExtendsByCare may n k (2 ^ n) b c → ExtendsByCares may n (k + 1) a c
   cares-next k b c x y p h = part-next (prime p) (ofCare p) k a b c (x p h) (whole-care k b c y p h)
 
-  all-of : (b : PrimeList) → Listed [] a → ExtendsByCares may n (2 ^ n) a b → AllPrimes may n b
+  all-of : (b : PrimeList) → FirstTerms [] a → ExtendsByCares may n (2 ^ n) a b → AllPrimes may n b
   unfolding primes terms
-  all-of b z x p h = subst⁻¹ (λ (j : ℕ). Listed (upTo (prime p) (ofCare p) (2 ^ j)) b) (h .inputs) (x p h [] z)
+  all-of b z x p h = subst⁻¹ (λ (j : ℕ). FirstTerms (upTo (prime p) (ofCare p) (2 ^ j)) b) (h .inputs) (x p h [] z)
 
-  pub primes-full : (k s : ℕ) (b c : PrimeList) → Listed [] a → s ≡ 2 ^ n → k < s → ExtendsByCares may n k a b → ExtendsByCare may n k (2 ^ n) b c → c .full ≡ true → AllPrimes may n c
+  pub primes-full : (k s : ℕ) (b c : PrimeList) → FirstTerms [] a → s ≡ 2 ^ n → k < s → ExtendsByCares may n k a b → ExtendsByCare may n k (2 ^ n) b c → c .full ≡ true → AllPrimes may n c
   primes-full k s b c z e l x y f = all-of c z (λ p h. part-full (prime p) (ofCare p) k a b c (x p h) (whole-care k b c y p h) (2 ^ n) f (omega arith))
 
-  pub primes-all : (k s : ℕ) (b : PrimeList) → Listed [] a → s ≡ 2 ^ n → s ≤ k → k ≤ s → ExtendsByCares may n k a b → AllPrimes may n b
+  pub primes-all : (k s : ℕ) (b : PrimeList) → FirstTerms [] a → s ≡ 2 ^ n → s ≤ k → k ≤ s → ExtendsByCares may n k a b → AllPrimes may n b
   primes-all k s b z e l g x =
       let i : k ≡ 2 ^ n = omega arith in
       all-of b z (subst (λ (j : ℕ). ExtendsByCares may n j a b) i x)

@@ -17,7 +17,7 @@ use Rattle.model.specs.Library.{badVertex}
 use Rattle.model.proofs.Lists.{or-l, or-r}
 use Rattle.table.specs.declared.prime_list.PrimeList.{PrimeList}
 use Rattle.bits.specs.Lists.{Filled}
-use Rattle.table.specs.Primes.{Listed}
+use Rattle.table.specs.Primes.{FirstTerms}
 
 -- ---- the bytes of a table
 
@@ -42,5 +42,5 @@ small-bytes p v g = (
 
 -- ---- primes
 
-pub whole-list : (ts : List Term) (r : PrimeList) → Listed ts r → r .full ≡ false → Filled 64 ts (r .terms) (r .count)
+pub whole-list : (ts : List Term) (r : PrimeList) → FirstTerms ts r → r .full ≡ false → Filled 64 ts (r .terms) (r .count)
 whole-list ts r l e = subst (λ (xs : List Term). Filled 64 xs (r .terms) (r .count)) (take-all 64 ts (ltb-false 64 (length ts) (sym (l .more) ∙ e))) (l .stored)

@@ -13,13 +13,13 @@ use Rattle.table.specs.Cubes.{Allowed}
 use Rattle.bits.specs.Lists.{Filled, parts, upTo}
 
 -- r has the first 64 of the terms ts, and tells whether there are more
-pub record Listed (ts : List Term) (r : PrimeList) : Type 0 where
+pub record FirstTerms (ts : List Term) (r : PrimeList) : Type 0 where
   pub stored : Filled 64 (take 64 ts) (r .terms) (r .count)
   pub more : r .full ≡ ltb 64 (length ts)
 
 -- b has what a has, and then ts
 abbrev pub Extends : PrimeList → List Term → PrimeList → Type 0
-Extends a ts b = (xs : List Term) → Listed xs a → Listed (xs ++ ts) b
+Extends a ts b = (xs : List Term) → FirstTerms xs a → FirstTerms (xs ++ ts) b
 
 -- the terms of a cube, and those of a care: the parts of `terms`
 abbrev pub ofCube : Table → ℕ → ℕ → List Term
@@ -42,4 +42,4 @@ ExtendsByCares may n k a b = (p : Table) → Allowed p n may → Extends a (upTo
 
 -- r has the first 64 primes in the paper's order, and tells whether there are more
 abbrev pub AllPrimes : List ℕ → ℕ → PrimeList → Type 0
-AllPrimes may n r = (p : Table) → Allowed p n may → Listed (primes p) r
+AllPrimes may n r = (p : Table) → Allowed p n may → FirstTerms (primes p) r

@@ -1,7 +1,7 @@
 // All primes of a table, by care, then value.
 ghost use mathlib.Core.List.{[], _∷_};
 ghost use Prim.Native.Nat.{_^_, _≤_, _<_};
-ghost use Rattle.table.specs.Primes.{Listed, Extends, ExtendsByCare, AllPrimes};
+ghost use Rattle.table.specs.Primes.{FirstTerms, Extends, ExtendsByCare, AllPrimes};
 use crate::primes;
 use bits::byte;
 use model::Term;
@@ -16,7 +16,7 @@ pub struct PrimeList {
 impl PrimeList {
     // The empty list.
     fn empty() -> PrimeList
-        ensures { λ r. ⌜ Listed [] r ⌝ }
+        ensures { λ r. ⌜ FirstTerms [] r ⌝ }
     {
         PrimeList {
             terms: [Term {
