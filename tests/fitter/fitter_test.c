@@ -242,7 +242,7 @@ static const uint8_t paper_job[] = {
 static const uint8_t paper_answers[] = {
     0x6C, 6, 0, 11, 0, 0, 0, 0, 0, 0, 0, 22, 0, 0, 0, 0, 0, 0, 0, 26, 0, 0, 0, 0, 0, 0, 0,
     41, 0, 0, 0, 0, 0, 0, 0, 52, 0, 0, 0, 0, 0, 0, 0, 56, 0, 0, 0, 0, 0, 0, 0,
-    0x63, 6, 0, 41, 0, 0, 0, 0, 0, 0, 0, 0x65,
+    0x63, 3, 0, 41, 0, 0, 0, 0, 0, 0, 0, 0x65,
 };
 
 static void test_putting(void)
@@ -299,7 +299,7 @@ static void test_reading(void)
     for (size_t i = 0; i < 6; i++)
         CHECK(cover_page_set(paper_answers, i) == sets[i]);
     CHECK(cover_page_next(paper_answers, 0) == 57);
-    CHECK(cover_cheapest_cost(paper_answers + 51) == 6 && cover_cheapest_set(paper_answers + 51) == 41);
+    CHECK(cover_cheapest_cost(paper_answers + 51) == 3 && cover_cheapest_set(paper_answers + 51) == 41);
 
     static const uint8_t two_primes[] = {0x70, 2, 1, 0, 1, 255, 254, 253};
     CHECK(cover_answer_bytes(two_primes) == sizeof two_primes && cover_primes_count(two_primes) == 2);
@@ -506,9 +506,9 @@ static void test_marked_cases(void)
     struct list e = LISTED(0);
     struct list f = LISTED(1);
     struct list g = LISTED(1, 2);
-    check_answers(example, &a, 6, 41);
-    check_answers(example_primes, &c, 6, 13);
-    check_answers(crawled, &d, 7, 11);
+    check_answers(example, &a, 3, 41);
+    check_answers(example_primes, &c, 3, 13);
+    check_answers(crawled, &d, 4, 45);
     check_answers(nothing, &e, 0, 0);
     check_answers(once, &f, 1, 1);
     check_answers(twice, &g, 1, 1);
@@ -518,7 +518,7 @@ static void test_marked_cases(void)
 static void test_costs(void)
 {
     static const unsigned sets[] = {11, 22, 26, 41, 52, 56};
-    static const unsigned costs[] = {7, 8, 8, 6, 7, 7};
+    static const unsigned costs[] = {5, 7, 7, 3, 5, 5};
     static struct job job;
     for (size_t k = 0; k < 6; k++) {
         uint64_t members = 0;
@@ -533,6 +533,23 @@ static void test_costs(void)
         add(&job, COVER_END);
         CHECK(is(call(&job, 12), COVER_ACCEPTED, job.length, 12));
         CHECK(cover_cheapest_cost(answers) == costs[k] && cover_cheapest_set(answers) == members);
+    }
+}
+
+/* Only vertex 0 is wanted and all others are free, so a term of any literals may stand alone: 0 to 8 of them. */
+static void test_literals(void)
+{
+    static const unsigned costs[] = {1, 1, 3, 4, 5, 6, 7, 8, 9};
+    static struct job job;
+    for (unsigned k = 0; k <= 8; k++) {
+        add_sizes(&job, 8, 1);
+        for (unsigned v = 0; v < 256; v++)
+            add_row(&job, v, v == 0, v != 0);
+        add_term(&job, (1u << k) - 1, 0, 1);
+        add(&job, COVER_CHEAPEST);
+        add(&job, COVER_END);
+        CHECK(is(call(&job, 12), COVER_ACCEPTED, job.length, 12));
+        CHECK(cover_cheapest_cost(answers) == costs[k] && cover_cheapest_set(answers) == 1);
     }
 }
 
@@ -719,7 +736,7 @@ static void test_nothing_kept(void)
     struct list a = LISTED(11, 22, 26, 41, 52, 56);
     struct list g = LISTED(1, 2);
     for (unsigned i = 0; i < 3; i++) {
-        check_answers(example, &a, 6, 41);
+        check_answers(example, &a, 3, 41);
         check_answers(twice, &g, 1, 1);
         test_unheld();
     }
@@ -732,6 +749,7 @@ int main(void)
     test_reading();
     test_marked_cases();
     test_costs();
+    test_literals();
     test_primes();
     test_unheld();
     test_parity();

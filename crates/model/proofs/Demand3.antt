@@ -23,7 +23,8 @@ use Rattle.model.proofs.Lists.{and-l, and-r, T-true, all-to}
 use Rattle.model.proofs.Sets.{listed, cheapest-irredundant}
 use Rattle.model.proofs.Pages.{rising, all-page}
 use Rattle.model.proofs.Cheapest.{cheapest-best}
-use Rattle.model.proofs.Representations.{no-cheaper-list, cost-dearer}
+use Rattle.model.proofs.Costs.{cost-dearer}
+use Rattle.model.proofs.Representations.{no-cheaper-list}
 use Rattle.model.proofs.Codes.{is-kind, any-query}
 use Rattle.model.proofs.Legal.{legal-basis, all-exactly}
 use Rattle.model.proofs.Sound.{engine-lawful}

@@ -10,6 +10,7 @@ pub mod Matrix
 pub mod Cubes
 pub mod Drives
 pub mod Order
+pub mod Costs
 pub mod Representations
 pub mod Legal
 pub mod Codes

@@ -1,5 +1,5 @@
--- The marked cases of paper 01, its primes and its job, and the tables of refusals, by computation.
-use Prim.Native.Nat.{_+_, _*_, _^_, _<_}
+-- The marked cases of paper 01, its primes and its job, the costs by literals, and the tables of refusals, by computation.
+use Prim.Native.Nat.{_+_, _-_, _*_, _^_, _<_}
 use native.Mathlib.Omega.{arith}
 use mathlib.Core.Path.{_≡_, refl}
 use mathlib.Core.List.{[], map}
@@ -7,7 +7,8 @@ use lib.Dec.{T, ltb, lt→ltb}
 use lib.Arith.{le→nltb}
 use lib.Count.{ones, onesIn}
 use lib.ListN.{length}
-use Rattle.model.specs.Table.{isOn, isDc, isOff, cells, onCells, holds, formed, holdsNoOff, legal}
+use Rattle.model.specs.Base.{below}
+use Rattle.model.specs.Table.{term, isOn, isDc, isOff, cells, onCells, holds, formed, holdsNoOff, legal}
 use Rattle.model.specs.Primes.{contains, sameTerm, containedIn, terms, prime, primes}
 use Rattle.model.specs.Sets.{covers, cover, coverable, redundant, irredundant, irredundants, cost, cheapest}
 use Rattle.model.specs.Pages.{atOrAbove, page, more}
@@ -18,13 +19,18 @@ use Rattle.model.specs.Refusals.{refusalsOf}
 use Rattle.model.specs.Rules.{refusal, refusalBy, refusalsBy}
 use Rattle.model.specs.Job.{run, runBy, packed, written}
 use Rattle.model.specs.Library.{callRefusals, listCovers}
-use Rattle.model.specs.Cases.{outcome, cases, example, examplePrimes, exampleJob, exampleAnswers, countZeroJob, countZeroAnswers, stops, refusedCalls}
+use Rattle.model.specs.Cases.{outcome, cases, costsByLiterals, example, examplePrimes, exampleJob, exampleAnswers, countZeroJob, countZeroAnswers, stops, refusedCalls}
 use Rattle.model.proofs.Lists.{T-true, T-false}
 
 -- a to h
 pub marked : map (λ c. outcome (c .of) (c .by)) cases ≡ map (λ c. c .gives) cases
 unfolding outcome irredundants irredundant redundant cover covers coverable isOn onCells cells holds termCost cost cheapest ones onesIn primes prime legal formed holdsNoOff isOff isDc contains sameTerm containedIn terms
 marked = refl
+
+-- the cost rule
+pub marked-costs : map (λ k. termCost (term (2 ^ k - 1) 0 1)) (below 9) ≡ costsByLiterals
+unfolding termCost ones onesIn
+marked-costs = refl
 
 -- the primes of c
 pub marked-primes : primes example ≡ examplePrimes

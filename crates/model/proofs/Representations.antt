@@ -15,7 +15,7 @@ use Rattle.model.specs.Base.{bit, every, sum}
 use Rattle.model.specs.Table.{Table, Term, isOn, onCells, holds, cells, legal, represents}
 use Rattle.model.specs.Primes.{prime}
 use Rattle.model.specs.Sets.{Covering, Within, members, covers, cover, cost, cheapest}
-use Rattle.model.specs.Candidates.{termCost, listCost, Basis, covering}
+use Rattle.model.specs.Candidates.{listCost, Basis, covering}
 use Rattle.model.proofs.Lists.{yes-or-no, and-l, and-r, every-e, filter-e, T-true, T-false}
 use Rattle.model.proofs.Bits.{bit0-e, bit0-n}
 use Rattle.model.proofs.Sets.{members-more, covers-e, cover-i, cheapest-le}
@@ -143,7 +143,7 @@ module _ (b : Basis) (dearer : (t u : Term) → ones (t .care) ≤ ones (u .care
         fewer = dearer (o .top) q (o .fewer);
       }
 
--- the paper's cost is such a weight
-pub cost-dearer : (t u : Term) → ones (t .care) ≤ ones (u .care) → termCost t ≤ termCost u
-unfolding termCost
-cost-dearer t u h = omega arith
+-- the rival pays for the members of a set what the set costs
+pub members-cost : (b : Basis) (s : ℕ) → listCost b (members (b .cands) s) ≡ cost (covering b) s
+unfolding listCost cost
+members-cost b s = refl

@@ -7,7 +7,6 @@ use mathlib.Core.Bool.{Bool, true, false, cond, _&&_}
 use mathlib.Core.List.{List, [], _∷_, map}
 use lib.Dec.{T, leb, leb→le, nleb→lt, nltb→le}
 use lib.Pow.{pow-mono}
-use lib.Count.{ones-le}
 use lib.ListN.{getD, length, length-take, length-append}
 use Rattle.model.specs.Base.{bit, below, join, sum, All, Bytes}
 use Rattle.model.specs.Table.{Table, Term, formed}
@@ -25,6 +24,7 @@ use Rattle.model.proofs.Lists.{twice, and-l, and-r, below-e, all-append
 use Rattle.model.proofs.Bits.{within-le}
 use Rattle.model.proofs.Sets.{cheapest-irredundant}
 use Rattle.model.proofs.Pages.{all-page}
+use Rattle.model.proofs.Costs.{cost-small}
 use Rattle.model.proofs.Cubes.{Formed, formed-e, legal-formed, prime-e, primes-e}
 use Rattle.model.proofs.Codes.{is-kind}
 use Rattle.model.proofs.Runs.{Numbered, NoneApplies, Lawful, context, OnRuns, IfEnds, IfGoes, run-ind}
@@ -98,9 +98,8 @@ sum-small w most (t ∷ ts) s a = go (bit 0 s) (sum-small w most ts (s / 2) (a .
     go false h = omega (arith, mul-suc most (length ts))
 
 costs-small : (ts : List Term) → All Small ts → All (λ t. termCost t ≤ 9) ts
-unfolding termCost
 costs-small [] a = tt
-costs-small (t ∷ ts) a = (omega (arith, ones-le 8 (t .care) (a .0 .0)), costs-small ts (a .1))
+costs-small (t ∷ ts) a = (cost-small t (a .0 .0), costs-small ts (a .1))
 
 -- ---- the engine's rules, command by command
 

@@ -1,16 +1,17 @@
 -- Paper 01, "Sets": product terms as candidates, the first instance of `Covering`.
 use Prim.Native.Nat.{ℕ, _+_}
 use mathlib.Core.Logic.{_↔_}
+use mathlib.Core.Bool.{cond}
 use mathlib.Core.List.{List, List·Memᴰ}
-use lib.Dec.{T}
+use lib.Dec.{T, ltb}
 use lib.Count.{ones}
 use Rattle.model.specs.Base.{sum, All}
 use Rattle.model.specs.Table.{Table, Cell, Term, cells, isOn, isOff, onCells, holds, legal}
 use Rattle.model.specs.Sets.{Covering, members, cover}
 
--- "the cost of a term is 1 plus its literals (the ones in care)"
+-- K1: "A term with 0 or 1 literals now costs 1; from 2 literals on it costs 1 plus the literals"; paper 01: they are "the ones in care"
 unfoldable pub termCost : Term → ℕ
-termCost t = 1 + ones (t .care)
+termCost t = cond (ltb (ones (t .care)) 2) 1 (1 + ones (t .care))
 
 -- what the commands L and C stand on: "one table and the candidates", and what weighs a candidate
 pub record Basis : Type 0 where
@@ -18,7 +19,7 @@ pub record Basis : Type 0 where
   pub cands : List Term
   pub weight : Term → ℕ
 
--- weighed by the paper's cost of a term
+-- weighed by the cost of a term
 abbrev pub basis : Table → List Term → Basis
 basis p ts = record { table = p; cands = ts; weight = termCost }
 

@@ -53,17 +53,21 @@ pub record Case : Type 0 where
 abbrev case : Table → List Term → Outcome → Case
 case p ts o = record { of = p; by = ts; gives = o }
 
--- a and b, c, d, e, f, g, h
+-- a and b, c, d, e, f, g, h. K1: "Case costs and cheapest sets are worked out anew"; the sets listed are those of paper 01
 abbrev pub cases : List Case
 cases =
-    case example sixTerms (listed (11 ∷ 22 ∷ 26 ∷ 41 ∷ 52 ∷ 56 ∷ []) (7 ∷ 8 ∷ 8 ∷ 6 ∷ 7 ∷ 7 ∷ []) 41 6)
-    ∷ case example (primes example) (listed (13 ∷ 25 ∷ 38 ∷ 44 ∷ 50 ∷ 56 ∷ []) (6 ∷ 7 ∷ 7 ∷ 7 ∷ 8 ∷ 8 ∷ []) 13 6)
-    ∷ case crawled sixTerms (listed (11 ∷ 23 ∷ 45 ∷ 52 ∷ 58 ∷ []) (7 ∷ 10 ∷ 8 ∷ 7 ∷ 10 ∷ []) 11 7)
+    case example sixTerms (listed (11 ∷ 22 ∷ 26 ∷ 41 ∷ 52 ∷ 56 ∷ []) (5 ∷ 7 ∷ 7 ∷ 3 ∷ 5 ∷ 5 ∷ []) 41 3)
+    ∷ case example (primes example) (listed (13 ∷ 25 ∷ 38 ∷ 44 ∷ 50 ∷ 56 ∷ []) (3 ∷ 5 ∷ 5 ∷ 5 ∷ 7 ∷ 7 ∷ []) 13 3)
+    ∷ case crawled sixTerms (listed (11 ∷ 23 ∷ 45 ∷ 52 ∷ 58 ∷ []) (5 ∷ 8 ∷ 4 ∷ 5 ∷ 8 ∷ []) 45 4)
     ∷ case noRows [] (listed (0 ∷ []) (0 ∷ []) 0 0)
     ∷ case bothOn (term 0 0 1 ∷ []) (listed (1 ∷ []) (1 ∷ []) 1 1)
     ∷ case bothOn (term 0 0 1 ∷ term 0 0 1 ∷ []) (listed (1 ∷ 2 ∷ []) (1 ∷ 1 ∷ []) 1 1)
     ∷ case bothOn [] (refused 12)
     ∷ []
+
+-- what a term costs that has so many literals, 0 to 8
+abbrev pub costsByLiterals : List ℕ
+costsByLiterals = 1 ∷ 1 ∷ 3 ∷ 4 ∷ 5 ∷ 6 ∷ 7 ∷ 8 ∷ 9 ∷ []
 
 -- case c: "primes are terms 1, 3, 6, 4, 2, 5 of 003"
 abbrev pub examplePrimes : List Term
@@ -82,13 +86,13 @@ exampleHead =
 abbrev pub exampleJob : List ℕ
 exampleJob = exampleHead ++ (0x4c ∷ 0x00 ∷ 0x00 ∷ 0x00 ∷ 0x00 ∷ 0x00 ∷ 0x00 ∷ 0x00 ∷ 0x00 ∷ 0x06 ∷ 0x43 ∷ 0x45 ∷ [])
 
--- the 63 answer bytes
+-- the 63 answer bytes. K1: "the cheapest set stays 41 and costs 3"
 abbrev pub exampleAnswers : List ℕ
 exampleAnswers =
     0x6c ∷ 0x06 ∷ 0x00 ∷ 0x0b ∷ 0x00 ∷ 0x00 ∷ 0x00 ∷ 0x00 ∷ 0x00 ∷ 0x00 ∷ 0x00 ∷ 0x16 ∷ 0x00 ∷ 0x00 ∷ 0x00 ∷ 0x00
     ∷ 0x00 ∷ 0x00 ∷ 0x00 ∷ 0x1a ∷ 0x00 ∷ 0x00 ∷ 0x00 ∷ 0x00 ∷ 0x00 ∷ 0x00 ∷ 0x00 ∷ 0x29 ∷ 0x00 ∷ 0x00 ∷ 0x00 ∷ 0x00
     ∷ 0x00 ∷ 0x00 ∷ 0x00 ∷ 0x34 ∷ 0x00 ∷ 0x00 ∷ 0x00 ∷ 0x00 ∷ 0x00 ∷ 0x00 ∷ 0x00 ∷ 0x38 ∷ 0x00 ∷ 0x00 ∷ 0x00 ∷ 0x00
-    ∷ 0x00 ∷ 0x00 ∷ 0x00 ∷ 0x63 ∷ 0x06 ∷ 0x00 ∷ 0x29 ∷ 0x00 ∷ 0x00 ∷ 0x00 ∷ 0x00 ∷ 0x00 ∷ 0x00 ∷ 0x00 ∷ 0x65 ∷ []
+    ∷ 0x00 ∷ 0x00 ∷ 0x00 ∷ 0x63 ∷ 0x03 ∷ 0x00 ∷ 0x29 ∷ 0x00 ∷ 0x00 ∷ 0x00 ∷ 0x00 ∷ 0x00 ∷ 0x00 ∷ 0x00 ∷ 0x65 ∷ []
 
 -- ---- jobs with their number, offset and written. Where two refusals apply, the first in the paper's order is given
 

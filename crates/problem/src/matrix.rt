@@ -78,11 +78,15 @@ pub fn costs(terms: [Term; 64], count: usize) -> [u16; 64]
     all
 }
 
-// The cost of a term: 1 and its literals.
+// The cost of a term: 1 with no literal or one, which goes straight into the sum; from two on 1 and the literals.
 fn cost(t: Term) -> u16
     ensures { λ r. ⌜ r ≡ termCost t ⌝ }
 {
-    1 + literals(t.care)
+    let k = literals(t.care);
+    if k < 2 {
+        return 1;
+    }
+    1 + k
 }
 
 // The ones in care.

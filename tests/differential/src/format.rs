@@ -5,7 +5,8 @@
 //! 1. here: an entry in `COMMANDS`, with a kind of operand of its own where none fits, and
 //!    `LAST_NUMBER` where it brings a number;
 //! 2. `reference/job.rs`: where it may stand (`allowed`), what refuses it and what it does
-//!    (`command`), from the paper's text;
+//!    (`command`), from the paper's text; `covers` and `problem` there rely on table and candidates
+//!    standing still from the first L or C on;
 //! 3. `generate/sound.rs` (settings, rows, candidates) or `generate/queries.rs`: where a sound job
 //!    has it;
 //! 4. `generate/purpose.rs`: its borders, in every run; `selftest.rs`: the paper's cases of it.

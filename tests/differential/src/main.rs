@@ -87,6 +87,7 @@ fn jobs(rng: &mut Rng, run: &mut Run, count: usize) -> bool {
                 break;
             }
         }
+        run.tally.drawn = true;
         let enough = turn - run.skipped >= count;
         cases = if enough {
             Vec::new()

@@ -11,7 +11,10 @@ pub const EXAMPLE: &str = "49 02 02 52 00 00 01 52 01 01 02 52 02 03 00 52 03 02
     4c 00 00 00 00 00 00 00 00 06 43 45";
 
 const EXAMPLE_ANSWERS: &str = "6c06000b0000000000000016000000000000001a000000000000002900000000\
-    00000034000000000000003800000000000000630600290000000000000065";
+    00000034000000000000003800000000000000630300290000000000000065";
+
+/// What a term with 0, 1, 2, .. 8 literals costs by K1.
+const COSTS: [u64; 9] = [1, 1, 3, 4, 5, 6, 7, 8, 9];
 
 /// Terms 1 to 6 of document 003.
 const TERMS: [[u8; 3]; 6] = [
@@ -138,13 +141,18 @@ pub fn run(rng: &mut Rng) -> Checks {
         wrong: Vec::new(),
     };
     table_of_commands(&mut checks);
+    costs_of_terms(&mut checks);
     example(&mut checks);
     marked_cases(&mut checks);
+    marked_rivals(&mut checks);
     parity(&mut checks);
     lengths(&mut checks);
     orders(&mut checks);
     for _ in 0..200 {
         two_ways(&mut checks, rng);
+    }
+    for _ in 0..300 {
+        drawn_rival(&mut checks, rng);
     }
     checks
 }
@@ -158,6 +166,17 @@ fn table_of_commands(checks: &mut Checks) {
     }
 }
 
+/// Only the number of literals counts: every care is tried.
+fn costs_of_terms(checks: &mut Checks) {
+    let with_care = |care| Term {
+        care,
+        value: 0,
+        outputs: 1,
+    };
+    let right = |care: u8| with_care(care).cost() == COSTS[care.count_ones() as usize];
+    checks.check("costs of terms", (0..=255).all(right));
+}
+
 fn example(checks: &mut Checks) {
     let job = bytes(EXAMPLE);
     let expected = bytes(EXAMPLE_ANSWERS);
@@ -169,7 +188,7 @@ fn example(checks: &mut Checks) {
 
 fn marked_cases(checks: &mut Checks) {
     let a = [11, 22, 26, 41, 52, 56];
-    checks.accepts("case a", &marked('a').job(), &answers(&a, 6, 41));
+    checks.accepts("case a", &marked('a').job(), &answers(&a, 3, 41));
     let list: Vec<Term> = TERMS
         .iter()
         .map(|t| Term {
@@ -179,22 +198,48 @@ fn marked_cases(checks: &mut Checks) {
         })
         .collect();
     let costs: Vec<u64> = a.iter().map(|&set| reference::cost(&list, set)).collect();
-    checks.check("case b", costs == [7, 8, 8, 6, 7, 7]);
+    checks.check("case b", costs == [5, 7, 7, 3, 5, 5]);
     let mut c = vec![0x70, 6];
     [1, 3, 6, 4, 2, 5]
         .iter()
         .for_each(|&number: &usize| c.extend(TERMS[number - 1]));
-    c.extend(answers(&[13, 25, 38, 44, 50, 56], 6, 13));
+    c.extend(answers(&[13, 25, 38, 44, 50, 56], 3, 13));
     checks.accepts("case c", &marked('c').job(), &c);
     checks.accepts(
         "case d",
         &marked('d').job(),
-        &answers(&[11, 23, 45, 52, 58], 7, 11),
+        &answers(&[11, 23, 45, 52, 58], 4, 45),
     );
     checks.accepts("case e", &marked('e').job(), &answers(&[0], 0, 0));
     checks.accepts("case f", &marked('f').job(), &answers(&[1], 1, 1));
     checks.accepts("case g", &marked('g').job(), &answers(&[1, 2], 1, 1));
     checks.refuses("case h", &marked('h').job(), LONGEST, (12, 11, 0));
+}
+
+/// The candidates of these cases are the primes, by P or by T, so no list of legal terms costs
+/// less. Without its first term case a has other candidates.
+fn marked_rivals(checks: &mut Checks) {
+    let problem = |case| reference::problem(&marked(case).job()).expect("a sound job");
+    for (case, cost) in [('a', 3), ('c', 3), ('d', 4), ('e', 0), ('f', 1), ('g', 1)] {
+        let (table, candidates) = problem(case);
+        let name = format!("rival of case {case}");
+        checks.check(&name, reference::rival(&table, &candidates) == Some(cost));
+    }
+    let (table, candidates) = problem('a');
+    let none = reference::rival(&table, &candidates[1..]).is_none();
+    checks.check("no rival without the primes", none);
+}
+
+/// Over the primes the cheapest cover costs as little as any list of legal terms.
+fn drawn_rival(checks: &mut Checks, rng: &mut Rng) {
+    let (n, m) = (rng.between(1, 3), rng.between(1, 2));
+    let table = crate::generate::random_table(rng, n, m);
+    let primes = table.primes();
+    let Covers::All(covers) = reference::irredundant_covers(&table, &primes) else {
+        return checks.check("covers by primes", false);
+    };
+    let (cost, _) = reference::cheapest(&primes, &covers);
+    checks.check("drawn rival", reference::least_cost(&table) == cost);
 }
 
 fn parity(checks: &mut Checks) {

@@ -1,13 +1,32 @@
-//! What a run has met: how often each number came, and what became of each command.
+//! What a run has met: how often each number came, what became of each command, and, in the drawn
+//! jobs that ask C, how often K1 changed cost or set of the cheapest and how often the cost was
+//! held to the rival's. A run fails where one of these never came. The jobs made on purpose do not
+//! count for C: the marked cases are among them, so that no count could stay at 0.
 
 use crate::format::{self, Command, COMMANDS, LAST_NUMBER};
-use crate::reference::Outcome;
+use crate::reference::{self, Covers, Outcome, Term};
+use crate::report::hex;
 use std::collections::BTreeMap;
 
 pub struct Tally {
     numbers: [usize; LAST_NUMBER as usize + 1],
     /// By command and number, how many jobs stopped there; under 0 the accepted jobs that have it.
     commands: BTreeMap<(u8, u64), usize>,
+    /// Whether the jobs that are added now are drawn.
+    pub drawn: bool,
+    cheapest: Cheapest,
+}
+
+/// The accepted drawn jobs that ask C.
+#[derive(Default)]
+struct Cheapest {
+    jobs: usize,
+    /// Those whose cost or set is another than before K1.
+    other_costs: usize,
+    other_sets: usize,
+    /// Those whose cost is the rival's, and the first one whose cost should be and is not.
+    rivals: usize,
+    beaten: Option<Vec<u8>>,
 }
 
 impl Tally {
@@ -15,6 +34,8 @@ impl Tally {
         Tally {
             numbers: [0; LAST_NUMBER as usize + 1],
             commands: BTreeMap::new(),
+            drawn: false,
+            cheapest: Cheapest::default(),
         }
     }
 
@@ -29,6 +50,9 @@ impl Tally {
             // 1 to 3 are met before there is a command.
             vec![]
         };
+        if self.drawn && outcome.number == 0 && bytes.contains(&b'C') {
+            self.cheapest.add(job);
+        }
         bytes.sort_unstable();
         bytes.dedup();
         for byte in bytes {
@@ -45,6 +69,7 @@ impl Tally {
             let command = char::from(byte);
             println!("least often: {command} with number {number}, {times} times");
         }
+        self.cheapest.print();
     }
 
     /// What should have come and did not, and what came that the table of commands does not name.
@@ -67,8 +92,67 @@ impl Tally {
                 "{byte} met number {number}, not named in format.rs"
             ));
         }
+        list.extend(self.cheapest.complaints());
         list
     }
+}
+
+impl Cheapest {
+    /// The engine's answers are the reference's by now, so the reference's are looked at.
+    fn add(&mut self, job: &[u8]) {
+        let (table, candidates) = reference::problem(job).expect("an accepted job");
+        let Covers::All(covers) = reference::irredundant_covers(&table, &candidates) else {
+            unreachable!("C was answered");
+        };
+        let (cost, set) = reference::cheapest(&candidates, &covers);
+        let (cost_before, set_before) = cheapest_before(&candidates, &covers);
+        self.jobs += 1;
+        self.other_costs += usize::from(cost != cost_before);
+        self.other_sets += usize::from(set != set_before);
+        match reference::rival(&table, &candidates) {
+            Some(least) if least == cost => self.rivals += 1,
+            Some(_) => self.beaten = self.beaten.take().or(Some(job.to_vec())),
+            None => {}
+        }
+    }
+
+    fn print(&self) {
+        println!(
+            "{} drawn jobs ask C: K1 changed the cost in {} and the set in {}, \
+             {} were held to the rival",
+            self.jobs, self.other_costs, self.other_sets, self.rivals
+        );
+    }
+
+    fn complaints(&self) -> Vec<String> {
+        let mut list = Vec::new();
+        for (times, what) in [
+            (
+                self.other_costs,
+                "K1 never changed the cost of the cheapest",
+            ),
+            (self.other_sets, "K1 never changed the set of the cheapest"),
+            (self.rivals, "no cheapest was held to the rival"),
+        ] {
+            if times == 0 {
+                list.push(what.into());
+            }
+        }
+        let beaten = self.beaten.iter();
+        list.extend(beaten.map(|job| format!("the cost is not the rival's: {}", hex(job))));
+        list
+    }
+}
+
+/// Cost and set of the cheapest before K1, when every term cost 1 plus its literals.
+fn cheapest_before(candidates: &[Term], covers: &[u64]) -> (u64, u64) {
+    let literals = |i: usize| u64::from(candidates[i].care.count_ones());
+    let cost = |set: u64| {
+        let members = (0..candidates.len()).filter(|i| set >> i & 1 == 1);
+        members.map(|i| 1 + literals(i)).sum()
+    };
+    let with_cost = covers.iter().map(|&set| (cost(set), set));
+    with_cost.min().expect("C was answered")
 }
 
 /// Each command with each number that it must meet, 0 among them.

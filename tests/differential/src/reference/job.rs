@@ -71,6 +71,17 @@ pub fn run(job: &[u8], buffer: &[u8]) -> Option<Outcome> {
     }
 }
 
+/// Table and candidates that a job sets before it asks, and that stand still from then on; None
+/// when it stops before that.
+pub fn problem(job: &[u8]) -> Option<(Table, Vec<Term>)> {
+    let mut problem = Problem::new();
+    let mut at = 0;
+    while !matches!(job.get(at)?, b'L' | b'C' | b'E') {
+        at += problem.command(job, at, LONGEST).ok()?.0;
+    }
+    Some((problem.table?, problem.candidates))
+}
+
 fn refuse_if(wrong: bool, number: u64) -> Result<(), Stop> {
     if wrong {
         Err(Stop::Refused(number))

@@ -3,10 +3,12 @@
 
 mod covers;
 mod job;
+mod rival;
 mod table;
 
 pub use covers::{
     cheapest, cost, covers_by_products, covers_by_subsets, irredundant_covers, sums, Covers,
 };
-pub use job::{run, Outcome, LONGEST, MOST_CANDIDATES};
+pub use job::{problem, run, Outcome, LONGEST, MOST_CANDIDATES};
+pub use rival::{least_cost, rival};
 pub use table::{Table, Term};

@@ -24,8 +24,13 @@ impl Term {
         self.agrees(v) && bit(self.outputs, j)
     }
 
+    /// By K1 a term with 0 or 1 literals costs 1, as one literal takes no input of an AND gate;
+    /// from 2 literals on it costs 1 plus the literals.
     pub fn cost(self) -> u64 {
-        1 + u64::from(self.care.count_ones())
+        match self.care.count_ones() {
+            0 | 1 => 1,
+            literals => 1 + u64::from(literals),
+        }
     }
 }
 
@@ -123,9 +128,9 @@ impl Table {
         }
     }
 
-    /// The definition itself: each legal term against each other legal term, cell by cell.
-    pub fn primes_by_terms(&self) -> Vec<Term> {
-        let mut legal: Vec<(Term, u64)> = Vec::new();
+    /// Every legal term: each cube with each choice of outputs is tried.
+    pub fn legal_terms(&self) -> Vec<Term> {
+        let mut legal = Vec::new();
         for (care, value) in self.cubes() {
             for outputs in 1..1u16 << self.m {
                 let t = Term {
@@ -134,10 +139,17 @@ impl Table {
                     outputs: outputs as u8,
                 };
                 if self.legal(t) {
-                    legal.push((t, self.held_cells(t)));
+                    legal.push(t);
                 }
             }
         }
+        legal
+    }
+
+    /// The definition itself: each legal term against each other legal term, cell by cell.
+    pub fn primes_by_terms(&self) -> Vec<Term> {
+        let with_cells = |t: Term| (t, self.held_cells(t));
+        let legal: Vec<(Term, u64)> = self.legal_terms().into_iter().map(with_cells).collect();
         let contained = |q: &(Term, u64)| legal.iter().any(|p| p.0 != q.0 && q.1 & !p.1 == 0);
         legal
             .iter()

@@ -1,5 +1,6 @@
 -- `problem::matrix::cost` meets its contract.
-use Rattle.model.specs.Candidates.{termCost}
+use native.Mathlib.Omega.{arith}
+use Rattle.model.proofs.Costs.{cost-few, cost-many}
 use borrow.Author.Needs.{needs}
 use Rattle.problem.proofs.matrix.cost.Statement.{statement}
 use Rattle.problem.proofs.matrix.cost.Tie as tie
@@ -7,12 +8,18 @@ use Rattle.problem.proofs.matrix.cost.Tie as tie
 literals-requires : tie.Need-literals-requires
 literals-requires c κs = search needs
 
+returns : tie.Need-returns
+returns c =
+    let h = c .before .literals .ensures .0 in
+    omega (arith, cost-few (c .before .before .args .t) (omega (arith, h)), h)
+
 add-result : tie.Need-add-result
 add-result c = search needs
 
-returns : tie.Need-returns
-unfolding termCost
-returns c = rw (c .literals .ensures .0)
+returns-2 : tie.Need-returns-2
+returns-2 c =
+    let h = c .before .literals .ensures .0 in
+    omega (arith, cost-many (c .before .before .args .t) (omega (arith, h)), h)
 
 pub cost-spec : {M : Type 1} → statement M
-cost-spec = tie.close (tie.spec literals-requires add-result returns)
+cost-spec = tie.close (tie.spec literals-requires returns add-result returns-2)
