@@ -42,7 +42,10 @@
  *                   irredundant covers at or above start, rising, none skipped, at most count.
  *                   `more` tells whether one stands above those. With count 0 there are no
  *                   sets, and `more` tells whether one stands at or above start.
- *   COVER_CHEAPEST  0x63, cost (2 bytes), set (8 bytes)
+ *   COVER_CHEAPEST  0x63, cost (2 bytes), set (8 bytes): the irredundant cover of least cost, the
+ *                   smallest number among equals. A term with 0 or 1 literals (the ones in
+ *                   care) costs 1, one with more costs 1 plus its literals; a set costs the sum
+ *                   over its members.
  *   COVER_END       0x65
  * Bit i of a set stands for candidate i: the i-th term of the job, or the i-th prime.
  *
