@@ -8,9 +8,10 @@ use mathlib.Core.Bool.{Bool, true, false, cond}
 use mathlib.Core.List.{List, [], _∷_, _++_, map, map-append, append-nil, append-assoc}
 use borrow.Author.Tests.{eq-eqb, ne-eqb}
 use lib.Dec.{eqb}
-use lib.ListN.{getD, length, take, set, length-append, length-take, length-set, length-map}
-use lib.Seq.{take-all, take-append-le, take-suc, take-suc-set, take-length}
-use Rattle.model.specs.Base.{from, below, filter, join}
+use lib.ListN.{getD, length, take, drop, set, length-append, length-take, length-drop, length-set, length-map}
+use lib.Seq.{take-all, take-append-le, take-suc, take-suc-set, take-length, drop-cons, set-at, take-at, append-snoc, length-take-le, getD-append-add, getD-drop}
+use Rattle.model.specs.Base.{from, below, filter, join, without}
+use Rattle.model.proofs.Lists.{length-without}
 use Rattle.bits.specs.Lists.{Filled, parts, upTo}
 
 -- ---- numbers in a row, in two parts
@@ -94,7 +95,43 @@ module _ {A : Type 0} where
       pub passes-one : (k : ℕ) → r < k → filter f (map g (below k)) ≡ g r ∷ []
       passes-one k l = passes-from 0 k (omega arith) (omega arith)
 
-  -- ---- an array that holds a list, with one entry more
+  -- ---- a list without one entry
+
+  -- those before it stay
+  pub take-without : (i k : ℕ) (xs : List A) → i ≤ k → take i (without k xs) ≡ take i xs
+  take-without zero k xs l = refl
+  take-without (suc i) k [] l = refl
+  take-without (suc i) zero (x ∷ xs) l = absurd (omega arith)
+  take-without (suc i) (suc k) (x ∷ xs) l = ap (λ (r : List A). x ∷ r) (take-without i k xs (omega arith))
+
+  -- those above it move down by one
+  pub getD-without : (k i : ℕ) (xs : List A) (d : A) → k ≤ i → getD (without k xs) i d ≡ getD xs (suc i) d
+  getD-without k i [] d l = refl
+  getD-without zero i (x ∷ xs) d l = refl
+  getD-without (suc k) zero (x ∷ xs) d l = absurd (omega arith)
+  getD-without (suc k) (suc i) (x ∷ xs) d l = getD-without k i xs d (omega arith)
+
+  -- ---- a loop that puts a list over the front of an array, entry by entry
+
+  pub over-next : (array xs : List A) (i : ℕ) (d : A) → i < length array → i < length xs → set (take i xs ++ drop i array) i (getD xs i d) ≡ take (suc i) xs ++ drop (suc i) array
+  over-next array xs i d h l =
+      ap (λ (r : List A). set (take i xs ++ r) i (getD xs i d)) (drop-cons array i d h)
+      ∙ set-at (take i xs) (getD array i d) (drop (suc i) array) (getD xs i d) i (length-take-le i xs (omega arith))
+      ∙ sym (append-snoc (take i xs) (getD xs i d) (drop (suc i) array))
+      ∙ ap (λ (r : List A). r ++ drop (suc i) array) (sym (take-suc xs i d l))
+
+  -- behind the front nothing has changed
+  pub over-behind : (array xs : List A) (i j : ℕ) (d : A) → i ≤ length xs → i ≤ j → getD (take i xs ++ drop i array) j d ≡ getD array j d
+  over-behind array xs i j d l h =
+      let w : length (take i xs) ≡ i = length-take-le i xs l in
+      let e : j ≡ length (take i xs) + (j - i) = omega arith in
+      let f : i + (j - i) ≡ j = omega arith in
+      ap (λ (n : ℕ). getD (take i xs ++ drop i array) n d) e
+      ∙ getD-append-add (take i xs) (drop i array) (j - i) d
+      ∙ getD-drop i array (j - i) d
+      ∙ ap (λ (n : ℕ). getD array n d) f
+
+  -- ---- an array that holds a list, with one entry more, and with one fewer
 
   module _ (cap : ℕ) (array : List A) (count : ℕ) where
     pub filled-next : (xs : List A) (x : A) → Filled cap xs array count → count < cap → Filled cap (xs ++ (x ∷ [])) (set array count x) (count + 1)
@@ -106,6 +143,16 @@ module _ {A : Type 0} where
           ∙ take-suc-set array count x (omega (arith, f .size))
           ∙ ap (λ (l : List A). l ++ (x ∷ [])) (f .same);
     }
+
+    pub filled-without : (xs : List A) (k : ℕ) → Filled cap xs array count → k < count → count ≤ cap → Filled cap (without k xs) (without k (take count array) ++ drop (count - 1) array) (count - 1)
+    filled-without xs k f h l =
+        let n : suc (length (without k xs)) ≡ length xs = length-without k xs (omega (arith, f .counted)) in
+        let m : length (without k xs) ≡ count - 1 = omega (arith, f .counted) in
+        subst⁻¹ (λ (ys : List A). Filled cap (without k xs) (without k ys ++ drop (count - 1) array) (count - 1)) (f .same) record {
+          size = omega (arith, length-append (without k xs) (drop (count - 1) array), length-drop (count - 1) array, f .size);
+          counted = sym m;
+          same = take-at (without k xs) (drop (count - 1) array) (count - 1) m;
+        }
 
     -- an array that holds as much of a list as fits
     module _ (xs : List A) (f : Filled cap (take cap xs) array count) where

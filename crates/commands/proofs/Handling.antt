@@ -1,5 +1,5 @@
 -- The laws behind the commands: a refusal, an answer of no bytes, an answer that is written, and one that is too long.
-use Prim.Native.Nat.{ℕ, _^_, _≤_, _<_}
+use Prim.Native.Nat.{ℕ, _^_, _≤_, _<_, max}
 use native.Mathlib.Omega.{arith}
 use mathlib.Core.Path.{_≡_, refl, sym, ap, _∙_, subst, subst⁻¹}
 use mathlib.Core.Bool.{Bool, true, false, not, cond, _&&_, _||_}
@@ -11,7 +11,7 @@ use Rattle.model.specs.Base.{some}
 use Rattle.model.specs.declared.Term.{Term}
 use Rattle.model.specs.Primes.{primes}
 use Rattle.model.specs.Commands as model
-use Rattle.model.specs.Commands.{Context, tableOf, operand, operandTerm, problemAfter}
+use Rattle.model.specs.Commands.{Context, tableOf, operand, operandTerm, operandNumber, problemAfter}
 use Rattle.model.specs.Answers.{Answer, bytesOf, answerFor}
 use Rattle.model.specs.Refusals.{refuse, firstOf, refusalsOf, size, badRow}
 use Rattle.model.proofs.Runs.{first-before, first-behind}
@@ -25,12 +25,12 @@ use Rattle.answers.specs.declared.writers.Reply.{Reply}
 use Rattle.answers.specs.declared.writers.Reply.the-variants.{Written, TooLong}
 use Rattle.answers.specs.Writers.{Replied}
 use Rattle.problem.specs.declared.Problem.{Problem}
-use Rattle.problem.specs.Problems.{listed, startedWith, atPlace, withRows, withCandidates, rowPut, termPut, Sized, Holds, Reached}
+use Rattle.problem.specs.Problems.{listed, startedWith, atPlace, withRows, withCandidates, rowPut, termPut, termTaken, Sized, Holds, Reached}
 use Rattle.problem.specs.Refusing.{rowRefusals, termRefusals, TermRefusal}
 use Rattle.problem.proofs.Refusing.{row-refusal, held-bytes, term-here}
-use Rattle.problem.proofs.Keeping.{after-I, after-R, after-T, after-P}
+use Rattle.problem.proofs.Keeping.{after-I, after-R, after-term, after-P, after-D}
 use Rattle.commands.specs.declared.Effect.{Effect}
-use Rattle.commands.specs.Effects.{refusedAs, answerBytes, lateRefusal, Handled, Found, HandlesI, HandlesR, RefusesTerm, HandlesT, HandlesP, HandlesE}
+use Rattle.commands.specs.Effects.{refusedAs, answerBytes, lateRefusal, Handled, Found, HandlesI, HandlesR, RefusesTerm, HandlesTerm, HandlesP, HandlesD, HandlesE}
 
 -- ---- 14 stands behind the command's own refusals
 
@@ -77,7 +77,7 @@ module _ (x : Context) (k : model.Kind) where
       let w' : Replied (answerBytes x k) old new TooLong = subst (Replied (answerBytes x k) old new) s w in
       rw q record { number = late-long o (omega (arith, w' .0)); refused = λ d. w' .1; answered = λ z. absurd (omega (arith, z)) }
 
--- ---- I, R and T
+-- ---- I and R
 
 pub init-refused : (p : Problem) (n m r : ℕ) (e : Effect) → r ≡ firstOf (refuse 6 (not (size n && size m)) ∷ []) → (r ≡ 0 → ⊥) → e ≡ refusedAs p r → HandlesI n m e
 unfolding refusalsOf
@@ -115,6 +115,8 @@ module _ (p : Problem) (sizes : Sized p) (v on dc r : ℕ) (o : r ≡ firstOf (r
       (subst⁻¹ (λ (y : Problem). Holds y (problemAfter x model.Kind.R)) s
       (after-R x p v on dc (f .holds) (f .valid) (f .begun) a b c (subst (λ (w : ℕ). w < 2 ^ x .problem .settings .n) a (row-vertex x own))))
 
+-- ---- T and A
+
 pub refuses-term : (p : Problem) (may : List ℕ) (t : Term) (r : ℕ) → Sized p → MayOf (p .rows .on) (p .rows .dc) may → TermRefusal may (p .settings .n) (p .settings .m) t r → RefusesTerm p t r
 refuses-term p may t r z of f x d = term-here p x may t r z (d .holds) (d .valid) of f
 
@@ -123,29 +125,41 @@ term-own : (x : Context) (t : Term) → operandTerm x ≡ t → refusalsOf x mod
 unfolding refusalsOf
 term-own x t e = rw e
 
+-- an A is refused as a T is, answers nothing too, and leaves the same problem
+both : (x : Context) (free : List ℕ) (e : Effect) → Handled x model.Kind.T free free e → Handled x model.Kind.T free free e × Handled x model.Kind.A free free e
+unfolding refusalsOf answerFor problemAfter
+both x free e h = (
+  h,
+  record {
+    number = h .number;
+    refused = h .refused;
+    answered = λ z. let a = h .answered z in record { written = a .written; bytes = a .bytes; problem = a .problem };
+  },
+)
+
 module _ (p : Problem) (t : Term) (r : ℕ) (o : RefusesTerm p t r) where
-  pub term-refused : (e : Effect) → (r ≡ 0 → ⊥) → e ≡ refusedAs p r → HandlesT p t e
+  pub term-refused : (e : Effect) → (r ≡ 0 → ⊥) → e ≡ refusedAs p r → HandlesTerm p t e
   term-refused e d q x free f a =
       let own : r ≡ firstOf (refusalsOf x model.Kind.T) =
       sym (ap firstOf (term-own x t a) ∙ first-before (termRefusals (tableOf (x .problem)) t) (refuse 11 (leb 64 (length (x .problem .cands))) ∷ []) (λ z. d (o x f ∙ z)) ∙ sym (o x f)) in
-      handled-refused x model.Kind.T free p r e q (late-own x model.Kind.T r own d) d
+      both x free e (handled-refused x model.Kind.T free p r e q (late-own x model.Kind.T r own d) d)
 
   behind : (x : Context) → Found p x → operandTerm x ≡ t → r ≡ 0 → firstOf (refusalsOf x model.Kind.T) ≡ firstOf (refuse 11 (leb 64 (length (x .problem .cands))) ∷ [])
   behind x f a z = ap firstOf (term-own x t a) ∙ first-behind (termRefusals (tableOf (x .problem)) t)
       (refuse 11 (leb 64 (length (x .problem .cands))) ∷ []) (omega arith, (omega arith, tt)) (sym (o x f) ∙ z)
 
-  pub term-many : (e : Effect) → r ≡ 0 → 64 ≤ p .candidates .count → e ≡ refusedAs p 11 → HandlesT p t e
+  pub term-many : (e : Effect) → r ≡ 0 → 64 ≤ p .candidates .count → e ≡ refusedAs p 11 → HandlesTerm p t e
   term-many e z l q x free f a =
       let own : 11 ≡ firstOf (refusalsOf x model.Kind.T) = sym (behind x f a z ∙ rw (le-leb 64 (length (x .problem .cands)) (omega (arith, f .holds .cands .counted)))) in
-      handled-refused x model.Kind.T free p 11 e q (late-own x model.Kind.T 11 own (λ n. omega (arith, n))) (λ n. omega (arith, n))
+      both x free e (handled-refused x model.Kind.T free p 11 e q (late-own x model.Kind.T 11 own (λ n. omega (arith, n))) (λ n. omega (arith, n)))
 
-  pub term-kept : (q : Problem) → r ≡ 0 → p .candidates .count < 64 → q ≡ atPlace model.inTerms (withCandidates (termPut (p .candidates) t) p)
-      → HandlesT p t (record { number = 0; written = 0; problem = q })
-  unfolding answerFor
+  pub term-kept : (q : Problem) → r ≡ 0 → p .candidates .count < 64 → q ≡ atPlace (max (p .place) model.inTerms) (withCandidates (termPut (p .candidates) t) p)
+      → HandlesTerm p t (record { number = 0; written = 0; problem = q })
+  unfolding answerFor problemAfter
   term-kept q z l s x free f a =
       let own : 0 ≡ firstOf (refusalsOf x model.Kind.T) = sym (behind x f a z ∙ rw (lt-leb 64 (length (x .problem .cands)) (omega (arith, f .holds .cands .counted)))) in
-      handled-silent x model.Kind.T free q refl own
-      (subst⁻¹ (λ (y : Problem). Holds y (problemAfter x model.Kind.T)) s (after-T x p t (f .holds) a l))
+      both x free (record { number = 0; written = 0; problem = q }) (handled-silent x model.Kind.T free q refl own
+      (subst⁻¹ (λ (y : Problem). Holds y (problemAfter x model.Kind.T)) s (after-term x p t (f .holds) a l)))
 
 -- ---- P
 
@@ -184,6 +198,22 @@ module _ (p : Problem) (z : Sized p) (may : List ℕ) (of : MayOf (p .rows .on) 
     primes-kept q n s e x f l =
         handled-written x model.Kind.P old new q r n s l (replied x f) (own-none x f)
         (subst⁻¹ (λ (y : Problem). Holds y (problemAfter x model.Kind.P)) e (after-P x p (list .terms) (list .count) (f .holds) (whole x f)))
+
+-- ---- D
+
+pub number-gone : (p : Problem) (k i : ℕ) (e : Effect) → i ≡ k → p .candidates .count ≤ i → e ≡ refusedAs p 15 → HandlesD p k e
+unfolding refusalsOf
+number-gone p k i e j l q x free f a =
+    let own : leb (length (x .problem .cands)) (operandNumber x) ≡ true = le-leb (length (x .problem .cands)) (operandNumber x) (omega (arith, f .holds .cands .counted, a)) in
+    handled-refused x model.Kind.D free p 15 e q (late-own x model.Kind.D 15 (rw own) (λ n. omega (arith, n))) (λ n. omega (arith, n))
+
+pub number-taken : (p : Problem) (k i : ℕ) (q : Problem) → Sized p → i ≡ k → i < p .candidates .count → q ≡ withCandidates (termTaken (p .candidates) i) p
+    → HandlesD p k (record { number = 0; written = 0; problem = q })
+unfolding refusalsOf answerFor
+number-taken p k i q z j l s x free f a =
+    let own : leb (length (x .problem .cands)) (operandNumber x) ≡ false = lt-leb (length (x .problem .cands)) (operandNumber x) (omega (arith, f .holds .cands .counted, a)) in
+    handled-silent x model.Kind.D free q refl (rw own)
+    (subst⁻¹ (λ (y : Problem). Holds y (problemAfter x model.Kind.D)) s (after-D x p i (f .holds) (a ∙ sym j) l (z .few)))
 
 -- ---- E
 

@@ -8,7 +8,7 @@ use lib.ListN.{length, drop}
 use Rattle.model.specs.declared.Term.{Term}
 use Rattle.model.specs.Pages.{page, more}
 use Rattle.model.specs.Commands as model
-use Rattle.model.specs.Commands.{Context, tableOf, basisOf, operand, operandTerm, start, count, problemAfter}
+use Rattle.model.specs.Commands.{Context, tableOf, basisOf, operand, operandTerm, operandNumber, start, count, problemAfter}
 use Rattle.model.specs.Answers.{Answer, bytesOf, answerFor}
 use Rattle.model.specs.Refusals.{refuse, firstOf, refusalsOf}
 use Rattle.model.specs.Invariants.{Valid}
@@ -70,11 +70,15 @@ HandlesR p v on dc e = (x : Context) (free : List ℕ) → Found p x → operand
 abbrev pub RefusesTerm : Problem → Term → ℕ → Type 0
 RefusesTerm p t r = (x : Context) → Found p x → r ≡ firstOf (termRefusals (tableOf (x .problem)) t)
 
-abbrev pub HandlesT : Problem → Term → Effect → Type 0
-HandlesT p t e = (x : Context) (free : List ℕ) → Found p x → operandTerm x ≡ t → Handled x model.Kind.T free free e
+-- T and A
+abbrev pub HandlesTerm : Problem → Term → Effect → Type 0
+HandlesTerm p t e = (x : Context) (free : List ℕ) → Found p x → operandTerm x ≡ t → Handled x model.Kind.T free free e × Handled x model.Kind.A free free e
 
 abbrev pub HandlesP : Problem → List ℕ → List ℕ → Effect → Type 0
 HandlesP p old new e = (x : Context) → Found p x → x .free ≡ length old → Handled x model.Kind.P old new e
+
+abbrev pub HandlesD : Problem → ℕ → Effect → Type 0
+HandlesD p k e = (x : Context) (free : List ℕ) → Found p x → operandNumber x ≡ k → Handled x model.Kind.D free free e
 
 abbrev pub HandlesE : Problem → ℕ → List ℕ → List ℕ → Effect → Type 0
 HandlesE p rest old new e = (x : Context) → Holds p (x .problem) → length (x .rest) ≡ rest → x .free ≡ length old → Handled x model.Kind.E old new e

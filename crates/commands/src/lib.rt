@@ -5,7 +5,7 @@
 ghost use mathlib.Core.Path.{_≡_};
 ghost use Prim.Native.Nat.{_<_};
 ghost use Rattle.problem.specs.Problems.{Sized, Reached};
-ghost use Rattle.commands.specs.Effects.{refusedAs, RefusesTerm, HandlesI, HandlesR, HandlesT, HandlesP, HandlesE};
+ghost use Rattle.commands.specs.Effects.{refusedAs, RefusesTerm, HandlesI, HandlesR, HandlesTerm, HandlesP, HandlesD, HandlesE};
 use answers::writers;
 use answers::writers::Reply;
 use bits::byte;
@@ -83,10 +83,10 @@ fn term_refusal(p: Problem, t: Term) -> u8
     refusals::term_refusal(&may, p.settings.n, p.settings.m, t)
 }
 
-// T with its term: 11 comes behind 9 and 10.
+// T or A with its term: 11 comes behind 9 and 10.
 pub fn term(p: Problem, t: Term) -> Effect
     requires { ⌜ Sized p ⌝ }
-    ensures { λ r. ⌜ HandlesT p t r ⌝ }
+    ensures { λ r. ⌜ HandlesTerm p t r ⌝ }
 {
     let number = term_refusal(p, t);
     if number != 0 {
@@ -123,6 +123,22 @@ pub fn primes(p: Problem, free: &mut [u8]) -> Effect
             written: n,
             problem: problem::with_primes(p, list),
         },
+    }
+}
+
+// D with the number of a candidate.
+pub fn remove(p: Problem, k: u8) -> Effect
+    requires { ⌜ Sized p ⌝ }
+    ensures { λ r. ⌜ HandlesD p k r ⌝ }
+{
+    let i = byte::wide(k);
+    if p.candidates.count <= i {
+        return refused(p, 15);
+    }
+    Effect {
+        number: 0,
+        written: 0,
+        problem: problem::without_term(p, i),
     }
 }
 

@@ -12,7 +12,7 @@ use Rattle.model.specs.Base.{All}
 use Rattle.model.specs.declared.Term.{Term}
 use Rattle.model.specs.Table.{term}
 use Rattle.model.specs.Commands as model
-use Rattle.model.specs.Commands.{Context, basisOf, kindOf, is, isQueryKind, width, allowed, operand, number}
+use Rattle.model.specs.Commands.{Context, basisOf, kindOf, is, isQueryKind, width, allowed, operand, operandTerm, number}
 use Rattle.model.specs.Answers.{bytesOf, answer}
 use Rattle.model.specs.Refusals.{Refusal, refuse, firstOf, refusalsOf}
 use Rattle.model.specs.Rules.{refusalsBy, refusalBy, refusal}
@@ -25,7 +25,7 @@ use Rattle.problem.specs.declared.Problem.{Problem}
 use Rattle.problem.specs.Problems.{Holds}
 use Rattle.problem.specs.Matrix.{MatrixOf}
 use Rattle.commands.specs.declared.Effect.{Effect}
-use Rattle.commands.specs.Effects.{refusedAs, lateRefusal, Handled, Found, HandlesI, HandlesR, HandlesT, HandlesP, HandlesL, HandlesC, HandlesE}
+use Rattle.commands.specs.Effects.{refusedAs, lateRefusal, Handled, Found, HandlesI, HandlesR, HandlesTerm, HandlesP, HandlesD, HandlesL, HandlesC, HandlesE}
 use Rattle.engine.specs.Steps.{Stepped, Steps, contextAt}
 
 -- ---- what passing 3, 4 and 5 says
@@ -116,6 +116,9 @@ module _ {p : Problem} {job : List ℕ} {at : ℕ} {k : Kind} {n rest : ℕ} (d 
     op : (x : Context) → x .rest ≡ drop (at + 1) job → (i j : ℕ) → at + 1 + i ≡ j → operand x i ≡ getD job j 0
     op x r i j e = ap (λ (bs : List ℕ). getD bs i 0) r ∙ at-op i j e
 
+    op-term : {t : Term} → t ≡ term (getD job (at + 1) 0) (getD job (at + 1 + 1) 0) (getD job (at + 1 + 2) 0) → (x : Context) → x .rest ≡ drop (at + 1) job → operandTerm x ≡ t
+    op-term s x r = rw (op x r 0 (at + 1) (omega arith), op x r 1 (at + 1 + 1) refl, op x r 2 (at + 1 + 2) refl) (sym s)
+
     -- ---- each kind
 
     module _ {rows old : List ℕ} {covered : Bool} {e : Effect} where
@@ -125,8 +128,16 @@ module _ {p : Problem} {job : List ℕ} {at : ℕ} {k : Kind} {n rest : ℕ} (d 
       pub step-R : kindIs k ≡ model.Kind.R → HandlesR p (getD job (at + 1) 0) (getD job (at + 2) 0) (getD job (at + 3) 0) e → Steps p rows covered job at old old e
       step-R g w = behind-I model.Kind.R g tt (λ x f m r a. w x old f (op x r 0 (at + 1) (omega arith)) (op x r 1 (at + 2) (omega arith)) (op x r 2 (at + 3) (omega arith)))
 
-      pub step-T : {t : Term} → kindIs k ≡ model.Kind.T → t ≡ term (getD job (at + 1) 0) (getD job (at + 1 + 1) 0) (getD job (at + 1 + 2) 0) → HandlesT p t e → Steps p rows covered job at old old e
-      step-T {t} g s w = behind-I model.Kind.T g tt (λ x f m r a. w x old f (rw (op x r 0 (at + 1) (omega arith), op x r 1 (at + 1 + 1) refl, op x r 2 (at + 1 + 2) refl) (sym s)))
+      pub step-D : kindIs k ≡ model.Kind.D → HandlesD p (getD job (at + 1) 0) e → Steps p rows covered job at old old e
+      step-D g w = behind-I model.Kind.D g tt (λ x f m r a. w x old f (op x r 0 (at + 1) (omega arith)))
+
+      -- T and A
+      module _ {t : Term} (s : t ≡ term (getD job (at + 1) 0) (getD job (at + 1 + 1) 0) (getD job (at + 1 + 2) 0)) (w : HandlesTerm p t e) where
+        pub step-T : kindIs k ≡ model.Kind.T → Steps p rows covered job at old old e
+        step-T g = behind-I model.Kind.T g tt (λ x f m r a. w x old f (op-term s x r) .0)
+
+        pub step-A : kindIs k ≡ model.Kind.A → Steps p rows covered job at old old e
+        step-A g = behind-I model.Kind.A g tt (λ x f m r a. w x old f (op-term s x r) .1)
 
     module _ {rows old new : List ℕ} {covered : Bool} {e : Effect} where
       pub step-P : kindIs k ≡ model.Kind.P → HandlesP p old new e → Steps p rows covered job at old new e

@@ -1,20 +1,22 @@
 -- The commands: which is which, and that a query changes neither table nor candidates.
-use Prim.Native.Nat.{ℕ}
+use Prim.Native.Nat.{ℕ, _<_}
 use mathlib.Core.Path.{_≡_, refl, sym, ap, _∙_, subst}
 use mathlib.Core.Logic.{_⊎_, inl, inr}
 use mathlib.Core.Bool.{Bool, true, false, cond}
 use mathlib.Core.List.{List, [], _∷_, List·Memᴰ, List·Memᴰ·head, List·Memᴰ·tail}
-use lib.Dec.{T, eqb, eqb→eq}
+use lib.Dec.{T, ltb, eqb, eqb→eq, ltb→lt}
 use Rattle.model.specs.Base.{All}
 use Rattle.model.specs.Commands.{Kind, formOf, is, firstKind, kinds, kindOf, queryKinds, isQueryKind, Context, basisOf, problemAfter}
-use Rattle.model.proofs.Lists.{filter-i, all-e}
+use Rattle.model.proofs.Lists.{every-e, filter-i, all-e}
 
-kind-of-code : (k : Kind) → kindOf (formOf k .code) ≡ k
+pub kind-of-code : (k : Kind) → kindOf (formOf k .code) ≡ k
 unfolding kindOf
 kind-of-code Kind.I = refl
 kind-of-code Kind.R = refl
 kind-of-code Kind.T = refl
 kind-of-code Kind.P = refl
+kind-of-code Kind.A = refl
+kind-of-code Kind.D = refl
 kind-of-code Kind.L = refl
 kind-of-code Kind.C = refl
 kind-of-code Kind.E = refl
@@ -35,14 +37,21 @@ first-in b (k ∷ ks) = go (eqb b (formOf k .code)) (first-in b ks)
     go false (inl e) = inl e
     go false (inr m) = inr (List·Memᴰ·tail m)
 
+pub kind-among : (k : Kind) → List·Memᴰ k (Kind.none ∷ kinds)
+unfolding kindOf
+kind-among k = go (first-in (formOf k .code) kinds) (kind-of-code k)
+  where
+    go : (firstKind (formOf k .code) kinds ≡ Kind.none) ⊎ List·Memᴰ (firstKind (formOf k .code) kinds) kinds → firstKind (formOf k .code) kinds ≡ k → List·Memᴰ k (Kind.none ∷ kinds)
+    go (inl n) e = List·Memᴰ·head (sym e ∙ n)
+    go (inr m) e = List·Memᴰ·tail (subst (λ (x : Kind). List·Memᴰ x kinds) e m)
+
 -- what holds of each query holds of any of them
 pub any-query : (P : Kind → Type 0) → All P queryKinds → (k : Kind) → T (isQueryKind k) → P k
-unfolding kindOf
-any-query P a k t = go (first-in (formOf k .code) kinds) (kind-of-code k)
-  where
-    go : (firstKind (formOf k .code) kinds ≡ Kind.none) ⊎ List·Memᴰ (firstKind (formOf k .code) kinds) kinds → firstKind (formOf k .code) kinds ≡ k → P k
-    go (inl n) e = absurd (subst (λ (x : Kind). T (isQueryKind x)) (sym e ∙ n) t)
-    go (inr m) e = all-e P queryKinds a (filter-i isQueryKind (subst (λ (x : Kind). List·Memᴰ x kinds) e m) t)
+any-query P a k t = all-e P queryKinds a (filter-i isQueryKind (kind-among k) t)
+
+-- the byte of each command is one
+pub code-byte : (k : Kind) → formOf k .code < 256
+code-byte k = ltb→lt (formOf k .code) 256 (every-e (λ (k : Kind). ltb (formOf k .code) 256) (kind-among k) tt)
 
 -- a query changes neither table nor candidates
 pub query-keeps : (x : Context) (k : Kind) → T (isQueryKind k) → basisOf (problemAfter x k) ≡ basisOf (x .problem)

@@ -18,7 +18,7 @@ use Rattle.model.specs.Refusals.{refuse, refusalsOf}
 use Rattle.model.specs.Rules.{engine, refusalsBy, refusalBy, refusal}
 use Rattle.model.specs.Invariants.{Valid}
 use Rattle.model.specs.Exchanges.{Exchange, pageIn}
-use Rattle.model.specs.Demand3.{HasBasis, StandsOn, coversOf, NoCheaperList, setsIn, Correct, Acceptable, CorrectExchange, Demand, Demand3}
+use Rattle.model.specs.Demand3.{isQuery, HasBasis, StandsOn, coversOf, NoCheaperList, setsIn, Correct, Acceptable, CorrectExchange, Demand, Demand3}
 use Rattle.model.proofs.Lists.{and-l, and-r, T-true, all-to}
 use Rattle.model.proofs.Sets.{listed, cheapest-irredundant}
 use Rattle.model.proofs.Pages.{rising, all-page}
@@ -32,6 +32,13 @@ use Rattle.model.proofs.Valid.{valid}
 use Rattle.model.proofs.Exchanges.{reply-refused, reply-answered, Replied, RepliedIn, claim, Lists, gives}
 
 -- ---- refused exactly where a listed refusal applies
+
+module _ (x : Context) (i : T (isQuery x)) where
+  pub query-kind : T (isQueryKind (x .kind))
+  query-kind = and-l (isQueryKind (x .kind)) (allowed (x .kind) (x .problem .place)) i
+
+  pub query-place : T (allowed (x .kind) (x .problem .place))
+  query-place = and-r (isQueryKind (x .kind)) (allowed (x .kind) (x .problem .place)) i
 
 named-query : (k : Kind) → T (isQueryKind k) → is k Kind.none ≡ false
 named-query = any-query (λ k. is k Kind.none ≡ false) (refl, (refl, tt))
@@ -59,7 +66,7 @@ none-of false true true = (λ e. absurd (omega arith), λ h. absurd (h .2))
 none-of false true false = (λ e. (tt, tt, tt), λ h. refl)
 none-of false false z = (λ e. absurd (omega arith), λ h. absurd (h .1))
 
-acceptable-iff : (b : Basis) (x : Context) → T (isQueryKind (x .kind)) → T (allowed (x .kind) (x .problem .place)) → HasBasis b x → (refusal x ≡ 0) ↔ Acceptable b x
+pub acceptable-iff : (b : Basis) (x : Context) → T (isQueryKind (x .kind)) → T (allowed (x .kind) (x .problem .place)) → HasBasis b x → (refusal x ≡ 0) ↔ Acceptable b x
 unfolding short tight
 acceptable-iff b x a p s = (λ e. to (n .0 (sym (refusal-query x a p) ∙ e)), λ h. refusal-query x a p ∙ n .1 (back h))
   where
@@ -89,7 +96,7 @@ correct b x s h = subst (λ (z : Basis). T (coverable (covering z)) → Correct 
     own : T (coverable (coveringOf x)) → Correct (basisOf (x .problem)) x (answer x)
     own c = record { page = λ l. rw (is-kind (x .kind) Kind.L l); cheapest = λ k. best c (is-kind (x .kind) Kind.C k) }
 
-has-bytes : (x : Context) (k : Kind) → T (isQueryKind k) → T (hasBytes (answerFor x k))
+pub has-bytes : (x : Context) (k : Kind) → T (isQueryKind k) → T (hasBytes (answerFor x k))
 unfolding answerFor
 has-bytes x = any-query (λ k. T (hasBytes (answerFor x k))) (tt, (tt, tt))
 
@@ -119,10 +126,10 @@ correct-exchange b e r s = go (eqb (refusal x) 0) refl
     x = e .context
 
     a : T (isQueryKind (x .kind))
-    a = and-l (isQueryKind (x .kind)) (allowed (x .kind) (x .problem .place)) (s .0)
+    a = query-kind x (s .0)
 
     iff : (refusal x ≡ 0) ↔ Acceptable b x
-    iff = acceptable-iff b x a (and-r (isQueryKind (x .kind)) (allowed (x .kind) (x .problem .place)) (s .0)) (s .1)
+    iff = acceptable-iff b x a (query-place x (s .0)) (s .1)
 
     lawful : LegalBasis b
     lawful = subst LegalBasis (s .1) (legal-basis (basisOf (x .problem)) (r .2 .legal))

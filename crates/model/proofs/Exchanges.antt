@@ -3,7 +3,7 @@
 use Prim.Native.Nat.{ℕ, _+_}
 use mathlib.Core.Path.{_≡_, refl, sym, ap, ap₂, _∙_, subst, subst⁻¹}
 use mathlib.Core.Bool.{Bool, true, false, not, cond}
-use mathlib.Core.List.{List, [], _∷_, _++_, map}
+use mathlib.Core.List.{List, [], _∷_, _++_, map, List·Memᴰ, Memᴰ·map}
 use lib.Dec.{T, eqb, eqb→eq}
 use lib.ListN.{length}
 use Rattle.model.specs.Base.{filter, All}
@@ -14,7 +14,7 @@ use Rattle.model.specs.Rules.{Rules, refusalBy}
 use Rattle.model.specs.Job.{Run, stop, answerThen, runBy}
 use Rattle.model.specs.Calls.{Call, ranBy, MetBy}
 use Rattle.model.specs.Exchanges.{answers, Exchange, exchange, pair, answeredIn, readIn, NoneOver, Answered, JudgedCall, allAnswered, allRead, Claim, pageIn, pagesOf, Gives}
-use Rattle.model.proofs.Lists.{T-false, all-append, all-of, all-kept, all-to, all-sublist}
+use Rattle.model.proofs.Lists.{T-false, filter-i, all-append, all-of, all-kept, all-to, all-sublist}
 use Rattle.model.proofs.Joined.{joined-list}
 use Rattle.model.proofs.Runs.{Lawful, context, run-ind, judged}
 use Rattle.model.proofs.Caller.{caller}
@@ -146,6 +146,13 @@ module _ (rules : Rules) (law : Lawful rules) where
       let r = caller rules law c m in
       rw (r .number, r .offset) (judged rules law (c .job) (length (c .before)))
 
+  -- a command of a call that is answered has its reply in the bytes
+  pub reply-read : (c : Call) → MetBy rules c → (x : Context) → List·Memᴰ x (ranBy rules c .contexts) → T (answers rules x) → refusalBy rules x ≡ 0
+      → List·Memᴰ (exchange x (rules .answer x)) (readIn rules c)
+  reply-read c m x i t z =
+      rw (read-in c m ∙ answered-in (c .job) (length (c .before)), ← reply-answered rules x z)
+      (Memᴰ·map (with-reply rules) (filter-i (answers rules) i t))
+
   -- all of some calls are so
   pub every-replied : (Known : Context → Type 0) (calls : List Call) → All (λ c. All Known (ranBy rules c .contexts)) calls → All (RepliedIn rules Known) (allAnswered rules calls)
   every-replied Known [] f = tt
@@ -178,6 +185,17 @@ module _ (rules : Rules) (law : Lawful rules) where
 
       read : All (RepliedIn rules Known) (allRead rules calls)
       read = subst⁻¹ (All (RepliedIn rules Known)) (every-read calls m) replied
+
+-- of commands that stand so, and more
+pub claim-where : {rules : Rules} {Stands : Exchange → Type 0} {Demand : List Exchange → Type 0} {calls : List Call} (More : Exchange → Type 0) → ((e : Exchange) → More e → Stands e)
+    → Claim rules Stands Demand calls → Claim rules More Demand calls
+claim-where {Stands = Stands} More f c = record {
+  answers = λ es s a. c .answers es s (all-to More Stands f es a);
+  bytes = λ es s a. c .bytes es s (all-to More Stands f es a);
+  none-over = c .none-over;
+  answered = c .answered;
+  judged = c .judged;
+}
 
 -- ---- the pages of any command, of any rising list
 

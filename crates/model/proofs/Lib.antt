@@ -22,7 +22,11 @@ pub mod Library
 pub mod Caller
 pub mod Exchanges
 pub mod Demand3
-pub mod SameBasis
-pub mod Whole
+pub mod Behind
+pub mod Standing
+pub mod Replay
+pub mod FreshRows
+pub mod FreshQuery
+pub mod Fresh
 pub mod Marked
 pub mod Example

@@ -3,7 +3,7 @@ use Prim.Native.Nat.{ℕ, _+_, _*_, _/_, _%_, _^_, _≤_, _<_}
 use native.Mathlib.Omega.{arith}
 use mathlib.Core.Path.{_≡_, refl, sym, ap, ap₂, _∙_, subst, subst⁻¹}
 use mathlib.Core.Logic.{_↔_}
-use mathlib.Core.Bool.{Bool, true, false, not, cond, _&&_}
+use mathlib.Core.Bool.{Bool, true, false, not, _&&_}
 use mathlib.Core.List.{List, [], _∷_, _++_, map}
 use lib.Dec.{T, ltb, eqb, eqb→eq, eqb-refl, not-T, T-not}
 use lib.Arith.{le→nltb}
@@ -20,10 +20,10 @@ use Rattle.model.specs.Refusals.{size, Refusal, refuse, firstOf, refusal
 use Rattle.model.specs.Rules.{engine}
 use Rattle.model.specs.Library.{unpack, badVertex, refusalsOfWord, callRefusals, Listed, listCovers, setsOf, joinedRows}
 use Rattle.model.specs.Invariants.{Small, Valid}
-use Rattle.model.proofs.Lists.{twice, T-false, and-l, and-r, and-i, some-e, all-append, all-left}
+use Rattle.model.proofs.Lists.{twice, not-not, T-false, and-l, and-r, and-i, some-e, all-append, all-left}
 use Rattle.model.proofs.Pages.{rising, all-page, upto-got, step, more-iff}
 use Rattle.model.proofs.Legal.{legal-basis, all-exactly}
-use Rattle.model.proofs.Runs.{Numbered, first-none, NoneApplies, Passed}
+use Rattle.model.proofs.Runs.{Numbered, first-none, NoneApplies, none-first, Passed}
 use Rattle.model.proofs.Valid.{place-one}
 
 page-fits : (all : List ℕ) (a c : ℕ) → length (page all a c) ≤ c
@@ -173,18 +173,6 @@ unpack-pack t s =
 unpack-all : (ts : List Term) → All Small ts → map unpack (map pack ts) ≡ ts
 unpack-all [] a = refl
 unpack-all (t ∷ ts) a = ap₂ (λ (u : Term) (us : List Term). u ∷ us) (unpack-pack t (a .0)) (unpack-all ts (a .1))
-
-none-first : (rs : List Refusal) → NoneApplies rs → firstOf rs ≡ 0
-none-first [] a = refl
-none-first (r ∷ rs) a = go (r .applies) (a .0) (none-first rs (a .1))
-  where
-    go : (b : Bool) → T (not b) → firstOf rs ≡ 0 → cond b (r .no) (firstOf rs) ≡ 0
-    go true t e = absurd t
-    go false t e = e
-
-not-not : (b : Bool) → T b → T (not (not b))
-not-not true t = tt
-not-not false t = t
 
 words-pass : (p : Table) (ts : List Term) → All Small ts → All (λ t. T (legal p t)) ts → All (λ r. T (not (r .applies))) (join (map (refusalsOfWord p) (map pack ts)))
 unfolding legal

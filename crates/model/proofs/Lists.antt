@@ -2,13 +2,13 @@
 use Prim.Native.Nat.{ℕ, zero, suc, _+_, _≤_, _<_}
 use native.Mathlib.Omega.{arith}
 use native.Mathlib.Decide.{decLt}
-use mathlib.Core.Path.{_≡_, refl, subst, subst⁻¹}
+use mathlib.Core.Path.{_≡_, refl, ap, subst, subst⁻¹}
 use mathlib.Core.Logic.{_⊎_, inl, inr}
 use mathlib.Core.Bool.{Bool, true, false, not, cond, _&&_, _||_}
-use mathlib.Core.List.{List, [], _∷_, _++_, List·Memᴰ, List·Memᴰ·head, List·Memᴰ·tail, Memᴰ·append-left, Memᴰ·append-right, Sublistᴰ, Sublistᴰ·slnil, Sublistᴰ·cons, Sublistᴰ·cons-cons}
-use lib.Dec.{T}
-use lib.ListN.{getD, take, drop, replicate, length-replicate, getD-replicate, List·getD-eq-default}
-use Rattle.model.specs.Base.{from, below, every, some, filter, join, implies, All}
+use mathlib.Core.List.{List, [], _∷_, _++_, map, List·Memᴰ, List·Memᴰ·head, List·Memᴰ·tail, Memᴰ·append-left, Memᴰ·append-right, Sublistᴰ, Sublistᴰ·slnil, Sublistᴰ·cons, Sublistᴰ·cons-cons}
+use lib.Dec.{T, eqb, eqb-refl}
+use lib.ListN.{getD, length, take, drop, replicate, length-replicate, getD-replicate, List·getD-eq-default}
+use Rattle.model.specs.Base.{from, below, every, some, filter, join, implies, without, All, Ordered}
 
 pub yes-or-no : (b : Bool) → T b ⊎ T (not b)
 yes-or-no true = inl tt
@@ -17,6 +17,10 @@ yes-or-no false = inr tt
 pub twice : (a : Bool) → T (not (not a)) → T a
 twice true u = tt
 twice false u = u
+
+pub not-not : (a : Bool) → T a → T (not (not a))
+not-not true t = tt
+not-not false t = t
 
 pub and-l : (a b : Bool) → T (a && b) → T a
 and-l true b t = tt
@@ -41,6 +45,14 @@ or-l false b t = absurd t
 pub or-r : (a b : Bool) → T b → T (a || b)
 or-r true b t = tt
 or-r false b t = t
+
+pub not-or-l : (a b : Bool) → T (not (a || b)) → T (not a)
+not-or-l true b t = t
+not-or-l false b t = tt
+
+pub not-or-r : (a b : Bool) → T (not (a || b)) → T (not b)
+not-or-r true b t = absurd t
+not-or-r false b t = t
 
 pub implies-e : (a b : Bool) → T (implies a b) → T a → T b
 implies-e true b t s = t
@@ -90,6 +102,10 @@ module _ {A : Type 0} where
       go : T (f x) ⊎ T (some f xs) → (T (some f xs) → (y : A) × List·Memᴰ y xs × T (f y)) → (y : A) × List·Memᴰ y (x ∷ xs) × T (f y)
       go (inl s) r = (x, List·Memᴰ·head refl, s)
       go (inr s) r = let q = r s in (q .0, List·Memᴰ·tail (q .1), q .2)
+
+  pub not-some : (f : A → Bool) (xs : List A) → T (not (some f xs)) → All (λ x. T (not (f x))) xs
+  not-some f [] t = tt
+  not-some f (x ∷ xs) t = (not-or-l (f x) (some f xs) t, not-some f xs (not-or-r (f x) (some f xs) t))
 
   -- a test that fails on a list fails at one of its entries
   pub not-every : (f : A → Bool) (xs : List A) → T (not (every f xs)) → (x : A) × List·Memᴰ x xs × T (not (f x))
@@ -152,6 +168,12 @@ zero-at n v = go (decLt v n)
     go (yes h) = getD-replicate n v 0 0 h
     go (no h) = List·getD-eq-default (replicate n 0) 0 (omega (arith, length-replicate {A = ℕ} n 0))
 
+-- one fewer
+pub length-without : {A : Type 0} (k : ℕ) (xs : List A) → k < length xs → suc (length (without k xs)) ≡ length xs
+length-without k [] h = absurd (omega arith)
+length-without zero (x ∷ xs) h = refl
+length-without (suc k) (x ∷ xs) h = ap suc (length-without k xs (omega arith))
+
 -- each entry is so
 
 module _ {A : Type 0} (P : A → Type 0) where
@@ -185,6 +207,11 @@ module _ {A : Type 0} (P : A → Type 0) where
   all-drop (suc n) [] a = tt
   all-drop (suc n) (x ∷ xs) a = all-drop n xs (a .1)
 
+  pub all-without : (k : ℕ) (xs : List A) → All P xs → All P (without k xs)
+  all-without k [] a = tt
+  all-without zero (x ∷ xs) a = a .1
+  all-without (suc k) (x ∷ xs) a = (a .0, all-without k xs (a .1))
+
   pub all-of : (xs : List A) → ((x : A) → List·Memᴰ x xs → P x) → All P xs
   all-of [] f = tt
   all-of (x ∷ xs) f = (f x (List·Memᴰ·head refl), all-of xs (λ y m. f y (List·Memᴰ·tail m)))
@@ -214,10 +241,18 @@ module _ {A : Type 0} (P : A → Type 0) where
   all-to Q f [] a = tt
   all-to Q f (x ∷ xs) a = (f x (a .0), all-to Q f xs (a .1))
 
+  pub all-join : (xss : List (List A)) → All (All P) xss → All P (join xss)
+  all-join [] a = tt
+  all-join (xs ∷ xss) a = all-append xs (join xss) (a .0) (all-join xss (a .1))
+
   pub all-sublist : {xs ys : List A} → Sublistᴰ xs ys → All P ys → All P xs
   all-sublist Sublistᴰ·slnil a = tt
   all-sublist (Sublistᴰ·cons s) a = all-sublist s (a .1)
   all-sublist (Sublistᴰ·cons-cons e s) a = (subst⁻¹ P e (a .0), all-sublist s (a .1))
+
+pub all-map : {A B : Type 0} (P : B → Type 0) (f : A → B) (xs : List A) → All (λ x. P (f x)) xs → All P (map f xs)
+all-map P f [] a = tt
+all-map P f (x ∷ xs) a = (a .0, all-map P f xs (a .1))
 
 -- what a filter keeps
 pub sublist-filter : {A : Type 0} (f : A → Bool) (xs : List A) → Sublistᴰ (filter f xs) xs
@@ -227,3 +262,33 @@ sublist-filter f (x ∷ xs) = go (f x) (sublist-filter f xs)
     go : (b : Bool) → Sublistᴰ (filter f xs) xs → Sublistᴰ (cond b (x ∷ filter f xs) (filter f xs)) (x ∷ xs)
     go true s = Sublistᴰ·cons-cons refl s
     go false s = Sublistᴰ·cons s
+
+-- ---- distinct numbers
+
+module _ {A : Type 0} where
+  length-filter : (f : A → Bool) (xs : List A) → length (filter f xs) ≤ length xs
+  length-filter f [] = omega arith
+  length-filter f (x ∷ xs) = go (f x) (length-filter f xs)
+    where
+      go : (b : Bool) → length (filter f xs) ≤ length xs → length (cond b (x ∷ filter f xs) (filter f xs)) ≤ suc (length xs)
+      go true l = omega arith
+      go false l = omega arith
+
+  filter-less : (f : A → Bool) {x : A} {xs : List A} → List·Memᴰ x xs → T (not (f x)) → length (filter f xs) < length xs
+  filter-less f (List·Memᴰ·head {x = y} {xs = ys} e) t = rw (T-false {b = f y} (subst (λ (z : A). T (not (f z))) e t)) (omega (arith, length-filter f ys))
+  filter-less f (List·Memᴰ·tail {x = y} {xs = ys} m) t = go (f y) (filter-less f m t)
+    where
+      go : (b : Bool) → length (filter f ys) < length ys → length (cond b (y ∷ filter f ys) (filter f ys)) < suc (length ys)
+      go true l = omega arith
+      go false l = omega arith
+
+-- distinct entries of a list are no more than its entries
+pub distinct-among : (vs us : List ℕ) → Ordered (λ v w. T (not (eqb v w))) vs → All (λ v. List·Memᴰ v us) vs → length vs ≤ length us
+distinct-among [] us o a = omega arith
+distinct-among (v ∷ vs) us o a = omega (arith, distinct-among vs (filter other us) (o .1) rest, filter-less other (a .0) (not-not (eqb v v) (eqb-refl v)))
+  where
+    other : ℕ → Bool
+    other w = not (eqb v w)
+
+    rest : All (λ w. List·Memᴰ w (filter other us)) vs
+    rest = all-of (λ (w : ℕ). List·Memᴰ w (filter other us)) vs (λ w m. filter-i other (all-e (λ (u : ℕ). List·Memᴰ u us) vs (a .1) m) (all-e (λ (u : ℕ). T (not (eqb v u))) vs (o .0) m))

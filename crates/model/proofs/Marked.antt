@@ -8,18 +8,19 @@ use lib.Arith.{le→nltb}
 use lib.Count.{ones, onesIn}
 use lib.ListN.{length}
 use Rattle.model.specs.Base.{below}
-use Rattle.model.specs.Table.{term, isOn, isDc, isOff, cells, onCells, holds, formed, holdsNoOff, legal}
+use Rattle.model.specs.Table.{term, isOn, isDc, isOff, cells, onCells, holds, formed, holdsNoOff, legal, represents}
 use Rattle.model.specs.Primes.{contains, sameTerm, containedIn, terms, prime, primes}
 use Rattle.model.specs.Sets.{covers, cover, coverable, redundant, irredundant, irredundants, cost, cheapest}
 use Rattle.model.specs.Pages.{atOrAbove, page, more}
-use Rattle.model.specs.Candidates.{termCost}
+use Rattle.model.specs.Candidates.{termCost, listCost, covering}
 use Rattle.model.specs.Commands.{Kind, kindOf, width, allowed, Context, problemAfter, tableOf}
 use Rattle.model.specs.Answers.{answer, answerFor}
 use Rattle.model.specs.Refusals.{refusalsOf}
 use Rattle.model.specs.Rules.{refusal, refusalBy, refusalsBy}
 use Rattle.model.specs.Job.{run, runBy, packed, written}
 use Rattle.model.specs.Library.{callRefusals, listCovers}
-use Rattle.model.specs.Cases.{outcome, cases, costsByLiterals, example, examplePrimes, exampleJob, exampleAnswers, countZeroJob, countZeroAnswers, stops, refusedCalls}
+use Rattle.model.specs.Cases.{outcome, cases, costsByLiterals, example, examplePrimes, exampleJob, exampleAnswers, countZeroJob}
+use Rattle.model.specs.Cases.{countZeroAnswers, stops, comeAndGo, halvesBasis, cheaperList, refusedCalls}
 use Rattle.model.proofs.Lists.{T-true, T-false}
 
 -- a to h
@@ -50,6 +51,20 @@ marked-bytes = refl
 pub count-zero-bytes : written (run countZeroJob 4) ≡ countZeroAnswers
 unfolding irredundants irredundant redundant cover covers coverable isOn onCells cells holds termCost cost cheapest ones onesIn primes prime legal formed holdsNoOff isOff isDc contains sameTerm containedIn terms runBy kindOf written refusalBy refusalsBy refusalsOf answer answerFor problemAfter page more atOrAbove
 count-zero-bytes = refl
+
+-- K2: jobs with A and D are accepted, and write these bytes
+pub come-and-go : map (λ c. packed (run (c .job) 32768)) comeAndGo ≡ map (λ c. length (c .job) * 2 ^ 16 + length (c .bytes)) comeAndGo
+unfolding irredundants irredundant redundant cover covers coverable isOn onCells cells holds termCost cost cheapest ones onesIn primes prime legal formed holdsNoOff isOff isDc contains sameTerm containedIn terms runBy kindOf packed written refusalBy refusalsBy refusalsOf answer answerFor problemAfter page more atOrAbove
+come-and-go = refl
+
+pub come-and-go-bytes : map (λ c. written (run (c .job) 32768)) comeAndGo ≡ map (λ c. c .bytes) comeAndGo
+unfolding irredundants irredundant redundant cover covers coverable isOn onCells cells holds termCost cost cheapest ones onesIn primes prime legal formed holdsNoOff isOff isDc contains sameTerm containedIn terms runBy kindOf written refusalBy refusalsBy refusalsOf answer answerFor problemAfter page more atOrAbove
+come-and-go-bytes = refl
+
+-- the candidates that the first L of the last of these jobs finds: a list that represents the table is cheaper than their cheapest set
+pub rival-cheaper : T (represents (halvesBasis .table) cheaperList) × (listCost halvesBasis cheaperList < cost (covering halvesBasis) (cheapest (covering halvesBasis)))
+unfolding irredundants irredundant redundant cover covers isOn onCells cells holds termCost cost cheapest ones onesIn legal formed holdsNoOff isOff isDc represents listCost
+rival-cheaper = (tt, omega arith)
 
 -- jobs with their number, offset and written
 pub stopped-jobs : map (λ c. packed (run (c .job) (c .room))) stops ≡ map (λ c. c .number * 2 ^ 32 + c .offset * 2 ^ 16 + c .written) stops

@@ -7,6 +7,7 @@ use mathlib.Core.Logic.{_⊎_, inl, inr}
 use mathlib.Core.Bool.{Bool, true, false, not, cond, _||_}
 use mathlib.Core.List.{List, [], _∷_, _++_, map}
 use lib.Dec.{T, ltb, eqb, eqb→eq, nltb→le}
+use lib.Arith.{le→nltb}
 use lib.Seq.{drop-drop}
 use lib.ListN.{length, drop, length-drop, length-append}
 use Rattle.model.specs.Base.{join, All, Bytes}
@@ -17,7 +18,7 @@ use Rattle.model.specs.Rules.{Rules, refusalsBy, refusalBy}
 use Rattle.model.specs.Job.{Run, stop, answerThen, commands, runBy, RefusedAt, Judged, written}
 use Rattle.model.specs.Invariants.{Sound}
 use Rattle.model.proofs.Read.{Fits}
-use Rattle.model.proofs.Lists.{twice, T-false, all-append, all-left, all-right}
+use Rattle.model.proofs.Lists.{twice, not-not, T-false, all-append, all-left, all-right}
 
 -- ---- what an answered command has passed
 
@@ -70,6 +71,14 @@ first-behind (r ∷ rs) qs a e = go (r .applies) e (first-behind rs qs (a .1))
 abbrev pub NoneApplies : List Refusal → Type 0
 NoneApplies rs = All (λ r. T (not (r .applies))) rs
 
+pub none-first : (rs : List Refusal) → NoneApplies rs → firstOf rs ≡ 0
+none-first [] a = refl
+none-first (r ∷ rs) a = go (r .applies) (a .0) (none-first rs (a .1))
+  where
+    go : (b : Bool) → T (not b) → firstOf rs ≡ 0 → cond b (r .no) (firstOf rs) ≡ 0
+    go true t e = absurd t
+    go false t e = e
+
 -- a command that no refusal stops
 pub record Passed (rules : Rules) (x : Context) : Type 0 where
   pub named : T (not (is (x .kind) Kind.none))
@@ -77,6 +86,21 @@ pub record Passed (rules : Rules) (x : Context) : Type 0 where
   pub operands : width (x .kind) ≤ length (x .rest)
   pub own : NoneApplies (rules .own x)
   pub room : length (bytesOf (rules .answer x)) ≤ x .free
+
+pub not-refused : (rules : Rules) (x : Context) → Passed rules x → refusalBy rules x ≡ 0
+unfolding refusalBy refusalsBy
+not-refused rules x h =
+    let answer = bytesOf (rules .answer x) in
+    none-first (refusalsBy rules x) (
+      h .named,
+      (
+        not-not (allowed (x .kind) (x .problem .place)) (h .place),
+        (
+          le→nltb (length (x .rest)) (width (x .kind)) (h .operands),
+          all-append (λ (r : Refusal). T (not (r .applies))) (rules .own x) (refuse 14 (ltb (x .free) (length answer)) ∷ []) (h .own) (le→nltb (x .free) (length answer) (h .room), tt),
+        ),
+      ),
+    )
 
 -- what rules keep: the numbers of their refusals, 13, and the sizes of problems and answers
 pub record Lawful (rules : Rules) : Type 0 where
@@ -190,6 +214,11 @@ module _ (rules : Rules) (law : Lawful rules) (P : OnRuns) (short : IfShort rule
       go true e d f = a (rw e tt)
       go false e true f = a (rw (e, f) tt)
       go false e false f = b (nltb→le 32768 (length job) (rw e tt)) (nltb→le 32768 room (rw f tt)) r (commands-ind (suc (length job)) empty job room 0 (le-refl (suc (length job))))
+
+-- a job that is not too long, in a buffer that is not
+pub run-is : (rules : Rules) (job : List ℕ) (room : ℕ) → length job ≤ 32768 → room ≤ 32768 → runBy rules job room ≡ commands rules (suc (length job)) empty job room 0
+unfolding runBy
+run-is rules job room l m = rw (T-false {b = ltb 32768 (length job)} (le→nltb 32768 (length job) l), T-false {b = ltb 32768 room} (le→nltb 32768 room m))
 
 -- ---- where a job stops, and how much it writes
 

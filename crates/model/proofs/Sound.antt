@@ -5,7 +5,7 @@ use native.Mathlib.Nat.{mul-suc}
 use mathlib.Core.Path.{_≡_, subst}
 use mathlib.Core.Bool.{Bool, true, false, cond, _&&_}
 use mathlib.Core.List.{List, [], _∷_, map}
-use lib.Dec.{T, leb, leb→le, nleb→lt, nltb→le}
+use lib.Dec.{leb, leb→le, nleb→lt, nltb→le}
 use lib.Pow.{pow-mono}
 use lib.ListN.{getD, length, length-take, length-append}
 use Rattle.model.specs.Base.{bit, below, join, sum, All, Bytes}
@@ -14,13 +14,14 @@ use Rattle.model.specs.Primes.{primes}
 use Rattle.model.specs.Sets.{Covering, members, coverable, irredundant, irredundants, cost, cheapest}
 use Rattle.model.specs.Pages.{atOrAbove, page, more}
 use Rattle.model.specs.Candidates.{termCost}
-use Rattle.model.specs.Commands.{queried, Kind, kindOf, width, Problem, empty, atPlace, Context, low, operand, operandTerm, start, count, coveringOf, problemAfter, tableOf}
+use Rattle.model.specs.Commands.{queried, Kind, kindOf, width, Problem, empty, atPlace, Context, low, operand, operandTerm, operandNumber}
+use Rattle.model.specs.Commands.{start, count, coveringOf, withTerm, problemAfter, tableOf}
 use Rattle.model.specs.Answers.{Answer, bytesOf, answerFor, answer}
-use Rattle.model.specs.Refusals.{size, refusalsOf}
+use Rattle.model.specs.Refusals.{size, candidateRefusals, refusalsOf}
 use Rattle.model.specs.Rules.{Rules, engine}
 use Rattle.model.specs.Job.{runBy, written}
 use Rattle.model.specs.Invariants.{Small, Sound}
-use Rattle.model.proofs.Lists.{twice, and-l, and-r, below-e, all-append, all-filter, all-drop, all-of}
+use Rattle.model.proofs.Lists.{twice, and-l, and-r, below-e, length-without, all-append, all-filter, all-drop, all-without, all-of}
 use Rattle.model.proofs.Bits.{within-le}
 use Rattle.model.proofs.Sets.{cheapest-irredundant}
 use Rattle.model.proofs.Pages.{all-page}
@@ -122,9 +123,9 @@ sound-I t a =
       small = tt;
     }
 
-sound-T : (t : Context) → NoneApplies (refusalsOf t Kind.T) → Sound (t .problem) → Sound (problemAfter t Kind.T)
-unfolding refusalsOf problemAfter
-sound-T t a s = record {
+-- T and A
+sound-term : (t : Context) → NoneApplies (candidateRefusals t) → Sound (t .problem) → Sound (withTerm t)
+sound-term t a s = record {
   inputs = s .inputs;
   outputs = s .outputs;
   few = omega (arith, nleb→lt 64 (length (t .problem .cands)) (a .1 .1 .0), length-append (t .problem .cands) (operandTerm t ∷ []));
@@ -156,7 +157,7 @@ lawful-at t Kind.R = record {
   sound = λ a s. record { inputs = s .inputs; outputs = s .outputs; few = s .few; small = s .small };
   fits = λ a s. (tt, λ b. tt);
 }
-lawful-at t Kind.T = record { numbered = (omega arith, (omega arith, (omega arith, tt))); sound = sound-T t; fits = λ a s. (tt, λ b. tt) }
+lawful-at t Kind.T = record { numbered = (omega arith, (omega arith, (omega arith, tt))); sound = sound-term t; fits = λ a s. (tt, λ b. tt) }
 lawful-at t Kind.P = record {
   numbered = (omega arith, tt);
   sound = λ a s. record {
@@ -166,6 +167,17 @@ lawful-at t Kind.P = record {
     small = primes-small (tableOf (t .problem)) (s .inputs) (s .outputs);
   };
   fits = fits-P t;
+}
+lawful-at t Kind.A = record { numbered = (omega arith, (omega arith, (omega arith, tt))); sound = sound-term t; fits = λ a s. (tt, λ b. tt) }
+lawful-at t Kind.D = record {
+  numbered = (omega arith, tt);
+  sound = λ a s. record {
+    inputs = s .inputs;
+    outputs = s .outputs;
+    few = omega (arith, length-without (operandNumber t) (t .problem .cands) (nleb→lt (length (t .problem .cands)) (operandNumber t) (a .0)), s .few);
+    small = all-without Small (operandNumber t) (t .problem .cands) (s .small);
+  };
+  fits = λ a s. (tt, λ b. tt);
 }
 lawful-at t Kind.L = record {
   numbered = (omega arith, tt);

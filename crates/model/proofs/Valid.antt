@@ -1,8 +1,8 @@
 -- What every problem of a job keeps: its rows are well formed and its candidates legal.
-use Prim.Native.Nat.{ℕ, _^_, _≤_, _<_}
+use Prim.Native.Nat.{ℕ, _^_, _≤_, _<_, max}
 use native.Mathlib.Omega.{arith}
 use native.Mathlib.Decide.{ℕ-discrete}
-use mathlib.Core.Path.{_≡_, refl, _∙_, subst, subst⁻¹}
+use mathlib.Core.Path.{_≡_, refl, ap, _∙_, subst, subst⁻¹}
 use mathlib.Core.Bool.{Bool, true, false, not, cond, _&&_, _||_}
 use mathlib.Core.List.{List, [], _∷_, _++_}
 use lib.Dec.{T, leb, eqb, leb→le, nleb→lt}
@@ -10,16 +10,17 @@ use lib.Bits.{and-zero-r}
 use lib.Pow.{pow-pos}
 use lib.Seq.{getD-set-same, getD-set-other}
 use lib.ListN.{length, length-set, length-replicate}
-use Rattle.model.specs.Base.{some, All}
+use Rattle.model.specs.Base.{some, without, All}
 use Rattle.model.specs.Table.{Table, Term, formed, holdsNoOff, legal}
 use Rattle.model.specs.Primes.{primes}
-use Rattle.model.specs.Commands.{atStart, begun, inRows, inTerms, queried, Kind, is, allowed, Problem, Context, operand, operandTerm, withRow, withRows, atPlace, withCands, problemAfter, empty, tableOf}
-use Rattle.model.specs.Refusals.{size, badRow, refusalsOf}
+use Rattle.model.specs.Commands.{atStart, begun, inTerms, queried, Kind, formOf, is, allowed, Problem, Context, operand, operandTerm}
+use Rattle.model.specs.Commands.{operandNumber, withRow, withRows, atPlace, withCands, withTerm, problemAfter, empty, tableOf}
+use Rattle.model.specs.Refusals.{size, badRow, candidateRefusals, refusalsOf}
 use Rattle.model.specs.Rules.{Rules, engine}
 use Rattle.model.specs.Job.{run, runBy}
 use Rattle.model.specs.Library.{badVertex}
 use Rattle.model.specs.Invariants.{Sound, Valid}
-use Rattle.model.proofs.Lists.{zero-at, twice, and-l, and-r, and-i, all-append, all-of}
+use Rattle.model.proofs.Lists.{zero-at, twice, not-or-l, and-l, and-r, and-i, all-append, all-without, all-of}
 use Rattle.model.proofs.Cubes.{prime-e, primes-e}
 use Rattle.model.proofs.Runs.{NoneApplies, Lawful, context, OnRuns, run-ind}
 use Rattle.model.proofs.Sound.{after-sound, engine-lawful}
@@ -50,12 +51,8 @@ place-one k n i a = leb→le begun n (subst (λ (b : Bool). T (leb (cond b atSta
     no true t = absurd t
     no false t = refl
 
-place-low : (n : ℕ) → T (allowed Kind.R n) → n ≤ inRows
-place-low n a = leb→le n inRows (and-r (leb begun n) (leb n inRows) a)
-
-not-or-l : (x y : Bool) → T (not (x || y)) → T (not x)
-not-or-l true y n = n
-not-or-l false y n = tt
+pub place-last : (k : Kind) (n : ℕ) → T (allowed k n) → n ≤ formOf k .last
+place-last k n a = leb→le n (formOf k .last) (and-r (leb (cond (is k Kind.I) atStart begun) n) (leb n (formOf k .last)) a)
 
 valid-I : (t : Context) → NoneApplies (refusalsOf t Kind.I) → Valid (t .problem) → Valid (problemAfter t Kind.I)
 unfolding refusalsOf problemAfter
@@ -75,7 +72,7 @@ unfolding refusalsOf problemAfter
 valid-R t p a s =
     let o = place-one Kind.R (t .problem .place) tt p in
     let l = nleb→lt (2 ^ t .problem .settings .n) (operand t 0) (not-or-l (leb (2 ^ t .problem .settings .n) (operand t 0)) (some (eqb (operand t 0)) (t .problem .rows .given)) (a .0)) in
-    let none = s .early (place-low (t .problem .place) p) in
+    let none = s .early (place-last Kind.R (t .problem .place) p) in
     record {
       sound = after-sound t Kind.R a (s .sound);
       sizes = λ q. s .sizes o;
@@ -90,25 +87,39 @@ valid-cands : (q : Problem) (place : ℕ) (ts : List Term) → inTerms ≤ place
     → Sound (atPlace place (withCands ts q)) → Valid (atPlace place (withCands ts q))
 valid-cands q place ts i o v l s = record { sound = s; sizes = λ h. v .sizes o; rows = λ h. v .rows o; good = v .good; early = λ h. absurd (omega (arith, h)); legal = l }
 
-legal-term : (t : Context) → NoneApplies (refusalsOf t Kind.T) → T (legal (tableOf (t .problem)) (operandTerm t))
-unfolding refusalsOf legal
+legal-term : (t : Context) → NoneApplies (candidateRefusals t) → T (legal (tableOf (t .problem)) (operandTerm t))
+unfolding legal
 legal-term t a =
     let p = tableOf (t .problem) in
     and-i (formed p (operandTerm t)) (holdsNoOff p (operandTerm t)) (twice (formed p (operandTerm t)) (a .0)) (twice (holdsNoOff p (operandTerm t)) (a .1 .0))
+
+-- T and A
+valid-term : (t : Context) → begun ≤ t .problem .place → NoneApplies (candidateRefusals t) → Valid (t .problem) → Sound (withTerm t) → Valid (withTerm t)
+valid-term t o a s =
+    let q = t .problem in
+    valid-cands q (max (q .place) inTerms) (q .cands ++ (operandTerm t ∷ [])) (omega arith) o s
+    (all-append (λ (u : Term). T (legal (tableOf q) u)) (q .cands) (operandTerm t ∷ []) (s .legal) (legal-term t a, tt))
 
 primes-legal : (p : Table) → All (λ u. T (legal p u)) (primes p)
 primes-legal p = all-of (λ (u : Term). T (legal p u)) (primes p) (λ u m. prime-e p u (primes-e p u m) .0)
 
 pub after-valid : (t : Context) (k : Kind) → T (allowed k (t .problem .place)) → NoneApplies (refusalsOf t k) → Valid (t .problem) → Valid (problemAfter t k)
-unfolding problemAfter
+unfolding refusalsOf problemAfter
 after-valid t Kind.I p a s = valid-I t a s
 after-valid t Kind.R p a s = valid-R t p a s
-after-valid t Kind.T p a s =
-    valid-cands (t .problem) inTerms (t .problem .cands ++ (operandTerm t ∷ [])) (omega arith) (place-one Kind.T (t .problem .place) tt p) s
-    (all-append (λ (u : Term). T (legal (tableOf (t .problem)) u)) (t .problem .cands) (operandTerm t ∷ []) (s .legal) (legal-term t a, tt)) (after-sound t Kind.T a (s .sound))
+after-valid t Kind.T p a s = valid-term t (place-one Kind.T (t .problem .place) tt p) a s (after-sound t Kind.T a (s .sound))
 after-valid t Kind.P p a s =
     let ts = primes (tableOf (t .problem)) in
     valid-cands (t .problem) queried ts (omega arith) (place-one Kind.P (t .problem .place) tt p) s (primes-legal (tableOf (t .problem))) (after-sound t Kind.P a (s .sound))
+after-valid t Kind.A p a s = valid-term t (place-one Kind.A (t .problem .place) tt p) a s (after-sound t Kind.A a (s .sound))
+after-valid t Kind.D p a s = record {
+  sound = after-sound t Kind.D a (s .sound);
+  sizes = s .sizes;
+  rows = s .rows;
+  good = s .good;
+  early = λ l. ap (without (operandNumber t)) (s .early l);
+  legal = all-without (λ (u : Term). T (legal (tableOf (t .problem)) u)) (operandNumber t) (t .problem .cands) (s .legal);
+}
 after-valid t Kind.L p a s = valid-cands (t .problem) queried (t .problem .cands) (omega arith) (place-one Kind.L (t .problem .place) tt p) s (s .legal) (after-sound t Kind.L a (s .sound))
 after-valid t Kind.C p a s = valid-cands (t .problem) queried (t .problem .cands) (omega arith) (place-one Kind.C (t .problem .place) tt p) s (s .legal) (after-sound t Kind.C a (s .sound))
 after-valid t Kind.E p a s = s

@@ -10,7 +10,7 @@ use Rattle.model.specs.Sets.{irredundants, cheapest, cost}
 use Rattle.model.specs.Pages.{page, more}
 use Rattle.model.specs.Commands.{Kind, Context, low, start, count, coveringOf, tableOf}
 
--- I, R and T answer nothing
+-- I, R, T, A and D answer nothing
 pub data Answer : Type 0 where
   nothing : Answer
   primesAre : List Term → Answer
@@ -40,6 +40,8 @@ answerFor x Kind.I = nothing
 answerFor x Kind.R = nothing
 answerFor x Kind.T = nothing
 answerFor x Kind.P = primesAre (primes (tableOf (x .problem)))
+answerFor x Kind.A = nothing
+answerFor x Kind.D = nothing
 answerFor x Kind.L =
     let all = irredundants (coveringOf x) in
     paged (page all (start x) (count x)) (more all (start x) (count x))

@@ -58,15 +58,16 @@ module _ {A : Type 0} where
   sum f [] = 0
   sum f (x ∷ xs) = f x + sum f xs
 
+  -- the list without its entry k: those above move down by one
+  abbrev pub without : ℕ → List A → List A
+  without k [] = []
+  without zero (x ∷ xs) = xs
+  without (suc k) (x ∷ xs) = x ∷ without k xs
+
   -- each entry is so
   abbrev pub All : (A → Type 0) → List A → Type 0
   All P [] = Unit {0}
   All P (x ∷ xs) = P x × All P xs
-
-  -- the first entry, if there is one, is so
-  abbrev pub First : (A → Type 0) → List A → Type 0
-  First P [] = Unit {0}
-  First P (x ∷ xs) = P x
 
   -- each entry stands so to each behind it
   abbrev pub Ordered : (A → A → Type 0) → List A → Type 0

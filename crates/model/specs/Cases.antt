@@ -3,11 +3,13 @@
 use Prim.Native.Nat.{ℕ, zero, suc, _+_}
 use mathlib.Core.Bool.{cond}
 use mathlib.Core.List.{List, [], _∷_, _++_, map}
-use lib.ListN.{replicate}
+use lib.ListN.{length, replicate}
+use Rattle.model.specs.Base.{join}
 use Rattle.model.specs.Table.{Table, Term, term}
 use Rattle.model.specs.Primes.{primes}
 use Rattle.model.specs.Sets.{coverable, irredundants, cost, cheapest}
-use Rattle.model.specs.Candidates.{basis, covering}
+use Rattle.model.specs.Candidates.{Basis, basis, covering}
+use Rattle.model.specs.Commands.{low}
 
 -- ---- cases a to h
 
@@ -116,6 +118,12 @@ row v on dc bs = 0x52 ∷ v ∷ on ∷ dc ∷ bs
 abbrev t : ℕ → ℕ → ℕ → List ℕ → List ℕ
 t care value outputs bs = 0x54 ∷ care ∷ value ∷ outputs ∷ bs
 
+abbrev a : ℕ → ℕ → ℕ → List ℕ → List ℕ
+a care value outputs bs = 0x41 ∷ care ∷ value ∷ outputs ∷ bs
+
+abbrev d : ℕ → List ℕ → List ℕ
+d k bs = 0x44 ∷ k ∷ bs
+
 -- an L from 0 on
 abbrev l : ℕ → List ℕ → List ℕ
 l count bs = 0x4c ∷ 0 ∷ 0 ∷ 0 ∷ 0 ∷ 0 ∷ 0 ∷ 0 ∷ 0 ∷ count ∷ bs
@@ -125,9 +133,16 @@ abbrev times : ℕ → (List ℕ → List ℕ) → List ℕ → List ℕ
 times zero one bs = bs
 times (suc k) one bs = one (times k one bs)
 
+-- both cells free, and an A whose candidate has gone again
+abbrev bothFree : List ℕ → List ℕ
+bothFree bs = i11 (row 0 0 1 (row 1 0 1 bs))
+
+abbrev goneAgain : List ℕ → List ℕ
+goneAgain bs = bothFree (a 0 0 1 (d 0 bs))
+
 -- 64 candidates: one term each, both cells free; and vertex 0 free, vertex 1 off
 abbrev sixtyFour : List ℕ → List ℕ
-sixtyFour bs = i11 (row 0 0 1 (row 1 0 1 (times 64 (t 0 0 1) bs)))
+sixtyFour bs = bothFree (times 64 (t 0 0 1) bs)
 
 abbrev sixtyFourAtZero : List ℕ → List ℕ
 sixtyFourAtZero bs = i11 (row 0 0 1 (times 64 (t 1 0 1) bs))
@@ -149,14 +164,30 @@ stops =
     -- 4: R before I, though its operands are missing; I twice; R, P behind T; T, P behind P; T behind C
     ∷ stopped (0x52 ∷ []) 9 4 0 0
     ∷ stopped (i11 (i11 [])) 9 4 3 0
-    ∷ stopped (i11 (row 0 0 1 (row 1 0 1 (t 0 0 1 (row 0 0 1 []))))) 9 4 15 0
-    ∷ stopped (i11 (row 0 0 1 (row 1 0 1 (t 0 0 1 (0x50 ∷ []))))) 9 4 15 0
+    ∷ stopped (bothFree (t 0 0 1 (row 0 0 1 []))) 9 4 15 0
+    ∷ stopped (bothFree (t 0 0 1 (0x50 ∷ []))) 9 4 15 0
     ∷ stopped (i11 (0x50 ∷ t 0 0 1 [])) 9 4 4 2
     ∷ stopped (i11 (0x50 ∷ 0x50 ∷ [])) 9 4 4 2
     ∷ stopped (i11 (0x43 ∷ t 0 0 1 [])) 20 4 4 11
+    -- 4: A and D before I; R, P behind an A, its candidate gone; T behind an A behind C
+    ∷ stopped (0x41 ∷ []) 9 4 0 0
+    ∷ stopped (0x44 ∷ []) 9 4 0 0
+    ∷ stopped (goneAgain (row 0 0 1 [])) 9 4 17 0
+    ∷ stopped (goneAgain (0x50 ∷ [])) 9 4 17 0
+    ∷ stopped (bothFree (0x43 ∷ a 0 0 1 (t 0 0 1 []))) 20 4 16 11
     -- 5: before 6; an L of eight operand bytes
     ∷ stopped (0x49 ∷ 0 ∷ []) 9 5 0 0
     ∷ stopped (i11 (0x4c ∷ 0 ∷ 0 ∷ 0 ∷ 0 ∷ 0 ∷ 0 ∷ 0 ∷ 0 ∷ [])) 9 5 3 0
+    -- 5: an A of two operand bytes; D, before 15
+    ∷ stopped (i11 (0x41 ∷ 0 ∷ 0 ∷ [])) 9 5 3 0
+    ∷ stopped (i11 (0x44 ∷ [])) 9 5 3 0
+    -- 15: nothing stands; one past the last; the last taken out before; 64 of 64; 255; the finished C stands
+    ∷ stopped (i11 (d 0 [])) 0 15 3 0
+    ∷ stopped (bothFree (t 0 0 1 (d 1 []))) 9 15 15 0
+    ∷ stopped (goneAgain (d 0 [])) 9 15 17 0
+    ∷ stopped (sixtyFour (d 64 [])) 9 15 267 0
+    ∷ stopped (bothFree (t 0 0 1 (d 255 []))) 9 15 15 0
+    ∷ stopped (bothFree (0x43 ∷ a 0 0 1 (d 1 []))) 20 15 16 11
     -- 6
     ∷ stopped (0x49 ∷ 0 ∷ 1 ∷ []) 9 6 0 0
     ∷ stopped (0x49 ∷ 1 ∷ 9 ∷ []) 9 6 0 0
@@ -179,6 +210,15 @@ stops =
     ∷ stopped (sixtyFourAtZero (t 0 0 1 [])) 9 10 263 0
     -- 11: the 65th candidate. That 11 is before 14 at P is the law `primes-before-room`: 65 primes are too many for this table
     ∷ stopped (sixtyFour (t 0 0 1 [])) 9 11 267 0
+    -- 9, 10 and 11 of an A, behind a P and where 64 candidates stand
+    ∷ stopped (i11 (0x50 ∷ a 2 0 1 [])) 9 9 4 2
+    ∷ stopped (i11 (0x50 ∷ a 0 0 1 [])) 9 10 4 2
+    ∷ stopped (sixtyFour (a 0 0 0 [])) 9 9 267 0
+    ∷ stopped (sixtyFourAtZero (a 0 0 1 [])) 9 10 263 0
+    ∷ stopped (sixtyFour (a 0 0 1 [])) 9 11 267 0
+    -- 0: the 65th by an A behind a D; T behind A and D
+    ∷ stopped (sixtyFour (d 63 (a 0 0 1 (0x45 ∷ [])))) 9 0 274 1
+    ∷ stopped (goneAgain (t 0 0 1 (0x45 ∷ []))) 9 0 22 1
     -- 12: before 14, at L, at an L of count 0, at C
     ∷ stopped (i11 (row 0 1 0 (l 1 []))) 0 12 7 0
     ∷ stopped (i11 (row 0 1 0 (l 0 []))) 0 12 7 0
@@ -195,6 +235,61 @@ stops =
 -- "count 0 holds none and tells whether one stands there"
 abbrev pub countZeroAnswers : List ℕ
 countZeroAnswers = 0x6c ∷ 0 ∷ 1 ∷ 0x65 ∷ []
+
+-- ---- K2: jobs with A and D, and the bytes that they write
+
+pub record AnsweredJob : Type 0 where
+  pub job : List ℕ
+  pub bytes : List ℕ
+
+abbrev writes : List ℕ → List ℕ → AnsweredJob
+writes job bytes = record { job = job; bytes = bytes }
+
+-- an L's answer with no more, and a C's
+abbrev pageBytes : List ℕ → List ℕ
+pageBytes ss = 0x6c ∷ length ss ∷ 0 ∷ join (map (low 8) ss)
+
+abbrev leastBytes : ℕ → ℕ → List ℕ
+leastBytes c s = 0x63 ∷ (low 2 c ++ low 8 s)
+
+-- all sets, and the cheapest
+abbrev ask : List ℕ → List ℕ
+ask bs = l 255 (0x43 ∷ bs)
+
+-- the rows of the example job, and its terms put in by A
+abbrev exampleRows : List ℕ → List ℕ
+exampleRows bs = 0x49 ∷ 2 ∷ 2 ∷ row 0 0 1 (row 1 1 2 (row 2 3 0 (row 3 2 0 bs)))
+
+abbrev sixAdded : List ℕ → List ℕ
+sixAdded bs = a 1 0 1 (a 3 1 3 (a 1 1 2 (a 2 2 2 (a 3 2 3 (a 2 0 1 bs)))))
+
+-- both cells wanted; and the two halves of the one prime of that table
+abbrev wanted : List ℕ → List ℕ
+wanted bs = i11 (row 0 1 0 (row 1 1 0 bs))
+
+abbrev halves : List Term
+halves = term 1 0 1 ∷ term 1 1 1 ∷ []
+
+abbrev pub comeAndGo : List AnsweredJob
+comeAndGo =
+    -- by A as by T
+    writes (exampleRows (sixAdded (l 6 (0x43 ∷ 0x45 ∷ [])))) exampleAnswers
+    -- the example's first term taken out: those above move down by one; then put in again, at the end
+    ∷ writes (exampleHead ++ d 0 (ask (a 1 0 1 (ask (0x45 ∷ [])))))
+    (pageBytes (11 ∷ 13 ∷ 26 ∷ 28 ∷ []) ++ (leastBytes 5 26 ++ (pageBytes (11 ∷ 13 ∷ 26 ∷ 28 ∷ 37 ∷ 52 ∷ []) ++ (leastBytes 3 52 ++ (0x65 ∷ [])))))
+    -- behind P: the halves, and the prime taken out; the prime put in again; the halves taken out
+    ∷ writes (wanted (0x50 ∷ 0x43 ∷ a 1 0 1 (a 1 1 1 (d 0 (ask (a 0 0 1 (ask (d 0 (d 0 (ask (0x45 ∷ [])))))))))))
+    ((0x70 ∷ 1 ∷ 0 ∷ 0 ∷ 1 ∷ []) ++ (leastBytes 1
+        1 ++ (pageBytes (3 ∷ []) ++ (leastBytes 2 3 ++ (pageBytes (3 ∷ 4 ∷ []) ++ (leastBytes 1 4 ++ (pageBytes (1 ∷ []) ++ (leastBytes 1 1 ++ (0x65 ∷ [])))))))))
+    ∷ []
+
+-- "against a rival's free terms the cheapest set is compared only while the candidates are the primes": the halves are not the primes, and
+-- this list is cheaper than their cheapest set
+abbrev pub halvesBasis : Basis
+halvesBasis = basis bothOn halves
+
+abbrev pub cheaperList : List Term
+cheaperList = term 0 0 1 ∷ []
 
 -- ---- library calls that are refused, each with its number. Where two refusals apply, the first in the paper's order is given
 

@@ -1,10 +1,10 @@
--- Paper 01, "Job stream": the commands, the problem so far, and what a command makes of it.
-use Prim.Native.Nat.{ℕ, zero, suc, _+_, _*_, _/_, _%_, _^_}
+-- Paper 01, "Job stream", and K2: the commands, the problem so far, and what a command makes of it.
+use Prim.Native.Nat.{ℕ, zero, suc, _+_, _*_, _/_, _%_, _^_, max}
 use mathlib.Core.Bool.{Bool, true, false, cond, _&&_}
 use mathlib.Core.List.{List, [], _∷_, _++_}
 use lib.Dec.{leb, eqb}
 use lib.ListN.{getD, take, replicate, set}
-use Rattle.model.specs.Base.{filter}
+use Rattle.model.specs.Base.{filter, without}
 use Rattle.model.specs.Table.{Table, Cell, Term, term}
 use Rattle.model.specs.Primes.{primes}
 use Rattle.model.specs.Sets.{Covering}
@@ -23,7 +23,7 @@ number (b ∷ bs) = b + 256 * number bs
 
 -- ---- places
 
--- the place in a job, by the last that came: nothing, I, a row, a term, or a P, L or C. Each is behind those before it
+-- the place in a job, by the last that came: nothing, I, a row, a term (T or A), or a P, L or C. Each is behind those before it
 abbrev pub atStart : ℕ
 atStart = 0
 
@@ -43,7 +43,7 @@ queried = 4
 
 -- "commands of one byte"; `none` is a byte that is no command
 pub data Kind : Type 0 where
-  I R T P L C E none : Kind
+  I R T P A D L C E none : Kind
 
 -- "one byte with operands of fixed widths": the byte, the width, the last place at which the command may stand, and whether it is a
 -- query, which asks for covers
@@ -57,12 +57,14 @@ abbrev form : ℕ → ℕ → ℕ → Bool → Form
 form code width last query = record { code = code; width = width; last = last; query = query }
 
 -- I "first, once"; R "after I, before any T, P, L or C"; T "after I and any R, not after P, L or C"; P "at most once, no T before it, not
--- after L or C"; L, C and E "after I"
+-- after L or C"; A and D "may stand anywhere after I and before E"; L, C and E "after I"
 abbrev pub formOf : Kind → Form
 formOf I = form 0x49 2 atStart false
 formOf R = form 0x52 3 inRows false
 formOf T = form 0x54 3 inTerms false
 formOf P = form 0x50 0 inRows false
+formOf A = form 0x41 3 queried false
+formOf D = form 0x44 1 queried false
 formOf L = form 0x4c 9 queried true
 formOf C = form 0x43 0 queried true
 formOf E = form 0x45 0 queried false
@@ -84,7 +86,7 @@ firstKind b (k ∷ ks) = let r = firstKind b ks in cond (eqb b (formOf k .code))
 
 -- all commands
 abbrev pub kinds : List Kind
-kinds = I ∷ R ∷ T ∷ P ∷ L ∷ C ∷ E ∷ []
+kinds = I ∷ R ∷ T ∷ P ∷ A ∷ D ∷ L ∷ C ∷ E ∷ []
 
 unfoldable pub kindOf : ℕ → Kind
 kindOf b = firstKind b kinds
@@ -151,9 +153,13 @@ coveringOf x = covering (basisOf (x .problem))
 abbrev pub operand : Context → ℕ → ℕ
 operand x i = getD (x .rest) i 0
 
--- T: "care, value, outputs"
+-- T: "care, value, outputs"; A "has T's operands"
 abbrev pub operandTerm : Context → Term
 operandTerm x = term (operand x 0) (operand x 1) (operand x 2)
+
+-- D: "has one byte, a candidate's number"
+abbrev pub operandNumber : Context → ℕ
+operandNumber x = operand x 0
 
 -- L: "start (8 bytes), count (1)"
 abbrev pub start : Context → ℕ
@@ -177,11 +183,18 @@ withRows rows q = record { place = q .place; settings = q .settings; rows = rows
 abbrev pub withCands : List Term → Problem → Problem
 withCands ts q = record { place = q .place; settings = q .settings; rows = q .rows; cands = ts }
 
+-- T, and A, which "adds a candidate at the end, also after P, L or C". "For the place of R and P, an A counts as a T, even if its candidate
+-- has gone again": the place is that of a term at least, and D leaves it
+abbrev pub withTerm : Context → Problem
+withTerm x = atPlace (max (x .problem .place) inTerms) (withCands (x .problem .cands ++ (operandTerm x ∷ [])) (x .problem))
+
 unfoldable pub problemAfter : Context → Kind → Problem
 problemAfter x I = started begun (operand x 0) (operand x 1) (2 ^ operand x 0)
 problemAfter x R = atPlace inRows (withRows (withRow (x .problem .rows) (operand x 0) (operand x 1) (operand x 2)) (x .problem))
-problemAfter x T = atPlace inTerms (withCands (x .problem .cands ++ (operandTerm x ∷ [])) (x .problem))
+problemAfter x T = withTerm x
 problemAfter x P = atPlace queried (withCands (primes (tableOf (x .problem))) (x .problem))
+problemAfter x A = withTerm x
+problemAfter x D = withCands (without (operandNumber x) (x .problem .cands)) (x .problem)
 problemAfter x L = atPlace queried (x .problem)
 problemAfter x C = atPlace queried (x .problem)
 problemAfter x E = x .problem

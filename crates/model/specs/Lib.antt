@@ -1,4 +1,5 @@
--- Paper 01 as definitions, in its order, but the refusals before the job that they stop; last what only the engine's contracts cite.
+-- Paper 01 and the requests that landed as definitions, in its order, but the refusals before the job that they stop; last what only the
+-- engine's contracts cite.
 pub mod Base
 pub mod Table
 pub mod Primes
@@ -13,7 +14,7 @@ pub mod Job
 pub mod Calls
 pub mod Exchanges
 pub mod Demand3
-pub mod Whole
+pub mod Standing
 pub mod Library
 pub mod Cases
 pub mod Invariants

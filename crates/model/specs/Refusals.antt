@@ -1,4 +1,4 @@
--- Paper 01, "When a job stops": the refusals of a command, as data. 1 and 2 are the job's own (`Job`).
+-- Paper 01, "When a job stops", and K2: the refusals of a command, as data. 1 and 2 are the job's own (`Job`).
 use Prim.Native.Nat.{ℕ, _^_}
 use mathlib.Core.Bool.{Bool, not, cond, _&&_, _||_}
 use mathlib.Core.List.{List, [], _∷_}
@@ -9,11 +9,11 @@ use Rattle.model.specs.Base.{some}
 use Rattle.model.specs.Table.{formed, holdsNoOff}
 use Rattle.model.specs.Primes.{primes}
 use Rattle.model.specs.Sets.{coverable}
-use Rattle.model.specs.Commands.{Kind, Context, operand, operandTerm, coveringOf, tableOf}
+use Rattle.model.specs.Commands.{Kind, Context, operand, operandTerm, operandNumber, coveringOf, tableOf}
 
 -- the last of them
 abbrev pub largestNumber : ℕ
-largestNumber = 14
+largestNumber = 15
 
 -- a refusal's number, and whether it applies
 pub record Refusal : Type 0 where
@@ -36,10 +36,18 @@ size k = leb 1 k && leb k 8
 abbrev pub badRow : ℕ → ℕ → ℕ → Bool
 badRow m on dc = ltb 0 (bitAnd on dc) || (leb (2 ^ m) on || leb (2 ^ m) dc)
 
--- 6 to 13, by command:
+-- 9 and 10 "a term has a care bit n or above, ..", "holds an off cell"; 11 "a 65th candidate comes": T, and A "meets 9, 10 and 11 as T does"
+abbrev pub candidateRefusals : Context → List Refusal
+candidateRefusals x =
+    refuse 9 (not (formed (tableOf (x .problem)) (operandTerm x)))
+    ∷ refuse 10 (not (holdsNoOff (tableOf (x .problem)) (operandTerm x)))
+    ∷ refuse 11 (leb 64 (length (x .problem .cands)))
+    ∷ []
+
+-- 6 to 13 and 15, by command:
 -- 6 "I has n or m outside 1 to 8"
 -- 7 "R names a vertex of 2^n or more, or one that has a row"; 8 `badRow`
--- 9 and 10 "a term has a care bit n or above, ..", "holds an off cell"; 11 "a 65th candidate comes, or there are more than 64 primes"
+-- 11 ".. or there are more than 64 primes"; 15 "after 5, D names a number that is not standing"
 -- 12 "at L or C a wanted cell is held by no candidate"; 13 "bytes follow E"
 unfoldable pub refusalsOf : Context → Kind → List Refusal
 refusalsOf x Kind.I = refuse 6 (not (size (operand x 0) && size (operand x 1))) ∷ []
@@ -47,12 +55,10 @@ refusalsOf x Kind.R =
     refuse 7 (leb (2 ^ x .problem .settings .n) (operand x 0) || some (eqb (operand x 0)) (x .problem .rows .given))
     ∷ refuse 8 (badRow (x .problem .settings .m) (operand x 1) (operand x 2))
     ∷ []
-refusalsOf x Kind.T =
-    refuse 9 (not (formed (tableOf (x .problem)) (operandTerm x)))
-    ∷ refuse 10 (not (holdsNoOff (tableOf (x .problem)) (operandTerm x)))
-    ∷ refuse 11 (leb 64 (length (x .problem .cands)))
-    ∷ []
+refusalsOf x Kind.T = candidateRefusals x
 refusalsOf x Kind.P = refuse 11 (ltb 64 (length (primes (tableOf (x .problem))))) ∷ []
+refusalsOf x Kind.A = candidateRefusals x
+refusalsOf x Kind.D = refuse 15 (leb (length (x .problem .cands)) (operandNumber x)) ∷ []
 refusalsOf x Kind.L = refuse 12 (not (coverable (coveringOf x))) ∷ []
 refusalsOf x Kind.C = refuse 12 (not (coverable (coveringOf x))) ∷ []
 refusalsOf x Kind.E = refuse 13 (ltb 0 (length (x .rest))) ∷ []

@@ -1,5 +1,5 @@
 -- The engine's record goes on holding the problem of the definitions, command by command.
-use Prim.Native.Nat.{ℕ, _^_, _≤_, _<_}
+use Prim.Native.Nat.{ℕ, _^_, _≤_, _<_, max}
 use native.Mathlib.Omega.{arith}
 use native.Mathlib.Decide.{ℕ-discrete}
 use mathlib.Core.Path.{_≡_, refl, sym, ap, _∙_}
@@ -14,16 +14,17 @@ use Rattle.model.specs.Base.{some}
 use Rattle.model.specs.declared.Term.{Term}
 use Rattle.model.specs.Primes.{primes}
 use Rattle.model.specs.Commands as model
-use Rattle.model.specs.Commands.{Context, operand, operandTerm, tableOf, isQueryKind, problemAfter}
+use Rattle.model.specs.Commands.{Context, operand, operandTerm, operandNumber, tableOf, isQueryKind, withTerm, problemAfter}
 use Rattle.model.specs.Invariants.{Valid}
 use Rattle.model.proofs.Codes.{any-query}
 use Rattle.model.proofs.Lists.{zero-at}
 use Rattle.bits.specs.Lists.{Filled}
-use Rattle.bits.proofs.Lists.{filled-next}
+use Rattle.bits.proofs.Lists.{filled-next, filled-without}
 use Rattle.problem.specs.declared.TableRows.{TableRows}
 use Rattle.problem.specs.declared.Candidates.{Candidates}
 use Rattle.problem.specs.declared.Problem.{Problem}
-use Rattle.problem.specs.Problems.{noRows, listed, startedWith, noProblem, atPlace, withRows, withCandidates, rowPut, termPut, Sized, HoldsRows, HoldsCands, Holds, Reached}
+use Rattle.problem.specs.Problems.{noRows, listed, startedWith, noProblem, atPlace, withRows, withCandidates, rowPut, termPut, termsWithout}
+use Rattle.problem.specs.Problems.{termTaken, Sized, HoldsRows, HoldsCands, Holds, Reached}
 
 sized : (p : Problem) (q : model.Problem) → Holds p q → Valid q → Sized p
 sized p q h v = record {
@@ -100,22 +101,32 @@ after-R x p v on dc h w o e f g l = rw (e, f, g) record {
   cands = h .cands;
 }
 
--- ---- other candidates: T and P
+-- ---- other candidates: T and A, P, D
 
 holds-candidates : (place : ℕ) (p : Problem) (q : model.Problem) (cs : Candidates) (ts : List Term) → Holds p q → HoldsCands cs ts
     → Holds (atPlace place (withCandidates cs p)) (model.atPlace place (model.withCands ts q))
 holds-candidates place p q cs ts h c = record { place = refl; settings = h .settings; rows = h .rows; cands = c }
 
-pub after-T : (x : Context) (p : Problem) (t : Term) → Holds p (x .problem) → operandTerm x ≡ t → p .candidates .count < 64
-    → Holds (atPlace model.inTerms (withCandidates (termPut (p .candidates) t) p)) (problemAfter x model.Kind.T)
-unfolding problemAfter termPut
-after-T x p t h e l = rw e (holds-candidates model.inTerms p (x .problem) (termPut (p .candidates) t) (x .problem .cands ++ (t ∷ [])) h
+pub after-term : (x : Context) (p : Problem) (t : Term) → Holds p (x .problem) → operandTerm x ≡ t → p .candidates .count < 64
+    → Holds (atPlace (max (p .place) model.inTerms) (withCandidates (termPut (p .candidates) t) p)) (withTerm x)
+unfolding termPut
+after-term x p t h e l = rw (e, h .place) (holds-candidates (max (x .problem .place) model.inTerms) p (x .problem) (termPut (p .candidates) t) (x .problem .cands ++ (t ∷ [])) h
     (filled-next 64 (p .candidates .terms) (p .candidates .count) (x .problem .cands) t (h .cands) l))
 
 pub after-P : (x : Context) (p : Problem) (terms : List Term) (count : ℕ) → Holds p (x .problem) → Filled 64 (primes (tableOf (x .problem))) terms count
     → Holds (atPlace model.queried (withCandidates (listed terms count) p)) (problemAfter x model.Kind.P)
 unfolding problemAfter
 after-P x p terms count h f = holds-candidates model.queried p (x .problem) (listed terms count) (primes (tableOf (x .problem))) h f
+
+pub after-D : (x : Context) (p : Problem) (k : ℕ) → Holds p (x .problem) → operandNumber x ≡ k → k < p .candidates .count → p .candidates .count ≤ 64
+    → Holds (withCandidates (termTaken (p .candidates) k) p) (problemAfter x model.Kind.D)
+unfolding problemAfter termsWithout
+after-D x p k h e l m = rw e record {
+  place = h .place;
+  settings = h .settings;
+  rows = h .rows;
+  cands = filled-without 64 (p .candidates .terms) (p .candidates .count) (x .problem .cands) k (h .cands) l m;
+}
 
 -- ---- queries
 

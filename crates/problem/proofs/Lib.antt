@@ -1,3 +1,4 @@
 pub mod Refusing
 pub mod Preparing
 pub mod Keeping
+pub mod Moving

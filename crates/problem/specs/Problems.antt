@@ -1,10 +1,10 @@
 -- The engine's record of the problem so far, what a command makes of it, and which problem of the definitions it holds.
-use Prim.Native.Nat.{ℕ, _+_, _≤_, _<_}
+use Prim.Native.Nat.{ℕ, _+_, _-_, _≤_, _<_}
 use mathlib.Core.Path.{_≡_}
-use mathlib.Core.List.{List}
+use mathlib.Core.List.{List, _++_}
 use lib.Dec.{ltb, eqb}
-use lib.ListN.{getD, length, set, replicate}
-use Rattle.model.specs.Base.{some}
+use lib.ListN.{getD, length, take, drop, set, replicate}
+use Rattle.model.specs.Base.{some, without}
 use Rattle.model.specs.declared.Term.{Term}
 use Rattle.model.specs.Table.{term}
 use Rattle.model.specs.Commands as model
@@ -46,6 +46,13 @@ rowPut rows v on dc = record { on = set (rows .on) v on; dc = set (rows .dc) v d
 
 unfoldable pub termPut : Candidates → Term → Candidates
 termPut cs t = listed (set (cs .terms) (cs .count) t) (cs .count + 1)
+
+-- the first count terms without term k, which leaves one fewer; the rest of the array stays
+unfoldable pub termsWithout : ℕ → ℕ → List Term → List Term
+termsWithout k count terms = without k (take count terms) ++ drop (count - 1) terms
+
+abbrev pub termTaken : Candidates → ℕ → Candidates
+termTaken cs k = listed (termsWithout k (cs .count) (cs .terms)) (cs .count - 1)
 
 -- ---- what it holds
 

@@ -3,9 +3,9 @@
 // `refusals` has the refusals that operands can meet in it, `matrix` its covering matrix and the costs of its candidates. proofs/Keeping says
 // that the record goes on holding the problem of the definitions.
 ghost use mathlib.Core.Path.{_≡_};
-ghost use Prim.Native.Nat.{_<_};
+ghost use Prim.Native.Nat.{_≤_, _<_, max};
 ghost use Rattle.model.specs.Commands as model;
-ghost use Rattle.problem.specs.Problems.{noProblem, startedWith, atPlace, withRows, withCandidates, termPut, listed};
+ghost use Rattle.problem.specs.Problems.{noProblem, startedWith, atPlace, withRows, withCandidates, termPut, termsWithout, termTaken, listed};
 use model::Term;
 use table::prime_list::PrimeList;
 
@@ -83,18 +83,59 @@ pub fn with_rows(p: Problem, rows: TableRows) -> Problem
     }
 }
 
-// With one candidate more, behind the others.
+// The place of a term, or the later one that the job is at.
+fn term_place(place: u8) -> u8
+    ensures { λ r. ⌜ r ≡ max place model.inTerms ⌝ }
+{
+    if place < 3 {
+        return 3;
+    }
+    place
+}
+
+// With one candidate more, behind the others: what T and A leave.
 pub fn with_term(p: Problem, t: Term) -> Problem
     requires { ⌜ p .candidates .count < 64 ⌝ }
-    ensures { λ r. ⌜ r ≡ atPlace model.inTerms (withCandidates (termPut (p .candidates) t) p) ⌝ }
+    ensures { λ r. ⌜ r ≡ atPlace (max (p .place) model.inTerms) (withCandidates (termPut (p .candidates) t) p) ⌝ }
 {
     let mut candidates = p.candidates;
     let i = candidates.count;
     candidates.terms[i] = t;
     candidates.count = i + 1;
+    let place = term_place(p.place);
     let mut q = p;
     q.candidates = candidates;
-    q.place = 3;
+    q.place = place;
+    q
+}
+
+// The first `count` terms without term k: those above it move down by one.
+fn moved_down(terms: [Term; 64], count: usize, k: usize) -> [Term; 64]
+    requires { ⌜ (k < count) × (count ≤ 64) ⌝ }
+    ensures { λ r. ⌜ r ≡ termsWithout k count terms ⌝ }
+{
+    let mut left = terms;
+    let mut i = k;
+    while i + 1 < count {
+        left[i] = left[i + 1];
+        i += 1;
+    }
+    left
+}
+
+// Without candidate k: what D leaves.
+pub fn without_term(p: Problem, k: usize) -> Problem
+    requires { ⌜ (k < p .candidates .count) × (p .candidates .count ≤ 64) ⌝ }
+    ensures { λ r. ⌜ r ≡ withCandidates (termTaken (p .candidates) k) p ⌝ }
+{
+    let terms = p.candidates.terms;
+    let count = p.candidates.count;
+    let candidates = Candidates {
+        terms: moved_down(terms, count, k),
+        count: count - 1,
+    };
+    let mut q = p;
+    q.candidates = candidates;
     q
 }
 

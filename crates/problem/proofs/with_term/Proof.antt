@@ -1,6 +1,5 @@
 -- `problem::with_term` meets its contract.
 use Rattle.problem.specs.Problems.{termPut}
-use mathlib.Core.Path.{refl}
 use borrow.Author.Needs.{needs}
 use Rattle.problem.proofs.with_term.Statement.{statement}
 use Rattle.problem.proofs.with_term.Tie as tie
@@ -14,9 +13,12 @@ element-set-from-t c = search needs
 add-candidates : tie.Need-add-candidates
 add-candidates c = search needs
 
+term-place-requires : tie.Need-term-place-requires
+term-place-requires c κs = search needs
+
 returns : tie.Need-returns
 unfolding termPut
-returns c = refl
+returns c = rw (c .term-place .ensures)
 
 pub with-term-spec : {M : Type 1} → statement M
-with-term-spec = tie.close (tie.spec mul-t element-set-from-t add-candidates returns)
+with-term-spec = tie.close (tie.spec mul-t element-set-from-t add-candidates term-place-requires returns)

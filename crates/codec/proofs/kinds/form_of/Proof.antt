@@ -52,6 +52,18 @@ enum-told-8 c = search needs
 described-requires-8 : tie.Need-described-requires-8
 described-requires-8 c κs = search needs
 
+enum-told-9 : tie.Need-enum-told-9
+enum-told-9 c = search needs
+
+described-requires-9 : tie.Need-described-requires-9
+described-requires-9 c κs = search needs
+
+enum-told-10 : tie.Need-enum-told-10
+enum-told-10 c = search needs
+
+described-requires-10 : tie.Need-described-requires-10
+described-requires-10 c κs = search needs
+
 returns : tie.Need-returns
 returns c = described-as _ _ _ (c .before .enum-told .given .1) (c .described .ensures)
 
@@ -76,7 +88,14 @@ returns-7 c = described-as _ _ _ (c .before .enum-told7 .given .1) (c .described
 returns-8 : tie.Need-returns-8
 returns-8 c = described-as _ _ _ (c .before .enum-told8 .given .1) (c .described8 .ensures)
 
+returns-9 : tie.Need-returns-9
+returns-9 c = described-as _ _ _ (c .before .enum-told9 .given .1) (c .described9 .ensures)
+
+returns-10 : tie.Need-returns-10
+returns-10 c = described-as _ _ _ (c .before .enum-told10 .given .1) (c .described10 .ensures)
+
 pub form-of-spec : {M : Type 1} → statement M
-form-of-spec = tie.close (tie.spec enum-told described-requires enum-told-2 described-requires-2 enum-told-3 described-requires-3 enum-told-4
-    described-requires-4 enum-told-5 described-requires-5 enum-told-6 described-requires-6 enum-told-7 described-requires-7 enum-told-8
-    described-requires-8 returns returns-2 returns-3 returns-4 returns-5 returns-6 returns-7 returns-8)
+form-of-spec = tie.close (tie.spec enum-told described-requires enum-told-2 described-requires-2 enum-told-3 described-requires-3
+    enum-told-4 described-requires-4 enum-told-5 described-requires-5 enum-told-6 described-requires-6 enum-told-7 described-requires-7
+    enum-told-8 described-requires-8 enum-told-9 described-requires-9 enum-told-10 described-requires-10 returns returns-2 returns-3
+    returns-4 returns-5 returns-6 returns-7 returns-8 returns-9 returns-10)

@@ -1,0 +1,205 @@
+-- K2: the I and R commands of a job, read again with nothing between them: they set the same table, and are short.
+use Prim.Native.Nat.{ℕ, zero, suc, _+_, _*_, _^_, _≤_, _<_, min}
+use native.Mathlib.Omega.{arith}
+use mathlib.Core.Path.{_≡_, refl, ap, _∙_, subst, subst⁻¹}
+use mathlib.Core.Logic.{_⊎_, inl, inr}
+use mathlib.Core.Bool.{not}
+use mathlib.Core.List.{List, [], _∷_, _++_, map, append-assoc, List·Memᴰ}
+use lib.Dec.{T, leb, eqb, nleb→lt}
+use lib.Pow.{pow-mono}
+use lib.Seq.{take-at}
+use lib.ListN.{length, take, length-append}
+use Rattle.model.specs.Base.{below, some, filter, join, All, Ordered}
+use Rattle.model.specs.Commands.{begun, inRows, Kind, is, width, allowed, Problem, empty, atPlace, withCands, Context, operand, problemAfter}
+use Rattle.model.specs.Answers.{Answer, answerFor, answer}
+use Rattle.model.specs.Refusals.{refusalsOf}
+use Rattle.model.specs.Rules.{engine}
+use Rattle.model.specs.Job.{run}
+use Rattle.model.specs.Standing.{commandOf, commandBytes, Behind, raises, setsTable}
+use Rattle.model.proofs.Lists.{yes-or-no, not-or-l, not-or-r, T-true, T-false, not-some, below-i, all-to, distinct-among}
+use Rattle.model.proofs.Matrix.{from-length}
+use Rattle.model.proofs.Runs.{NoneApplies, Passed, not-refused}
+use Rattle.model.proofs.Sound.{engine-lawful}
+use Rattle.model.proofs.Valid.{place-one, place-last}
+use Rattle.model.proofs.Behind.{behind-ind}
+use Rattle.model.proofs.Standing.{raised}
+use Rattle.model.proofs.Replay.{reads, full-of, same-operand, allowed-below, Gives, silent}
+
+-- their bytes
+abbrev pub rowsOf : List Context → List ℕ
+rowsOf before = join (map commandBytes (filter (λ c. setsTable (c .kind)) (map commandOf before)))
+
+rows-row : (y : Context) (ys : List Context) → T (setsTable (y .kind)) → rowsOf (y ∷ ys) ≡ commandBytes (commandOf y) ++ rowsOf ys
+rows-row y ys t = rw (T-true {b = setsTable (y .kind)} t)
+
+rows-other : (y : Context) (ys : List Context) → T (not (setsTable (y .kind))) → rowsOf (y ∷ ys) ≡ rowsOf ys
+rows-other y ys n = rw (T-false {b = setsTable (y .kind)} n)
+
+-- ---- one command
+
+-- a problem with its rows and no candidate
+abbrev pub bare : ℕ → Problem → Problem
+bare p q = atPlace p (withCands [] q)
+
+-- all others come behind I, and leave the table and the rows
+behind-I : (x : Context) → Passed engine x → T (not (setsTable (x .kind))) → begun ≤ x .problem .place
+behind-I x h n = place-one (x .kind) (x .problem .place) (not-or-l (is (x .kind) Kind.I) (is (x .kind) Kind.R) n) (h .place)
+
+others-keep : (x : Context) (k : Kind) → T (not (setsTable k)) → (p : ℕ) → bare p (problemAfter x k) ≡ bare p (x .problem)
+unfolding problemAfter
+others-keep x Kind.T n p = refl
+others-keep x Kind.P n p = refl
+others-keep x Kind.A n p = refl
+others-keep x Kind.D n p = refl
+others-keep x Kind.L n p = refl
+others-keep x Kind.C n p = refl
+others-keep x Kind.E n p = refl
+others-keep x Kind.none n p = refl
+
+-- an I or R read again: it meets the same refusals, sets the same, and is silent
+record Again (k : Kind) (x y : Context) : Type 0 where
+  refusals : refusalsOf y k ≡ refusalsOf x k
+  after : problemAfter y k ≡ bare (raises k) (problemAfter x k)
+  silent : answerFor y k ≡ Answer.nothing
+  goes : T (not (is k Kind.E))
+  named : T (not (is k Kind.none))
+  places : (begun ≤ raises k) × (raises k ≤ inRows)
+
+row-again : (x : Context) (p : ℕ) (bs : List ℕ) (room : ℕ) (k : Kind) → T (setsTable k) → let y = reads (bare p (x .problem)) (commandOf x) bs room in
+    ((i : ℕ) → i < width k → operand y i ≡ operand x i) → Again k x y
+unfolding refusalsOf problemAfter answerFor
+row-again x p bs room Kind.I t g =
+    let a = g 0 (omega arith) in
+    let b = g 1 (omega arith) in
+    record { refusals = rw (a, b); after = rw (a, b); silent = refl; goes = tt; named = tt; places = omega arith }
+row-again x p bs room Kind.R t g =
+    let a = g 0 (omega arith) in
+    let b = g 1 (omega arith) in
+    let c = g 2 (omega arith) in
+    record { refusals = rw (a, b, c); after = rw (a, b, c); silent = refl; goes = tt; named = tt; places = omega arith }
+
+-- ---- the commands read again, then bytes that give an answer
+
+module _ (a : Answer) (room : ℕ) where
+  -- wherever an I or R of the job stood, with no candidate, these bytes give the answer
+  abbrev pub From : List ℕ → Problem → Type 0
+  From bs q = (p : ℕ) → min begun (q .place) ≤ p → p ≤ min inRows (q .place) → Gives a room bs (bare p q)
+
+  row-step : (y : Context) → Passed engine y → T (setsTable (y .kind)) → (bs : List ℕ) → From bs (problemAfter y (y .kind)) → From (commandBytes (commandOf y) ++ bs) (y .problem)
+  unfolding answer
+  row-step y h t bs f p l m =
+      silent a room (commandOf y) bs (bare p (y .problem)) full (not-refused engine z passes) (w .goes) (w .silent)
+      (subst⁻¹ (Gives a room bs) (w .after) (f (raises (y .kind)) (omega (arith, w .places)) (omega (arith, w .places, raised y (y .kind) (h .place)))))
+    where
+      z : Context
+      z = reads (bare p (y .problem)) (commandOf y) bs room
+
+      full : length (take (width (y .kind)) (y .rest)) ≡ width (y .kind)
+      full = full-of y (h .operands)
+
+      w : Again (y .kind) y z
+      w = row-again y p bs room (y .kind) t (same-operand (y .kind) y z (take-at (take (width (y .kind)) (y .rest)) bs (width (y .kind)) full))
+
+      passes : Passed engine z
+      passes = record {
+        named = w .named;
+        place = allowed-below (y .kind) (y .problem .place) p (h .place) l (omega arith);
+        operands = omega (arith, full, length-append (take (width (y .kind)) (y .rest)) bs);
+        own = subst⁻¹ NoneApplies (w .refusals) (h .own);
+        room = rw (w .silent) (omega arith);
+      }
+
+  other-step : (y : Context) → Passed engine y → T (not (setsTable (y .kind))) → (bs : List ℕ) → From bs (problemAfter y (y .kind)) → From bs (y .problem)
+  other-step y h n bs f p l m =
+      let o = behind-I y h n in
+      let r = raised y (y .kind) (h .place) in
+      subst (Gives a room bs) (others-keep y (y .kind) n p) (f p (omega (arith, r, o)) (omega (arith, r)))
+
+  pub rows-replayed : (bs job : List ℕ) (free : ℕ) (before : List Context) (x : Context) → Behind (run job free) before x → From bs (x .problem) → Gives a room (rowsOf before ++ bs) empty
+  rows-replayed bs job free before x g f =
+      behind-ind engine engine-lawful (λ q before x. From bs (x .problem) → From (rowsOf before ++ bs) q) (λ x f. f) next job free before x g f 0 (omega arith) (omega arith)
+    where
+      next : (y : Context) → Passed engine y → (ys : List Context) (x : Context) → (From bs (x .problem) → From (rowsOf ys ++ bs) (problemAfter y (y .kind)))
+          → From bs (x .problem) → From (rowsOf (y ∷ ys) ++ bs) (y .problem)
+      next y h ys x r f = go (yes-or-no (setsTable (y .kind)))
+        where
+          go : T (setsTable (y .kind)) ⊎ T (not (setsTable (y .kind))) → From (rowsOf (y ∷ ys) ++ bs) (y .problem)
+          go (inl t) =
+              let all = ap (λ (rows : List ℕ). rows ++ bs) (rows-row y ys t) ∙ append-assoc (commandBytes (commandOf y)) (rowsOf ys) bs in
+              subst⁻¹ (λ (bytes : List ℕ). From bytes (y .problem)) all (row-step y h t (rowsOf ys ++ bs) (r f))
+          go (inr n) = rw (rows-other y ys n) (other-step y h n (rowsOf ys ++ bs) (r f))
+
+-- ---- a vertex has one row
+
+-- those that have one are vertices, each once
+abbrev Given : Problem → Type 0
+Given q = Ordered (λ v w. T (not (eqb v w))) (q .rows .given) × All (λ v. v < 2 ^ q .settings .n) (q .rows .given)
+
+row-given : (x : Context) (k : Kind) → T (setsTable k) → NoneApplies (refusalsOf x k) → Given (x .problem) → Given (problemAfter x k)
+unfolding refusalsOf problemAfter
+row-given x Kind.I t a g = (tt, tt)
+row-given x Kind.R t a g =
+    let v = operand x 0 in
+    let high = leb (2 ^ x .problem .settings .n) v in
+    let there = some (eqb v) (x .problem .rows .given) in
+    ((not-some (eqb v) (x .problem .rows .given) (not-or-r high there (a .0)), g .0), (nleb→lt (2 ^ x .problem .settings .n) v (not-or-l high there (a .0)), g .1))
+
+given-next : (x : Context) → Passed engine x → Given (x .problem) → Given (problemAfter x (x .kind))
+given-next x h g = go (yes-or-no (setsTable (x .kind)))
+  where
+    go : T (setsTable (x .kind)) ⊎ T (not (setsTable (x .kind))) → Given (problemAfter x (x .kind))
+    go (inl t) = row-given x (x .kind) t (h .own) g
+    go (inr n) = subst⁻¹ Given (others-keep x (x .kind) n 0) g
+
+-- ---- the length of I and the R
+
+-- what I and so many R take, from I on
+abbrev rowBytes : ℕ → ℕ → ℕ
+rowBytes zero rows = 0
+rowBytes (suc place) rows = 3 + 4 * rows
+
+abbrev taken : Problem → ℕ
+taken q = rowBytes (q .place) (length (q .rows .given))
+
+from-I : (place rows : ℕ) → begun ≤ place → rowBytes place rows ≡ 3 + 4 * rows
+from-I zero rows l = absurd (omega arith)
+from-I (suc place) rows l = refl
+
+row-taken : (x : Context) (k : Kind) → T (setsTable k) → T (allowed k (x .problem .place)) → suc (width k) + taken (x .problem) ≤ taken (problemAfter x k)
+unfolding problemAfter
+row-taken x Kind.I t a = let z : x .problem .place ≡ 0 = omega (arith, place-last Kind.I (x .problem .place) a) in rw z (omega arith)
+row-taken x Kind.R t a = omega (arith, from-I (x .problem .place) (length (x .problem .rows .given)) (place-one Kind.R (x .problem .place) tt a))
+
+other-taken : (x : Context) → Passed engine x → T (not (setsTable (x .kind))) → taken (x .problem) ≡ taken (problemAfter x (x .kind))
+other-taken x h n =
+    let o = behind-I x h n in
+    let q = problemAfter x (x .kind) in
+    let same : length (q .rows .given) ≡ length (x .problem .rows .given) = ap (λ (r : Problem). length (r .rows .given)) (others-keep x (x .kind) n 0) in
+    let here = from-I (x .problem .place) (length (x .problem .rows .given)) o in
+    omega (arith, from-I (q .place) (length (q .rows .given)) (omega (arith, raised x (x .kind) (h .place))))
+
+abbrev Long : Problem → List Context → Context → Type 0
+Long q before x = length (rowsOf before) + taken q ≤ taken (x .problem)
+
+long-next : (y : Context) → Passed engine y → (ys : List Context) (x : Context) → Long (problemAfter y (y .kind)) ys x → Long (y .problem) (y ∷ ys) x
+long-next y h ys x e = go (yes-or-no (setsTable (y .kind)))
+  where
+    go : T (setsTable (y .kind)) ⊎ T (not (setsTable (y .kind))) → Long (y .problem) (y ∷ ys) x
+    go (inl t) =
+        let operands = take (width (y .kind)) (y .rest) in
+        omega (arith, ap length (rows-row y ys t), length-append operands (rowsOf ys), full-of y (h .operands), row-taken y (y .kind) t (h .place))
+    go (inr n) = omega (arith, ap length (rows-other y ys n), other-taken y h n)
+
+module _ (job : List ℕ) (room : ℕ) (before : List Context) (x : Context) (g : Behind (run job room) before x) where
+  few-rows : length (x .problem .rows .given) ≤ 2 ^ x .problem .settings .n
+  few-rows =
+      let k = 2 ^ x .problem .settings .n in
+      let vs = x .problem .rows .given in
+      let h = behind-ind engine engine-lawful (λ q before x. Given q → Given (x .problem)) (λ x i. i) (λ y h ys x f i. f (given-next y h i)) job room before x g (tt, tt) in
+      omega (arith, from-length 0 k, distinct-among vs (below k) (h .0) (all-to (λ (v : ℕ). v < k) (λ v. List·Memᴰ v (below k)) (λ v l. below-i l) vs (h .1)))
+
+  -- 3 bytes of I, and 4 for each of 256 rows
+  pub rows-short : begun ≤ x .problem .place → x .problem .settings .n ≤ 8 → length (rowsOf before) ≤ 1027
+  rows-short b l =
+      let n = length (x .problem .rows .given) in
+      omega (arith, behind-ind engine engine-lawful Long (λ x. omega arith) long-next job room before x g, from-I (x .problem .place) n b, few-rows, pow-mono l)

@@ -1,0 +1,162 @@
+-- Paper 02, K2: the standing candidates, the place behind an A, the same A and D commands before two pages, and the fresh job of a query.
+use Prim.Native.Nat.{ℕ, _^_, _≤_, max}
+use mathlib.Core.Path.{_≡_}
+use mathlib.Core.Bool.{Bool, not, _||_}
+use mathlib.Core.List.{List, [], _∷_, _++_, map, List·Memᴰ}
+use lib.Dec.{T}
+use lib.ListN.{getD, length, take, set}
+use Rattle.model.specs.Base.{without, filter, join, All}
+use Rattle.model.specs.Table.{Table, Term, term}
+use Rattle.model.specs.Primes.{primes}
+use Rattle.model.specs.Candidates.{Basis, basis}
+use Rattle.model.specs.Commands.{atStart, begun, inRows, inTerms, queried, Kind, formOf, is, isQueryKind, width, started, empty, basisOf, Context}
+use Rattle.model.specs.Answers.{Answer, bytesOf, termBytes, hasBytes, answer}
+use Rattle.model.specs.Rules.{engine}
+use Rattle.model.specs.Job.{Run, run, written}
+use Rattle.model.specs.Calls.{Call, ran, Met, numberOf, writtenOf, replies}
+use Rattle.model.specs.Exchanges.{Exchange, exchange, readIn, Claim}
+use Rattle.model.specs.Demand3.{isQuery, isAsked, Demand}
+
+-- ---- commands
+
+-- a command with its operands, and its bytes
+pub record Command : Type 0 where
+  pub kind : Kind
+  pub operands : List ℕ
+
+abbrev pub commandOf : Context → Command
+commandOf x = record { kind = x .kind; operands = take (width (x .kind)) (x .rest) }
+
+abbrev pub commandBytes : Command → List ℕ
+commandBytes c = formOf (c .kind) .code ∷ c .operands
+
+-- the job reads command x, and these stand before it
+abbrev pub Behind : Run → List Context → Context → Type 0
+Behind r before x = (after : List Context) × (r .contexts ≡ before ++ (x ∷ after))
+
+-- ---- the table and the candidates that commands set
+
+abbrev pub given : Command → ℕ → ℕ
+given c i = getD (c .operands) i 0
+
+abbrev pub givenTerm : Command → Term
+givenTerm c = term (given c 0) (given c 1) (given c 2)
+
+-- the table with on and dc at vertex v
+abbrev pub rowSet : Table → ℕ → ℕ → ℕ → Table
+rowSet p v on dc = record { n = p .n; m = p .m; on = set (p .on) v on; dc = set (p .dc) v dc }
+
+-- I and R set the table; T and A add a candidate "at the end", P puts the primes in their place, D takes one out and "those above move down
+-- by one"; the others set nothing
+unfoldable pub setsTo : Command → Kind → Basis → Basis
+setsTo c Kind.I b = basisOf (started begun (given c 0) (given c 1) (2 ^ given c 0))
+setsTo c Kind.R b = basis (rowSet (b .table) (given c 0) (given c 1) (given c 2)) (b .cands)
+setsTo c Kind.T b = basis (b .table) (b .cands ++ (givenTerm c ∷ []))
+setsTo c Kind.P b = basis (b .table) (primes (b .table))
+setsTo c Kind.A b = basis (b .table) (b .cands ++ (givenTerm c ∷ []))
+setsTo c Kind.D b = basis (b .table) (without (given c 0) (b .cands))
+setsTo c Kind.L b = b
+setsTo c Kind.C b = b
+setsTo c Kind.E b = b
+setsTo c Kind.none b = b
+
+-- one behind the other, from b on
+abbrev pub setFrom : Basis → List Command → Basis
+setFrom b [] = b
+setFrom b (c ∷ cs) = setFrom (setsTo c (c .kind) b) cs
+
+-- "the standing candidates in the standing order", with their table
+abbrev pub standing : List Command → Basis
+standing cs = setFrom (basisOf empty) cs
+
+-- what each command of a job finds is what the commands before it set (law `stands`)
+abbrev pub Stands : Type 0
+Stands = (job : List ℕ) (room : ℕ) (before : List Context) (x : Context) → Behind (run job room) before x → basisOf (x .problem) ≡ standing (map commandOf before)
+
+-- ---- the place
+
+-- the place that a command raises the job to at least: "for the place of R and P, an A counts as a T, even if its candidate has gone again"
+abbrev pub raises : Kind → ℕ
+raises Kind.I = begun
+raises Kind.R = inRows
+raises Kind.T = inTerms
+raises Kind.P = queried
+raises Kind.A = inTerms
+raises Kind.D = begun
+raises Kind.L = queried
+raises Kind.C = queried
+raises Kind.E = atStart
+raises Kind.none = atStart
+
+abbrev pub highest : List Context → ℕ
+highest [] = atStart
+highest (x ∷ xs) = max (raises (x .kind)) (highest xs)
+
+-- the place of each command of a job is the highest that those before it raise the job to (law `placed`)
+abbrev pub Placed : Type 0
+Placed = (job : List ℕ) (room : ℕ) (before : List Context) (x : Context) → Behind (run job room) before x → x .problem .place ≡ highest before
+
+-- ---- the same commands
+
+-- in one job, behind a query: only A and D change the candidates, and nothing the table. So where no A and no D stands between, a later
+-- command finds what the query finds (law `same-between`)
+abbrev pub addsOrRemoves : Kind → Bool
+addsOrRemoves k = is k Kind.A || is k Kind.D
+
+abbrev pub SameBetween : Type 0
+SameBetween = (job : List ℕ) (room : ℕ) (before : List Context) (x : Context) (between : List Context) (y : Context)
+    → Behind (run job room) (before ++ (x ∷ between)) y → T (isQuery x) → All (λ z. T (not (addsOrRemoves (z .kind)))) between
+    → basisOf (y .problem) ≡ basisOf (x .problem)
+
+-- in one job or two: x is a command of some job; of those before it these, operands included, are no queries. Where two commands stand so behind the same,
+-- they find the same table and candidates (laws `same-set`, `same-found`)
+pub record SetBy (cs : List Command) (x : Context) : Type 0 where
+  pub job : List ℕ
+  pub room : ℕ
+  pub before : List Context
+  pub behind : Behind (run job room) before x
+  pub same : filter (λ c. not (isQueryKind (c .kind))) (map commandOf before) ≡ cs
+
+-- an L or a C that stands so
+abbrev pub AskedBehind : List Command → Exchange → Type 0
+AskedBehind cs e = T (isAsked e) × SetBy cs (e .context)
+
+-- "pages are joined only where the same A and D commands stand before each, in a further job too": demand 3 of any such L and C, in one job
+-- or several (law `standing-demand-3`). Its rival is met only where the standing candidates are the primes
+abbrev pub StandingDemand3 : Type 0
+StandingDemand3 = (cs : List Command) (calls : List Call) → All Met calls → Claim engine (AskedBehind cs) (Demand (standing cs)) calls
+
+-- ---- "a fresh job with the standing candidates in the standing order"
+
+abbrev pub setsTable : Kind → Bool
+setsTable k = is k Kind.I || is k Kind.R
+
+abbrev pub termCommand : Term → List ℕ
+termCommand t = formOf Kind.T .code ∷ termBytes t
+
+-- I and the R as they came, a T for each standing candidate, the query and E
+abbrev pub freshJob : List Command → Command → List ℕ
+freshJob cs query = join (map commandBytes (filter (λ c. setsTable (c .kind)) cs)) ++ (join (map termCommand (standing cs .cands)) ++ (commandBytes query ++ (formOf Kind.E .code ∷ [])))
+
+-- a job is accepted, and gives this answer, E's and no other
+pub record GivesAlone (a : Answer) (r : Run) : Type 0 where
+  pub accepted : r .number ≡ 0
+  pub answers : filter hasBytes (r .answers) ≡ a ∷ Answer.ended ∷ []
+  pub bytes : written r ≡ bytesOf a ++ bytesOf Answer.ended
+
+-- "in an accepted job, L and C answer as they would in a fresh job": in every buffer that is no shorter (law `fresh`)
+abbrev pub Fresh : Type 0
+Fresh = (job : List ℕ) (room : ℕ) → run job room .number ≡ 0 → (before : List Context) (x : Context) → Behind (run job room) before x → T (isQuery x)
+    → (larger : ℕ) → room ≤ larger → larger ≤ 32768 → GivesAlone (answer x) (run (freshJob (map commandOf before) (commandOf x)) larger)
+
+-- what a caller reads: from c the reply to x, from f the same, with E's and no other
+pub record SameReply (c f : Call) (x : Context) : Type 0 where
+  pub reply : List·Memᴰ (exchange x (answer x)) (readIn engine c)
+  pub accepted : numberOf f ≡ 0
+  pub replies : replies f ≡ answer x ∷ Answer.ended ∷ []
+  pub bytes : take (writtenOf f) (f .after) ≡ bytesOf (answer x) ++ bytesOf Answer.ended
+
+-- of two calls that meet their contract, the second with the fresh job of a query of the first (law `fresh-read`)
+abbrev pub FreshRead : Type 0
+FreshRead = (c f : Call) → Met c → Met f → numberOf c ≡ 0 → (before : List Context) (x : Context) → Behind (ran c) before x → T (isQuery x)
+    → f .job ≡ freshJob (map commandOf before) (commandOf x) → length (c .before) ≤ length (f .before) → length (f .before) ≤ 32768 → SameReply c f x
