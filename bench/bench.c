@@ -6,18 +6,18 @@
  *   bench -a [-t SECONDS] FOLDER
  *
  * For every *.job of the folder: the whole job, the commands before its first query, then each of its L and C
- * commands. A command is timed by a job of its own, the commands before the first query, the one query and E, less
- * the time of that job without the query; so it counts the making of the covering matrix, and has no ratio where it is
- * less than 5 % of that job. Each time is the best of many runs, in ROUNDS rounds that alternate between the engines.
- * Every measurement is a child process that is ended after SECONDS; what did not end is shown as "-".
+ * commands. A command is timed by a job of its own, the commands before it that are no queries, the one query and E,
+ * less the time of that job without the query; so it counts the making of the covering matrix, and has no ratio where
+ * it is less than 5 % of that job. Each time is the best of many runs, in ROUNDS rounds that alternate between the
+ * engines. Every measurement is a child process that is ended after SECONDS; what did not end is shown as "-".
  * The search nodes of a page and of C are counted in the plain C engine, which searches as the proved one.
  *
- * Then the stack that a call of cover_job uses, over all jobs, and the time of a job of 32,768 bytes that
- * asks L with count 0 all along. -m prints the jobs as a markdown table, -c writes the times to a file as CSV.
- * The last line sums up. -a runs every job once in both engines, compares the answers and measures nothing.
+ * Then the stack that a call of cover_job uses, over all jobs, and the times of jobs of 32,768 bytes that ask L all
+ * along, or A, L and D in turn (long_job.h). -m prints the jobs as a markdown table, -c writes the times to a file as
+ * CSV. The last line sums up. -a runs every job once in both engines, compares the answers and measures nothing.
  *
- * A job with a command that the other engine does not know (the plain C engine: one that is not of paper 01) is newer
- * than that engine, and is left out.
+ * A job with a command that the other engine does not know (the plain C engine: one that is neither of paper 01 nor of
+ * K2) is newer than that engine, and is left out.
  *
  * The exit status is 1 where answers differ or the stack use reaches 256 KiB (with -a also where a job did not end), 2
  * where nothing was run.
@@ -327,7 +327,7 @@ static Worst worst[2][2];        /* of the engine: page, C; of natural tables, o
 static int open_queries[2][2];   /* how many of these did not end */
 static Worst worst_parts[PARTS]; /* by the ratio */
 static int newer = 0;            /* jobs that the other engine does not know */
-static int same = 0;             /* jobs with the same answers, of -a */
+static int asked = 0, same = 0;  /* jobs of -a, and those with the same answers */
 static bool differ = false;
 
 static char *names[MOST_JOBS];
@@ -385,14 +385,14 @@ static Pair before_queries(const Job *job, size_t head, const char *name)
     return counted(compare(&bare, NULL), HEAD, name);
 }
 
-/* The query at `at` of a job whose first query is at `head`. */
-static Pair query(const Job *job, size_t head, size_t at, const char *name)
+/* The query at `at`, behind the commands before it that are no queries. */
+static Pair query(const Job *job, size_t at, const char *name)
 {
     static Job one, bare;
     one.len = bare.len = 0;
-    put(&bare, job->bytes, head);
+    put_settings(&bare, job->bytes, at);
     put_end(&bare);
-    put(&one, job->bytes, head);
+    put_settings(&one, job->bytes, at);
     put(&one, job->bytes + at, cover_command_bytes(job->bytes[at]));
     put_end(&one);
     return counted(compare(&one, &bare), job->bytes[at] == COVER_LIST ? PAGE : CHEAPEST, name);
@@ -450,11 +450,11 @@ static void keep_most(Pair *most, const Pair *p)
 static void run_queries(const Job *job, size_t head, const char *name, Pair *page, Pair *least)
 {
     int number = 0;
-    for (size_t at = head, next; at < job->len && number < MOST_QUERIES; at = next) {
+    for (size_t at = head, next; at < job->len && job->bytes[at] != COVER_END && number < MOST_QUERIES; at = next) {
         next = behind(job->bytes, job->len, at);
         if (!is_query(job->bytes[at]) || next - at != cover_command_bytes(job->bytes[at]))
             continue;
-        Pair q = query(job, head, at, name);
+        Pair q = query(job, at, name);
         keep_most(job->bytes[at] == COVER_LIST ? page : least, &q);
         number++;
         if (!markdown) {
@@ -501,6 +501,7 @@ static void run_answers(Job *job, const char *name)
     finish(first);
     finish(second);
     judge(&p, job);
+    asked++;
     newer += p.newer;
     same += both_ended(&p) && !p.differ;
     if (p.differ || (!p.newer && !both_ended(&p)))
@@ -518,23 +519,62 @@ static void run_stack(Job *job, const char *name)
     }
 }
 
-/* The time and the stack of eight jobs of 32,768 bytes; returns how many L each has. */
-static int run_long_jobs(Pair *slowest)
+/* Jobs of 32,768 bytes of one kind: over eight drawn tables, or over the table of a stored job. */
+typedef struct {
+    const char *what;
+    int (*make)(Job *, uint64_t seed); /* over a drawn table */
+    const char *table;                 /* the stored job, where none is drawn */
+    int lists;                         /* how many L each has; 0 where the folder has no such job */
+    Pair slowest;
+} Long;
+
+enum { LONGS = 4 };
+
+static Long longs[LONGS] = {
+    {.what = "L with count 0", .make = long_job},
+    {.what = "turns of A, L with count 0 and D", .make = long_turns},
+    {.what = "turns of A, L with count 1 and D", .table = "listhard_s1_180"},
+    {.what = "turns of A, L with count 1 and D", .table = "sub64_d5_7_dc0"},
+};
+
+static bool is_there(const char *name)
 {
-    static Job job;
-    int lists = 0;
-    for (uint64_t seed = 1; seed <= 8; seed++) {
-        lists = long_job(&job, seed);
-        Pair p = compare(&job, NULL);
-        differ |= p.differ;
-        keep_most(slowest, &p);
-        if (p.ended[0] && (job.len != LONGEST || cover_number(shared[0]->outcome) != COVER_ACCEPTED))
-            printf("long job %d: %d bytes, refusal %d\n", (int)seed, (int)job.len,
-                   (int)cover_number(shared[0]->outcome));
-        run_stack(&job, "the job of 32,768 bytes");
-    }
-    return lists;
+    for (size_t i = 0; i < count; i++)
+        if (strcmp(names[i], name) == 0)
+            return true;
+    return false;
 }
+
+static void each_long_job(const char *folder, void (*run)(Job *, Long *))
+{
+    static Job job, of;
+    for (Long *kind = longs; kind < longs + LONGS; kind++) {
+        kind->slowest.ended[0] = kind->slowest.ended[1] = true;
+        for (uint64_t seed = 1; kind->make && seed <= 8; seed++) {
+            kind->lists = kind->make(&job, seed);
+            run(&job, kind);
+        }
+        if (kind->table && is_there(kind->table)) {
+            read_job(folder, kind->table, &of);
+            kind->lists = dense_turns(&job, &of);
+            run(&job, kind);
+        }
+    }
+}
+
+/* Its time and its stack. */
+static void run_long_job(Job *job, Long *kind)
+{
+    Pair p = compare(job, NULL);
+    differ |= p.differ;
+    keep_most(&kind->slowest, &p);
+    if (p.ended[0] && (job->len != LONGEST || cover_number(shared[0]->outcome) != COVER_ACCEPTED))
+        printf("long job of %s: %d bytes, refusal %d\n", kind->what, (int)job->len,
+               (int)cover_number(shared[0]->outcome));
+    run_stack(job, "a job of 32,768 bytes");
+}
+
+static void run_long_answers(Job *job, Long *kind) { run_answers(job, kind->what); }
 
 static double median_ratio(void)
 {
@@ -560,7 +600,17 @@ static void print_longest(int other)
     printf("\n");
 }
 
-static void print_details(int lists, const Pair *slowest)
+static void print_long(const Long *kind)
+{
+    const Pair *p = &kind->slowest;
+    if (kind->lists == 0)
+        return;
+    printf("job of 32,768 bytes, %d %s, ", kind->lists, kind->what);
+    printf("%s%s", kind->table ? "table of " : "the slowest of 8 tables", kind->table ? kind->table : "");
+    printf(": engine %s, " OTHER " %s\n", shown(p->time[0], p->ended[0]), shown(p->time[1], p->ended[1]));
+}
+
+static void print_details(void)
 {
     printf("\n");
     print_longest(0);
@@ -568,8 +618,9 @@ static void print_details(int lists, const Pair *slowest)
     printf("stack: %d bytes at most (%s), limit %d", (int)deepest, deepest_name, STACK_LIMIT);
     if (cut)
         printf("; %d jobs cut after %d s", cut, limit);
-    printf("\njob of 32,768 bytes, %d L with count 0, the slowest of 8 tables: engine %s, " OTHER " %s\n", lists,
-           shown(slowest->time[0], slowest->ended[0]), shown(slowest->time[1], slowest->ended[1]));
+    printf("\n");
+    for (int k = 0; k < LONGS; k++)
+        print_long(&longs[k]);
     printf("worst ratio engine/" OTHER ":");
     for (int part = 0; part < PARTS; part++)
         printf("%s %s %.2f (%s)", part ? "," : "", part_names[part], worst_parts[part].time,
@@ -634,14 +685,10 @@ static void run_folder(const char *folder, void (*run)(Job *, const char *))
 /* The last line of -a: each job that both ended with the same bytes has passed. */
 static int compare_all(const char *folder)
 {
-    static Job job;
     most_runs = 1;
     run_folder(folder, run_answers);
-    for (uint64_t seed = 1; seed <= 8; seed++) {
-        long_job(&job, seed);
-        run_answers(&job, "the job of 32,768 bytes");
-    }
-    int all = (int)count + 8 - newer, failed = all - same;
+    each_long_job(folder, run_long_answers);
+    int failed = asked - newer - same;
     if (newer)
         printf("%d jobs have commands that " OTHER " does not know\n", newer);
     printf("%d passed, %d failed\n", same, failed);
@@ -650,14 +697,13 @@ static int compare_all(const char *folder)
 
 static void measure_all(const char *folder)
 {
-    Pair slowest = {.ended = {true, true}};
     stack = lent(STACK);
     stack_top = lent(sizeof *stack_top);
     print_header();
     run_folder(folder, run_job);
     run_folder(folder, run_stack);
-    int lists = run_long_jobs(&slowest);
-    print_details(lists, &slowest);
+    each_long_job(folder, run_long_job);
+    print_details();
     print_summary();
     if (csv && fclose(csv) != 0)
         perror("bench");

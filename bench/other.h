@@ -29,8 +29,8 @@ static inline uint64_t counted_nodes(void) { return 0; }
 #define OTHER "plain C"
 #define other_job baseline_job
 
-/* The seven commands of paper 01. */
-static inline bool must_know(uint8_t command) { return command != 0 && strchr("IRTPLCE", command) != NULL; }
+/* The commands of paper 01 and of K2. */
+static inline bool must_know(uint8_t command) { return command != 0 && strchr("IRTPLCEAD", command) != NULL; }
 static inline void clear_nodes(void) { baseline_nodes = (BaselineNodes){0, 0}; }
 static inline uint64_t counted_nodes(void) { return baseline_nodes.pages + baseline_nodes.cheapest; }
 

@@ -1,12 +1,13 @@
 /*
- * What a job asks, for other solvers, and what the proved engine says to it.
+ * What a job asks at its first query, for other solvers, and what the proved engine says to it. What A and D behind
+ * that make of the candidates is not looked at.
  *
  *   rows matrix JOB      the costs of the candidates, then the reduced rows, each as the candidates that it has
  *   rows page JOB        the time of a first page of 255 sets, whether more stand above, then the sets
  *   rows cheapest JOB    the time of C, its cost and its set
  *
  * A time is the best of many runs of a job with the one query, less the best of that job without it. Sets are
- * printed as numbers. The exit status is 2 where the job is refused before its queries.
+ * printed as numbers. The exit status is 2 where the job is refused before its first query.
  */
 #define _GNU_SOURCE
 #include <inttypes.h>

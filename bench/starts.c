@@ -3,8 +3,9 @@
  *
  *   starts COUNT JOB...
  *
- * For each job COUNT starts are drawn, of all sizes; the page from a start, and the page behind it, are asked
- * for in a job of their own. A time is that of one run, the making of the covering matrix in it.
+ * For each job COUNT starts are drawn, of all sizes; the page from a start, and the page behind it, are asked for in
+ * a job of their own, of the candidates at the job's first query. A time is that of one run, the making of the
+ * covering matrix in it.
  */
 #define _GNU_SOURCE
 #include <inttypes.h>
@@ -33,7 +34,7 @@ static uint64_t start_drawn(unsigned turn)
     return turn % 3 == 0 ? x : turn % 3 == 1 ? low : ~low;
 }
 
-/* The page from start, asked for behind the commands before the queries; its answer follows theirs. */
+/* The page from start, asked for behind the commands before the first query; its answer follows theirs. */
 static Page page(size_t head, uint64_t start)
 {
     size_t len = head + cover_put_list(job + head, start, COVER_MOST_SETS);

@@ -1,6 +1,7 @@
 //! The engine behind its C interface, called over buffers with guards on both sides.
 
 use crate::generate::Case;
+use crate::reference::LONGEST;
 
 extern "C" {
     fn cover_job(job: *const u8, job_len: usize, answers: *mut u8, answers_len: usize) -> u64;
@@ -41,4 +42,23 @@ pub fn call(case: &Case, before: &[u8]) -> Seen {
         job_kept: job == memory,
         buffer: lent[GUARD..end].to_vec(),
     }
+}
+
+/// The bytes that the engine writes for a job that it should accept.
+pub fn answers(job: &[u8]) -> Result<Vec<u8>, String> {
+    let case = Case {
+        job: job.to_vec(),
+        behind: Vec::new(),
+        room: LONGEST,
+    };
+    let before = pattern(LONGEST, 0x5a);
+    let seen = call(&case, &before);
+    let written = seen.packed as usize & 0xffff;
+    if seen.packed >> 16 != job.len() as u64 {
+        return Err(format!("it gave {:#x}", seen.packed));
+    }
+    if !seen.guards_kept || !seen.job_kept || seen.buffer[written..] != before[written..] {
+        return Err("other bytes have changed".into());
+    }
+    Ok(seen.buffer[..written].to_vec())
 }

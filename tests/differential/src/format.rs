@@ -5,20 +5,22 @@
 //! 1. here: an entry in `COMMANDS`, with a kind of operand of its own where none fits, and
 //!    `LAST_NUMBER` where it brings a number;
 //! 2. `reference/job.rs`: where it may stand (`allowed`), what refuses it and what it does
-//!    (`command`), from the paper's text; `covers` and `problem` there rely on table and candidates
-//!    standing still from the first L or C on;
-//! 3. `generate/sound.rs` (settings, rows, candidates) or `generate/queries.rs`: where a sound job
-//!    has it;
-//! 4. `generate/purpose.rs`: its borders, in every run; `selftest.rs`: the paper's cases of it.
+//!    (`command`), from the paper's text. The table stands still from the first T, A, P, L or C on;
+//!    the candidates do not, and a command that changes them forgets the covers found so far;
+//! 3. `generate/sound.rs` (settings, rows, candidates), `generate/changes.rs` (candidates that come
+//!    and go) or `generate/queries.rs`: where a sound job has it;
+//! 4. `generate/purpose.rs` (`purpose_changes.rs` for A and D): its borders, in every run;
+//!    `selftest.rs`: the paper's cases of it;
+//! 5. `fresh.rs`: whether a fresh job with the same table has it, and which pages go on behind it.
 //!
 //! A stored job that has it needs `stored.rs` too. Every command at every place, damage, cuts and
 //! moved or doubled commands go by the table, and a run fails where a command was never accepted
 //! or never met one of the refusals that its entry names (`tally.rs`).
 
-use Operand::{Inputs, Number, Outputs, Size};
+use Operand::{Candidate, Inputs, Number, Outputs, Size};
 
 /// The largest number of a refusal. Each from 0 on must come in every run.
-pub const LAST_NUMBER: u64 = 14;
+pub const LAST_NUMBER: u64 = 15;
 
 /// What an operand is: how many bytes it has, and what damage puts there (`generate/damage.rs`).
 #[derive(Clone, Copy)]
@@ -29,6 +31,8 @@ pub enum Operand {
     Inputs,
     /// A byte with a bit for each output: on, dc, outputs.
     Outputs,
+    /// A byte with a candidate's number.
+    Candidate,
     /// A number of so many bytes that takes any value.
     Number(usize),
 }
@@ -46,7 +50,7 @@ impl Operand {
 #[derive(Clone, Copy, PartialEq, Eq)]
 pub enum Part {
     Rows,
-    Terms,
+    Candidates,
     Other,
 }
 
@@ -60,7 +64,7 @@ pub struct Command {
     pub refusals: &'static [u64],
 }
 
-/// The seven commands of paper 01.
+/// The seven commands of paper 01, and A and D of K2.
 pub const COMMANDS: &[Command] = &[
     Command {
         byte: b'I',
@@ -80,8 +84,22 @@ pub const COMMANDS: &[Command] = &[
         byte: b'T',
         good: &[1, 0, 1],
         operands: &[Inputs, Inputs, Outputs],
-        part: Part::Terms,
+        part: Part::Candidates,
         refusals: &[9, 10, 11],
+    },
+    Command {
+        byte: b'A',
+        good: &[1, 0, 1],
+        operands: &[Inputs, Inputs, Outputs],
+        part: Part::Candidates,
+        refusals: &[9, 10, 11],
+    },
+    Command {
+        byte: b'D',
+        good: &[0],
+        operands: &[Candidate],
+        part: Part::Candidates,
+        refusals: &[15],
     },
     Command {
         byte: b'P',
@@ -150,4 +168,25 @@ pub fn cut(job: &[u8]) -> Option<Vec<&[u8]>> {
         rest = &rest[width..];
     }
     Some(list)
+}
+
+/// Whether an A or D stands in this list of whole commands.
+pub fn come_and_go(job: &[u8]) -> bool {
+    let commands = cut(job).expect("a list of whole commands");
+    commands
+        .iter()
+        .any(|command| matches!(command[0], b'A' | b'D'))
+}
+
+/// A number, low byte first.
+pub fn number(bytes: &[u8]) -> u64 {
+    bytes
+        .iter()
+        .rev()
+        .fold(0, |x, &byte| x << 8 | u64::from(byte))
+}
+
+/// The sets in the answer of a page.
+pub fn sets(answer: &[u8]) -> Vec<u64> {
+    answer[3..].chunks(8).map(number).collect()
 }

@@ -6,6 +6,7 @@
 mod engine;
 mod exact;
 mod format;
+mod fresh;
 mod generate;
 mod reference;
 mod report;
@@ -149,6 +150,9 @@ fn one(run: &mut Run, case: &Case, turn: usize) -> bool {
     }
     run.passed += 1;
     run.tally.add(&case.job, &expected);
+    if expected.number == 0 && !accepted(run, &case.job) {
+        return false;
+    }
     if turn % STRIDE == 0 && case.room <= MOST_ROOM_KEPT {
         run.kept.push((
             case.clone(),
@@ -157,6 +161,20 @@ fn one(run: &mut Run, case: &Case, turn: usize) -> bool {
                 ..expected
             },
         ));
+    }
+    true
+}
+
+/// What an accepted job asks; false when the engine does not keep what K2 promises of it.
+fn accepted(run: &mut Run, job: &[u8]) -> bool {
+    let asked = reference::asked(job).expect("it was run before");
+    run.tally.add_asked(job, &asked);
+    match fresh::check(job, &asked) {
+        Ok(held) => run.tally.add_held(&held),
+        Err(wrong) => {
+            println!("MISMATCH: {wrong}\n  job       {}", hex(job));
+            return false;
+        }
     }
     true
 }

@@ -1,9 +1,13 @@
 //! The paper's example and marked cases, held against the reference before any engine is asked.
 
+mod changes;
+
+pub use changes::{first_term_gone, prime_gone, seventh_term};
+
 use crate::exact::Search;
 use crate::format::COMMANDS;
 use crate::generate::{draft, page, row, term, Draft};
-use crate::reference::{self, Covers, Table, Term, LONGEST};
+use crate::reference::{self, Covers, Query, Table, Term, LONGEST};
 use crate::rng::Rng;
 
 pub const EXAMPLE: &str = "49 02 02 52 00 00 01 52 01 01 02 52 02 03 00 52 03 02 00 54 01 00 01 \
@@ -17,7 +21,7 @@ const EXAMPLE_ANSWERS: &str = "6c06000b0000000000000016000000000000001a000000000
 const COSTS: [u64; 9] = [1, 1, 3, 4, 5, 6, 7, 8, 9];
 
 /// Terms 1 to 6 of document 003.
-const TERMS: [[u8; 3]; 6] = [
+pub const TERMS: [[u8; 3]; 6] = [
     [1, 0, 1],
     [3, 1, 3],
     [1, 1, 2],
@@ -33,7 +37,7 @@ pub fn bytes(hex: &str) -> Vec<u8> {
     digits.chunks(2).map(pair).collect()
 }
 
-fn example_rows() -> Vec<Vec<u8>> {
+pub fn example_rows() -> Vec<Vec<u8>> {
     vec![row(0, 0, 1), row(1, 1, 2), row(2, 3, 0), row(3, 2, 0)]
 }
 
@@ -50,7 +54,7 @@ fn both_wanted() -> Vec<Vec<u8>> {
     vec![row(0, 1, 0), row(1, 1, 0)]
 }
 
-fn ask_all() -> Vec<Vec<u8>> {
+pub fn ask_all() -> Vec<Vec<u8>> {
     vec![page(0, 255), vec![b'C']]
 }
 
@@ -87,15 +91,25 @@ pub fn odd_parity(n: u8) -> Draft {
     )
 }
 
-/// The answers that a full page and the cheapest must give.
-fn answers(sets: &[u64], cost: u16, cheapest: u64) -> Vec<u8> {
+/// What a full page and the cheapest must answer.
+fn answer_all(sets: &[u64], cost: u16, cheapest: u64) -> Vec<u8> {
     let mut all = vec![0x6c, sets.len() as u8, 0];
     sets.iter().for_each(|set| all.extend(set.to_le_bytes()));
     all.push(0x63);
     all.extend(cost.to_le_bytes());
     all.extend(cheapest.to_le_bytes());
-    all.push(0x65);
     all
+}
+
+/// The same, and E's answer behind it.
+fn answers(sets: &[u64], cost: u16, cheapest: u64) -> Vec<u8> {
+    [answer_all(sets, cost, cheapest), vec![0x65]].concat()
+}
+
+/// P's answer in case c: terms 1, 3, 6, 4, 2 and 5.
+fn example_primes() -> Vec<u8> {
+    let by_number = [1, 3, 6, 4, 2, 5].map(|number: usize| TERMS[number - 1]);
+    [vec![0x70, 6], by_number.concat()].concat()
 }
 
 /// Names what went wrong; empty when all is right.
@@ -145,6 +159,7 @@ pub fn run(rng: &mut Rng) -> Checks {
     example(&mut checks);
     marked_cases(&mut checks);
     marked_rivals(&mut checks);
+    changes::run(&mut checks);
     parity(&mut checks);
     lengths(&mut checks);
     orders(&mut checks);
@@ -199,11 +214,8 @@ fn marked_cases(checks: &mut Checks) {
         .collect();
     let costs: Vec<u64> = a.iter().map(|&set| reference::cost(&list, set)).collect();
     checks.check("case b", costs == [5, 7, 7, 3, 5, 5]);
-    let mut c = vec![0x70, 6];
-    [1, 3, 6, 4, 2, 5]
-        .iter()
-        .for_each(|&number: &usize| c.extend(TERMS[number - 1]));
-    c.extend(answers(&[13, 25, 38, 44, 50, 56], 3, 13));
+    let c = answers(&[13, 25, 38, 44, 50, 56], 3, 13);
+    let c = [example_primes(), c].concat();
     checks.accepts("case c", &marked('c').job(), &c);
     checks.accepts(
         "case d",
@@ -219,15 +231,20 @@ fn marked_cases(checks: &mut Checks) {
 /// The candidates of these cases are the primes, by P or by T, so no list of legal terms costs
 /// less. Without its first term case a has other candidates.
 fn marked_rivals(checks: &mut Checks) {
-    let problem = |case| reference::problem(&marked(case).job()).expect("a sound job");
     for (case, cost) in [('a', 3), ('c', 3), ('d', 4), ('e', 0), ('f', 1), ('g', 1)] {
-        let (table, candidates) = problem(case);
-        let name = format!("rival of case {case}");
-        checks.check(&name, reference::rival(&table, &candidates) == Some(cost));
+        let right = rivals(&marked(case).job()) == [Some(cost); 2];
+        checks.check(&format!("rival of case {case}"), right);
     }
-    let (table, candidates) = problem('a');
-    let none = reference::rival(&table, &candidates[1..]).is_none();
+    let without = draft(2, 2, [example_rows(), terms(&TERMS[1..]), ask_all()]);
+    let none = rivals(&without.job()) == [None; 2];
     checks.check("no rival without the primes", none);
+}
+
+/// The rival's least cost at each L and C of a sound job, None where he is not met.
+fn rivals(job: &[u8]) -> Vec<Option<u64>> {
+    let asked = reference::asked(job).expect("a sound job");
+    let at = |query: &Query| reference::rival(&asked.table, &query.candidates);
+    asked.queries.iter().map(at).collect()
 }
 
 /// Over the primes the cheapest cover costs as little as any list of legal terms.

@@ -3,11 +3,12 @@
 //! Every answer is held to the definitions as far as that can be done without a search: each set
 //! is an irredundant cover, sets rise from the start, the cost is that of the set. That no set
 //! is left out and none is cheaper needs a search; where it is given up the job is checked in part.
+//! A job that is checked fully is asked again with each candidate taken out and put in again.
 
 use crate::engine;
 use crate::exact::{GivenUp, Search};
-use crate::format;
-use crate::generate::{page, Case};
+use crate::format::{self, number, sets};
+use crate::generate::{come, go, page};
 use crate::reference::{self, Table, Term, LONGEST};
 use std::fs;
 use std::path::{Path, PathBuf};
@@ -41,12 +42,13 @@ impl Tally {
     }
 }
 
+#[derive(PartialEq, Eq)]
 struct Query {
     command: Vec<u8>,
     answer: Vec<u8>,
 }
 
-/// A job before its queries, and what the paper makes of it.
+/// What stands before queries, and what the paper makes of it.
 struct Problem {
     head: Vec<u8>,
     candidates: Vec<Term>,
@@ -103,26 +105,64 @@ fn paths() -> Result<Vec<PathBuf>, String> {
     Ok(paths)
 }
 
+/// Queries one behind the other, and the commands before them that are no queries.
+struct Asked<'a> {
+    head: Vec<&'a [u8]>,
+    queries: Vec<&'a [u8]>,
+}
+
 fn check(job: &[u8]) -> Result<Depth, String> {
     let commands = format::cut(job).ok_or("it is not a list of whole commands")?;
-    let is_query = |command: &&[u8]| matches!(command[0], b'L' | b'C');
-    let head = commands
-        .iter()
-        .take_while(|c| !matches!(c[0], b'L' | b'C' | b'E'));
-    let problem = problem(&head.copied().collect::<Vec<_>>())?;
-    let asked: Vec<&[u8]> = commands.iter().copied().filter(is_query).collect();
-    if [problem.head.clone(), asked.concat(), vec![b'E']].concat() != job {
-        return Err("it is not rows, candidates, queries and E".into());
+    let Some(([b'E'], before)) = commands.split_last() else {
+        return Err("it does not end with E".into());
+    };
+    let mut depth = Depth::Full;
+    let mut answers = Vec::new();
+    for asked in asked_in(before) {
+        let problem = problem(&asked.head)?;
+        let answered = ask(&problem.head, &asked.queries)?;
+        depth = depth.min(check_asked(&problem, &asked.queries, &answered)?);
+        answers.extend(answered.into_iter().flat_map(|query| query.answer));
     }
+    answers.push(0x65);
+    if engine::answers(job)?.ends_with(&answers) {
+        return Ok(depth);
+    }
+    Err("queries answer otherwise than without those before them".into())
+}
+
+fn asked_in<'a>(commands: &[&'a [u8]]) -> Vec<Asked<'a>> {
+    let mut list: Vec<Asked> = Vec::new();
+    let mut head = Vec::new();
+    let mut goes_on = false;
+    for &command in commands {
+        let is_query = matches!(command[0], b'L' | b'C');
+        match list.last_mut() {
+            Some(asked) if is_query && goes_on => asked.queries.push(command),
+            _ if is_query => list.push(Asked {
+                head: head.clone(),
+                queries: vec![command],
+            }),
+            _ => head.push(command),
+        }
+        goes_on = is_query;
+    }
+    list
+}
+
+fn check_asked(problem: &Problem, asked: &[&[u8]], answered: &[Query]) -> Result<Depth, String> {
     let mut depth = Depth::Full;
     let mut search = Search::new(&problem.sums, &problem.costs);
-    for query in ask(&problem, &asked)? {
-        depth = depth.min(check_query(&problem, &mut search, &query)?);
+    for query in answered {
+        depth = depth.min(check_query(problem, &mut search, query)?);
+    }
+    if depth == Depth::Full && ask(&turned(problem), asked)? != answered {
+        return Err("candidates that go and come again change the answers".into());
     }
     Ok(depth)
 }
 
-/// Table and candidates by the paper: terms as they came, or the primes.
+/// Table and standing candidates by the paper.
 fn problem(head: &[&[u8]]) -> Result<Problem, String> {
     let Some([b'I', n, m]) = head.first() else {
         return Err("it does not begin with I".into());
@@ -135,12 +175,15 @@ fn problem(head: &[&[u8]]) -> Result<Problem, String> {
                 table.on[usize::from(v)] = on;
                 table.dc[usize::from(v)] = dc;
             }
-            [b'T', care, value, outputs] => candidates.push(Term {
+            [b'T' | b'A', care, value, outputs] => candidates.push(Term {
                 care,
                 value,
                 outputs,
             }),
             [b'P'] => candidates = table.primes(),
+            [b'D', k] if usize::from(k) < candidates.len() => {
+                candidates.remove(usize::from(k));
+            }
             _ => return Err("a command before the queries has no meaning here".into()),
         }
     }
@@ -152,12 +195,20 @@ fn problem(head: &[&[u8]]) -> Result<Problem, String> {
     })
 }
 
+/// The head, and the first candidate taken out and put in behind the others until each has had its
+/// turn: the same stand again, in the same order.
+fn turned(problem: &Problem) -> Vec<u8> {
+    let turn = |t: &Term| [go(0), come(t.care, t.value, t.outputs)].concat();
+    let turns = problem.candidates.iter().flat_map(turn).collect();
+    [problem.head.clone(), turns].concat()
+}
+
 /// Runs the queries in one job and cuts the answers apart. The answers before the queries are
 /// the reference's, and the bytes behind the answers are as they were.
-fn ask(problem: &Problem, queries: &[&[u8]]) -> Result<Vec<Query>, String> {
-    let job = [problem.head.clone(), queries.concat(), vec![b'E']].concat();
-    let written = call(&job)?;
-    let head = [problem.head.as_slice(), b"E"].concat();
+fn ask(head: &[u8], queries: &[&[u8]]) -> Result<Vec<Query>, String> {
+    let job = [head, &queries.concat(), b"E"].concat();
+    let written = engine::answers(&job)?;
+    let head = [head, b"E"].concat();
     let expected = reference::run(&head, &[0; LONGEST]).ok_or("no reference")?;
     let before = &expected.buffer[..expected.written - 1];
     let mut rest = written.strip_prefix(before).ok_or("P differs")?;
@@ -181,36 +232,6 @@ fn ask(problem: &Problem, queries: &[&[u8]]) -> Result<Vec<Query>, String> {
     Ok(list)
 }
 
-/// The written bytes of a job that is accepted.
-fn call(job: &[u8]) -> Result<Vec<u8>, String> {
-    let case = Case {
-        job: job.to_vec(),
-        behind: Vec::new(),
-        room: LONGEST,
-    };
-    let before = engine::pattern(LONGEST, 0x5a);
-    let seen = engine::call(&case, &before);
-    let written = seen.packed as usize & 0xffff;
-    if seen.packed >> 16 != job.len() as u64 {
-        return Err(format!("it gave {:#x}", seen.packed));
-    }
-    if !seen.guards_kept || !seen.job_kept || seen.buffer[written..] != before[written..] {
-        return Err("other bytes have changed".into());
-    }
-    Ok(seen.buffer[..written].to_vec())
-}
-
-fn number(bytes: &[u8]) -> u64 {
-    bytes
-        .iter()
-        .rev()
-        .fold(0, |x, &byte| x << 8 | u64::from(byte))
-}
-
-fn sets(answer: &[u8]) -> Vec<u64> {
-    answer[3..].chunks(8).map(number).collect()
-}
-
 fn check_query(problem: &Problem, search: &mut Search, query: &Query) -> Result<Depth, String> {
     if query.command[0] == b'C' {
         return check_cheapest(problem, search, &query.answer);
@@ -220,7 +241,7 @@ fn check_query(problem: &Problem, search: &mut Search, query: &Query) -> Result<
         return Ok(Depth::Full);
     }
     let fewer = page(start, FEW.min(query.command[9]));
-    let few = ask(problem, &[&fewer])?.remove(0);
+    let few = ask(&problem.head, &[&fewer])?.remove(0);
     if !query.answer[3..].starts_with(&few.answer[3..]) {
         return Err("a page with a lower count has other sets".into());
     }

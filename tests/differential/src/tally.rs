@@ -1,10 +1,12 @@
-//! What a run has met: how often each number came, what became of each command, and, in the drawn
-//! jobs that ask C, how often K1 changed cost or set of the cheapest and how often the cost was
-//! held to the rival's. A run fails where one of these never came. The jobs made on purpose do not
-//! count for C: the marked cases are among them, so that no count could stay at 0.
+//! What a run has met: how often each number came, what became of each command, what was held to
+//! K2's promise, and, at each C of the drawn jobs, how often K1 changed cost or set of the cheapest
+//! and how often the cost was held to the rival's. A run fails where one of these never came. The
+//! jobs made on purpose do not count for L and C: the marked cases are among them, so that no count
+//! could stay at 0.
 
 use crate::format::{self, Command, COMMANDS, LAST_NUMBER};
-use crate::reference::{self, Covers, Outcome, Term};
+use crate::fresh::Held;
+use crate::reference::{self, Asked, Covers, Outcome, Query, Table, Term};
 use crate::report::hex;
 use std::collections::BTreeMap;
 
@@ -14,18 +16,30 @@ pub struct Tally {
     commands: BTreeMap<(u8, u64), usize>,
     /// Whether the jobs that are added now are drawn.
     pub drawn: bool,
+    changes: Changes,
     cheapest: Cheapest,
 }
 
-/// The accepted drawn jobs that ask C.
+/// The accepted drawn jobs whose candidates come and go.
+#[derive(Default)]
+struct Changes {
+    /// Those with an L or C whose candidates have changed since an earlier one.
+    jobs: usize,
+    /// L and C commands held to a fresh job, and lists joined over further jobs.
+    held: Held,
+}
+
+/// C in the accepted drawn jobs, once for the same candidates.
 #[derive(Default)]
 struct Cheapest {
-    jobs: usize,
-    /// Those whose cost or set is another than before K1.
+    times: usize,
+    /// Cost or set is another than before K1.
     other_costs: usize,
     other_sets: usize,
-    /// Those whose cost is the rival's, and the first one whose cost should be and is not.
+    /// The cost is the rival's, and how often that was behind an A or D; the first job whose cost
+    /// should be and is not.
     rivals: usize,
+    rivals_behind_changes: usize,
     beaten: Option<Vec<u8>>,
 }
 
@@ -35,6 +49,7 @@ impl Tally {
             numbers: [0; LAST_NUMBER as usize + 1],
             commands: BTreeMap::new(),
             drawn: false,
+            changes: Changes::default(),
             cheapest: Cheapest::default(),
         }
     }
@@ -50,13 +65,33 @@ impl Tally {
             // 1 to 3 are met before there is a command.
             vec![]
         };
-        if self.drawn && outcome.number == 0 && bytes.contains(&b'C') {
-            self.cheapest.add(job);
-        }
         bytes.sort_unstable();
         bytes.dedup();
         for byte in bytes {
             *self.commands.entry((byte, outcome.number)).or_insert(0) += 1;
+        }
+    }
+
+    /// An accepted job. The engine's answers are the reference's by now, so the reference's are
+    /// looked at.
+    pub fn add_asked(&mut self, job: &[u8], asked: &Asked) {
+        if !self.drawn {
+            return;
+        }
+        let changed = |two: &[Query]| two[0].candidates != two[1].candidates;
+        self.changes.jobs += usize::from(asked.queries.windows(2).any(changed));
+        let mut cheapest: Vec<&Query> = asked.queries.iter().collect();
+        cheapest.retain(|query| query.command == b"C");
+        cheapest.dedup_by(|later, first| later.candidates == first.candidates);
+        for query in cheapest {
+            self.cheapest.add(job, &asked.table, query);
+        }
+    }
+
+    pub fn add_held(&mut self, held: &Held) {
+        if self.drawn {
+            self.changes.held.queries += held.queries;
+            self.changes.held.lists += held.lists;
         }
     }
 
@@ -69,6 +104,7 @@ impl Tally {
             let command = char::from(byte);
             println!("least often: {command} with number {number}, {times} times");
         }
+        self.changes.print();
         self.cheapest.print();
     }
 
@@ -92,25 +128,56 @@ impl Tally {
                 "{byte} met number {number}, not named in format.rs"
             ));
         }
+        list.extend(self.changes.complaints());
         list.extend(self.cheapest.complaints());
         list
     }
 }
 
+/// A complaint for each count that stayed at 0.
+fn never(counts: &[(usize, &str)]) -> Vec<String> {
+    let zero = counts.iter().filter(|(times, _)| *times == 0);
+    zero.map(|(_, what)| what.to_string()).collect()
+}
+
+impl Changes {
+    fn print(&self) {
+        println!(
+            "{} drawn jobs ask again over changed candidates; {} L and C were held to a fresh job, \
+             {} lists joined over further jobs",
+            self.jobs, self.held.queries, self.held.lists
+        );
+    }
+
+    fn complaints(&self) -> Vec<String> {
+        never(&[
+            (
+                self.jobs,
+                "no drawn job has an L or C whose candidates have changed since an earlier one",
+            ),
+            (self.held.queries, "no L or C was held to a fresh job"),
+            (self.held.lists, "no list was joined over further jobs"),
+        ])
+    }
+}
+
 impl Cheapest {
-    /// The engine's answers are the reference's by now, so the reference's are looked at.
-    fn add(&mut self, job: &[u8]) {
-        let (table, candidates) = reference::problem(job).expect("an accepted job");
-        let Covers::All(covers) = reference::irredundant_covers(&table, &candidates) else {
+    fn add(&mut self, job: &[u8], table: &Table, query: &Query) {
+        let candidates = &query.candidates;
+        let Covers::All(covers) = reference::irredundant_covers(table, candidates) else {
             unreachable!("C was answered");
         };
-        let (cost, set) = reference::cheapest(&candidates, &covers);
-        let (cost_before, set_before) = cheapest_before(&candidates, &covers);
-        self.jobs += 1;
+        let (cost, set) = reference::cheapest(candidates, &covers);
+        let (cost_before, set_before) = cheapest_before(candidates, &covers);
+        self.times += 1;
         self.other_costs += usize::from(cost != cost_before);
         self.other_sets += usize::from(set != set_before);
-        match reference::rival(&table, &candidates) {
-            Some(least) if least == cost => self.rivals += 1,
+        match reference::rival(table, candidates) {
+            Some(least) if least == cost => {
+                self.rivals += 1;
+                let changed = format::come_and_go(&job[..query.at]);
+                self.rivals_behind_changes += usize::from(changed);
+            }
             Some(_) => self.beaten = self.beaten.take().or(Some(job.to_vec())),
             None => {}
         }
@@ -118,26 +185,25 @@ impl Cheapest {
 
     fn print(&self) {
         println!(
-            "{} drawn jobs ask C: K1 changed the cost in {} and the set in {}, \
-             {} were held to the rival",
-            self.jobs, self.other_costs, self.other_sets, self.rivals
+            "{} cheapest of drawn jobs: K1 changed the cost of {} and the set of {}, \
+             {} were held to the rival, {} of these behind A or D",
+            self.times, self.other_costs, self.other_sets, self.rivals, self.rivals_behind_changes
         );
     }
 
     fn complaints(&self) -> Vec<String> {
-        let mut list = Vec::new();
-        for (times, what) in [
+        let mut list = never(&[
             (
                 self.other_costs,
                 "K1 never changed the cost of the cheapest",
             ),
             (self.other_sets, "K1 never changed the set of the cheapest"),
             (self.rivals, "no cheapest was held to the rival"),
-        ] {
-            if times == 0 {
-                list.push(what.into());
-            }
-        }
+            (
+                self.rivals_behind_changes,
+                "no cheapest behind A or D was held to the rival",
+            ),
+        ]);
         let beaten = self.beaten.iter();
         list.extend(beaten.map(|job| format!("the cost is not the rival's: {}", hex(job))));
         list

@@ -3,7 +3,7 @@
 use super::bytes::{full, likely_byte, likely_bytes};
 use super::draft::{case, plain_case, Draft};
 use super::sound::sound;
-use super::tables::sizes;
+use super::tables::{sizes, MOST_TERMS};
 use super::Case;
 use crate::format::{find, Command, Operand, Part, COMMANDS};
 use crate::rng::Rng;
@@ -21,6 +21,8 @@ fn wild_operand(rng: &mut Rng, operand: Operand, (n, m): (usize, usize)) -> Vec<
         Operand::Size => vec![rng.pick(&[0, 1, 2, 3, 8, 9, 255])],
         Operand::Inputs => masked(n),
         Operand::Outputs => masked(m),
+        Operand::Candidate if rng.chance(3, 4) => vec![rng.below(MOST_TERMS) as u8],
+        Operand::Candidate => likely_bytes(rng, 1),
         Operand::Number(bytes) => likely_bytes(rng, bytes),
     }
 }
@@ -74,7 +76,7 @@ fn damage_commands(rng: &mut Rng, draft: &mut Draft) {
             draft.commands.insert(rng.below(count + 1), command);
         }
         5 => spoil(rng, draft, Part::Rows),
-        6 => spoil(rng, draft, Part::Terms),
+        6 => spoil(rng, draft, Part::Candidates),
         7 => spoil(rng, draft, Part::Other),
         _ => rng.shuffle(&mut draft.commands),
     }

@@ -50,6 +50,16 @@ pub fn term(care: u8, value: u8, outputs: u8) -> Vec<u8> {
     vec![b'T', care, value, outputs]
 }
 
+/// A: the term comes in behind the standing candidates.
+pub fn come(care: u8, value: u8, outputs: u8) -> Vec<u8> {
+    vec![b'A', care, value, outputs]
+}
+
+/// D: the candidate with this number goes.
+pub fn go(number: u8) -> Vec<u8> {
+    vec![b'D', number]
+}
+
 pub fn page(start: u64, count: u8) -> Vec<u8> {
     let mut command = vec![b'L'];
     command.extend(start.to_le_bytes());

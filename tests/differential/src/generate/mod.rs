@@ -3,15 +3,17 @@
 //! says where a new one is added.
 
 mod bytes;
+mod changes;
 mod damage;
 mod draft;
 mod purpose;
+mod purpose_changes;
 mod queries;
 mod sound;
 mod sweeps;
 mod tables;
 
-pub use draft::{draft, page, row, term, Draft};
+pub use draft::{come, draft, go, page, row, term, Draft};
 pub use purpose::on_purpose;
 pub use tables::{random_table, terms_for};
 

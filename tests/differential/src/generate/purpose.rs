@@ -2,10 +2,11 @@
 
 use super::bytes::full;
 use super::draft::{draft, page, row, term, Draft};
+use super::purpose_changes;
 use super::sweeps::{every_byte, every_cut, every_room};
 use super::tables::{random_table, rows};
 use super::Case;
-use crate::format::{Command, COMMANDS};
+use crate::format::{find, Command, COMMANDS};
 use crate::reference::LONGEST;
 use crate::rng::Rng;
 use crate::selftest;
@@ -21,15 +22,16 @@ pub fn on_purpose(rng: &mut Rng) -> Vec<Case> {
     of_many_primes(rng, &mut list);
     of_many_sets(&mut list);
     of_places(&mut list);
+    purpose_changes::of_changes(rng, &mut list);
     list
 }
 
-fn add_bytes(list: &mut Vec<Case>, job: Vec<u8>, room: usize) {
+pub fn add_bytes(list: &mut Vec<Case>, job: Vec<u8>, room: usize) {
     let behind = vec![b'E'];
     list.push(Case { job, behind, room });
 }
 
-fn add(list: &mut Vec<Case>, draft: &Draft, room: usize) {
+pub fn add(list: &mut Vec<Case>, draft: &Draft, room: usize) {
     add_bytes(list, draft.job(), room);
 }
 
@@ -101,15 +103,15 @@ fn of_lengths(list: &mut Vec<Case>) {
     }
 }
 
-fn primes() -> Vec<Vec<u8>> {
+pub fn primes() -> Vec<Vec<u8>> {
     vec![vec![b'P']]
 }
 
-fn minterms(count: u8) -> Vec<Vec<u8>> {
+pub fn minterms(count: u8) -> Vec<Vec<u8>> {
     (0..count).map(|v| term(63, v, 1)).collect()
 }
 
-fn all_wanted(n: u8, m: usize) -> Vec<Vec<u8>> {
+pub fn all_wanted(n: u8, m: usize) -> Vec<Vec<u8>> {
     (0..1u16 << n).map(|v| row(v as u8, full(m), 0)).collect()
 }
 
@@ -186,13 +188,20 @@ fn of_many_sets(list: &mut Vec<Case>) {
     }
 }
 
-/// Every command at every place: all jobs of up to three commands, behind I and without it.
+/// The commands with these letters, each with its good operands.
+pub fn spelled(letters: &str) -> Vec<u8> {
+    let sample = |byte| find(byte).expect("a command").sample();
+    letters.bytes().flat_map(sample).collect()
+}
+
+/// Every command at every place: all jobs of up to three commands, without I, behind it and
+/// behind I and R, where the sample term is legal.
 fn of_places(list: &mut Vec<Case>) {
     let longer = |job: &Vec<u8>| {
         let one_more = |command: &Command| [job.clone(), command.sample()].concat();
         COMMANDS.iter().map(one_more).collect::<Vec<_>>()
     };
-    let mut jobs = vec![vec![], COMMANDS[0].sample()];
+    let mut jobs = vec![vec![], spelled("I"), spelled("IR")];
     let mut all = jobs.clone();
     for _ in 0..3 {
         jobs = jobs.iter().flat_map(longer).collect();

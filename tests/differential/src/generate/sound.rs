@@ -1,10 +1,11 @@
 //! Sound jobs: the commands stand in their order, and their operands are good.
 
-use super::draft::{draft, plain_case, term, Draft};
+use super::changes::Candidates;
+use super::draft::{draft, plain_case, Draft};
 use super::queries::queries;
 use super::tables::{random_table, rows, sizes, table_of_terms, terms_for, MOST_TERMS};
 use super::Case;
-use crate::reference::{self, irredundant_covers, Covers, Table, Term, LONGEST};
+use crate::reference::{irredundant_covers, Covers, Table, Term, LONGEST};
 use crate::rng::Rng;
 
 pub fn case(rng: &mut Rng) -> Case {
@@ -12,44 +13,52 @@ pub fn case(rng: &mut Rng) -> Case {
     plain_case(rng, &draft)
 }
 
-/// A job that keeps to the order of commands. Now and then a wanted cell stays unheld.
+/// A job that keeps to the order of commands. Now and then a wanted cell stays unheld. In every
+/// second one the candidates come and go.
 pub fn sound(rng: &mut Rng) -> Draft {
     let (n, m) = sizes(rng);
-    let by_primes = rng.chance(1, 3);
-    let (table, mut list) = if by_primes || rng.chance(1, 2) {
+    let moving = rng.chance(1, 2);
+    let (table, list) = table_and_terms(rng, n, m);
+    let mut candidates = match list {
+        None => Candidates::of_primes(&table),
+        Some(list) if moving => Candidates::of_changes(rng, &table, &list),
+        Some(list) => Candidates::of_terms(&table, &list),
+    };
+    let mut commands = rows(rng, &table);
+    let rounds = if moving { rng.between(1, 4) } else { 1 };
+    for round in 0..rounds {
+        if moving && (round > 0 || rng.chance(1, 2)) {
+            candidates.change(rng);
+        }
+        commands.extend(candidates.commands());
+        commands.extend(asked(rng, &table, &candidates.standing));
+    }
+    draft(n as u8, m as u8, [commands])
+}
+
+/// A table, and terms for it or None where its primes are to be the candidates.
+fn table_and_terms(rng: &mut Rng, n: usize, m: usize) -> (Table, Option<Vec<Term>>) {
+    if rng.chance(1, 3) {
+        return (random_table(rng, n, m), None);
+    }
+    let (table, mut list) = if rng.chance(1, 2) {
         let table = random_table(rng, n, m);
-        let list = if by_primes {
-            table.primes()
-        } else {
-            terms_for(rng, &table, MOST_TERMS)
-        };
+        let list = terms_for(rng, &table, MOST_TERMS);
         (table, list)
     } else {
         table_of_terms(rng, n, m)
     };
-    if !by_primes && rng.chance(1, 12) {
+    if rng.chance(1, 12) {
         list.pop();
     }
-    let asked = match known_covers(&table, &list) {
-        Covers::TooMany => Vec::new(),
-        Covers::None => queries(rng, &[], list.len()),
-        Covers::All(covers) => queries(rng, &covers, list.len()),
-    };
-    let commands = |t: &Term| term(t.care, t.value, t.outputs);
-    let candidates = if by_primes {
-        vec![vec![b'P']]
-    } else {
-        list.iter().map(commands).collect()
-    };
-    draft(n as u8, m as u8, [rows(rng, &table), candidates, asked])
+    (table, Some(list))
 }
 
-/// More candidates than allowed have no sets; their job is refused before it asks.
-fn known_covers(table: &Table, list: &[Term]) -> Covers {
-    if list.len() > reference::MOST_CANDIDATES {
-        Covers::None
-    } else {
-        irredundant_covers(table, list)
+fn asked(rng: &mut Rng, table: &Table, standing: &[Term]) -> Vec<Vec<u8>> {
+    match irredundant_covers(table, standing) {
+        Covers::TooMany => Vec::new(),
+        Covers::None => queries(rng, &[], standing.len()),
+        Covers::All(covers) => queries(rng, &covers, standing.len()),
     }
 }
 

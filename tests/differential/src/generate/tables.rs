@@ -43,7 +43,7 @@ pub fn random_table(rng: &mut Rng, n: usize, m: usize) -> Table {
 }
 
 /// A legal term that holds the cell, which is not off: a cube grown from the vertex.
-fn grow(rng: &mut Rng, table: &Table, v: usize, j: usize) -> Term {
+pub fn grow(rng: &mut Rng, table: &Table, v: usize, j: usize) -> Term {
     let mut care = full(table.n);
     let mut inputs: Vec<usize> = (0..table.n).collect();
     rng.shuffle(&mut inputs);
@@ -64,6 +64,12 @@ fn grow(rng: &mut Rng, table: &Table, v: usize, j: usize) -> Term {
     }
 }
 
+/// The cells that a legal term may hold, wanted or free.
+pub fn cells_to_hold(table: &Table) -> Vec<(usize, usize)> {
+    let on_or_free = |&(v, j): &(usize, usize)| (table.on[v] | table.dc[v]) >> j & 1 == 1;
+    table.cells().filter(on_or_free).collect()
+}
+
 /// Legal terms that hold the wanted cells, as long as `most` are enough, and some more.
 pub fn terms_for(rng: &mut Rng, table: &Table, most: usize) -> Vec<Term> {
     let mut wanted = table.wanted_cells();
@@ -75,8 +81,7 @@ pub fn terms_for(rng: &mut Rng, table: &Table, most: usize) -> Vec<Term> {
         }
     }
     let more = rng.below(most - list.len() + 1);
-    let on_or_free = |&(v, j): &(usize, usize)| (table.on[v] | table.dc[v]) >> j & 1 == 1;
-    let cells: Vec<(usize, usize)> = table.cells().filter(on_or_free).collect();
+    let cells = cells_to_hold(table);
     for _ in 0..more {
         if !list.is_empty() && rng.chance(1, 6) {
             list.push(rng.pick(&list));

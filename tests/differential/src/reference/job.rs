@@ -32,9 +32,11 @@ struct Problem {
     table: Option<Table>,
     has_row: [bool; 256],
     candidates: Vec<Term>,
+    /// T or A: an A counts as a T, even if its candidate has gone again.
     terms_came: bool,
     primes_came: bool,
     queries_came: bool,
+    /// The covers by the standing candidates, once they are asked for.
     covers: Option<Covers>,
 }
 
@@ -71,15 +73,41 @@ pub fn run(job: &[u8], buffer: &[u8]) -> Option<Outcome> {
     }
 }
 
-/// Table and candidates that a job sets before it asks, and that stand still from then on; None
-/// when it stops before that.
-pub fn problem(job: &[u8]) -> Option<(Table, Vec<Term>)> {
+/// An L or C of a job: its offset and bytes, the candidates that stand there, and its answer.
+pub struct Query {
+    pub at: usize,
+    pub command: Vec<u8>,
+    pub candidates: Vec<Term>,
+    pub answer: Vec<u8>,
+}
+
+/// The table of a job and its L and C commands.
+pub struct Asked {
+    pub table: Table,
+    pub queries: Vec<Query>,
+}
+
+/// What a job asks; None when it is refused, and when it is more work than the reference takes on.
+pub fn asked(job: &[u8]) -> Option<Asked> {
     let mut problem = Problem::new();
+    let mut queries = Vec::new();
     let mut at = 0;
-    while !matches!(job.get(at)?, b'L' | b'C' | b'E') {
-        at += problem.command(job, at, LONGEST).ok()?.0;
+    loop {
+        let (width, answer) = problem.command(job, at, LONGEST).ok()?;
+        match job[at] {
+            b'L' | b'C' => queries.push(Query {
+                at,
+                command: job[at..at + width].to_vec(),
+                candidates: problem.candidates.clone(),
+                answer,
+            }),
+            b'E' => break,
+            _ => {}
+        }
+        at += width;
     }
-    Some((problem.table?, problem.candidates))
+    let table = problem.table?;
+    Some(Asked { table, queries })
 }
 
 fn refuse_if(wrong: bool, number: u64) -> Result<(), Stop> {
@@ -103,7 +131,7 @@ impl Problem {
         }
     }
 
-    /// One command with its refusals in the order of their numbers: its width and answer.
+    /// One command with its refusals in the order in which they are tried: its width and answer.
     fn command(&mut self, job: &[u8], at: usize, free: usize) -> Result<(usize, Vec<u8>), Stop> {
         let Some(&byte) = job.get(at) else {
             return Err(Stop::Refused(2));
@@ -118,7 +146,8 @@ impl Problem {
         let answer = match byte {
             b'I' => self.sizes(ops)?,
             b'R' => self.row(ops)?,
-            b'T' => self.term(ops)?,
+            b'T' | b'A' => self.term(ops)?,
+            b'D' => self.take_out(ops)?,
             b'P' => self.primes()?,
             b'L' => self.page(ops)?,
             b'C' => self.cheapest()?,
@@ -138,7 +167,7 @@ impl Problem {
             b'I' => self.table.is_none(),
             b'R' | b'P' => self.table.is_some() && candidates_open && !self.terms_came,
             b'T' => self.table.is_some() && candidates_open,
-            b'L' | b'C' | b'E' => self.table.is_some(),
+            b'A' | b'D' | b'L' | b'C' | b'E' => self.table.is_some(),
             _ => unreachable!("format.rs has a command that has no place here"),
         }
     }
@@ -178,6 +207,16 @@ impl Problem {
         refuse_if(self.candidates.len() == MOST_CANDIDATES, 11)?;
         self.candidates.push(t);
         self.terms_came = true;
+        self.covers = None;
+        Ok(Vec::new())
+    }
+
+    /// The candidates above move down by one.
+    fn take_out(&mut self, ops: &[u8]) -> Result<Vec<u8>, Stop> {
+        let number = usize::from(ops[0]);
+        refuse_if(number >= self.candidates.len(), 15)?;
+        self.candidates.remove(number);
+        self.covers = None;
         Ok(Vec::new())
     }
 
@@ -193,7 +232,7 @@ impl Problem {
         Ok(answer)
     }
 
-    /// Table and candidates stand still from the first L or C on, so the covers are found once.
+    /// The covers are found once, and anew when the candidates have changed since.
     fn covers(&mut self) -> Result<&[u64], Stop> {
         self.queries_came = true;
         let table = self.table.as_ref().expect("I came first");

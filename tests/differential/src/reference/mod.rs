@@ -9,6 +9,6 @@ mod table;
 pub use covers::{
     cheapest, cost, covers_by_products, covers_by_subsets, irredundant_covers, sums, Covers,
 };
-pub use job::{problem, run, Outcome, LONGEST, MOST_CANDIDATES};
+pub use job::{asked, run, Asked, Outcome, Query, LONGEST, MOST_CANDIDATES};
 pub use rival::{least_cost, rival};
 pub use table::{Table, Term};

@@ -1,0 +1,110 @@
+//! What K2 promises of an accepted job, asked of the engine: each L and C answers as in a fresh job
+//! with the standing candidates in the standing order, and pages are joined over further jobs that
+//! have the same A and D commands before them.
+
+use crate::engine;
+use crate::format::{self, cut, sets};
+use crate::generate::{page, term, Case};
+use crate::reference::{self, Asked, Covers, Query, Term, LONGEST};
+use crate::report::{hex, matches};
+
+/// The most bytes that P, one page and E answer with.
+const PRIMES_PAGE_END: usize = (2 + 3 * 64) + (3 + 8 * 255) + 1;
+
+/// How many L and C commands were held to a fresh job, and how many lists, each of two pages or
+/// more, were joined over further jobs.
+#[derive(Default)]
+pub struct Held {
+    pub queries: usize,
+    pub lists: usize,
+}
+
+/// Holds an accepted job whose candidates come and go to the promise. Its answers are the
+/// reference's by now.
+pub fn check(job: &[u8], asked: &Asked) -> Result<Held, String> {
+    let mut held = Held::default();
+    if !format::come_and_go(job) {
+        return Ok(held);
+    }
+    let table = kept(job, |byte| b"IR".contains(&byte));
+    for query in &asked.queries {
+        as_in_a_fresh_job(&table, query)?;
+        held.queries += 1;
+    }
+    let written: usize = asked.queries.iter().map(|query| query.answer.len()).sum();
+    if written + PRIMES_PAGE_END > LONGEST {
+        return Ok(held);
+    }
+    for (i, query) in asked.queries.iter().enumerate() {
+        if i == 0 || query.candidates != asked.queries[i - 1].candidates {
+            held.lists += usize::from(joined_over_jobs(job, asked, query)? > 1);
+        }
+    }
+    Ok(held)
+}
+
+/// The commands that begin with such a byte.
+fn kept(job: &[u8], keep: impl Fn(u8) -> bool) -> Vec<u8> {
+    let mut commands = cut(job).expect("an accepted job is a list of commands");
+    commands.retain(|command| keep(command[0]));
+    commands.concat()
+}
+
+/// The table, a T for each standing candidate, the query and E.
+fn as_in_a_fresh_job(table: &[u8], query: &Query) -> Result<(), String> {
+    let by_term = |t: &Term| term(t.care, t.value, t.outputs);
+    let terms: Vec<u8> = query.candidates.iter().flat_map(by_term).collect();
+    let answers = [query.answer.as_slice(), &[0x65]].concat();
+    let case = Case {
+        job: [table, &terms, &query.command, b"E"].concat(),
+        behind: Vec::new(),
+        room: answers.len(),
+    };
+    let before = engine::pattern(case.room, 0x69);
+    let expected = reference::run(&case.job, &before).ok_or("no reference of a fresh job")?;
+    let same = expected.number == 0 && expected.buffer == answers;
+    if same && matches(&expected, &engine::call(&case, &before)) {
+        return Ok(());
+    }
+    let (at, fresh) = (query.at, hex(&case.job));
+    Err(format!(
+        "a fresh job answers otherwise than offset {at}: {fresh}"
+    ))
+}
+
+/// The list at this query in pages of half its sets, each page in a further job; how many pages.
+fn joined_over_jobs(job: &[u8], asked: &Asked, query: &Query) -> Result<usize, String> {
+    let list = match reference::irredundant_covers(&asked.table, &query.candidates) {
+        Covers::All(list) => list,
+        _ => return Err("no list where L or C was answered".into()),
+    };
+    let count = list.len().div_ceil(2).clamp(1, 255) as u8;
+    // The same A and D commands stand in both, with the L and C commands between them and without.
+    let whole = &job[..query.at];
+    let quiet = kept(whole, |byte| !b"LC".contains(&byte));
+    let heads = [whole, &quiet];
+    let mut got: Vec<u64> = Vec::new();
+    for (pages, head) in heads.iter().cycle().enumerate() {
+        let start = got.last().map_or(0, |last| last.saturating_add(1));
+        let answer = page_behind(head, &page(start, count))?;
+        let more = answer[2] != 0 && answer.len() > 3;
+        got.extend(sets(&answer));
+        if !more || got.len() > list.len() {
+            let wrong = || format!("joined pages are not the list at offset {}", query.at);
+            return (got == list).then_some(pages + 1).ok_or_else(wrong);
+        }
+    }
+    unreachable!("the heads take turns without end")
+}
+
+/// The answer of a page behind a head.
+fn page_behind(head: &[u8], page: &[u8]) -> Result<Vec<u8>, String> {
+    let mut before = engine::answers(&[head, b"E"].concat())?;
+    let mut with = engine::answers(&[head, page, b"E"].concat())?;
+    // E's answer ends both.
+    before.pop();
+    with.pop();
+    let own = with.strip_prefix(before.as_slice());
+    let own = own.filter(|answer| answer.len() >= 3 && answer[0] == 0x6c);
+    own.map(<[u8]>::to_vec).ok_or("a page is too short".into())
+}
