@@ -5,7 +5,7 @@
  * answer buffer, and one number tells how it ended.
  *
  * What is promised
- *   - Every job ends: it is accepted, or it is refused with one of the numbers 1 to 14.
+ *   - Every job ends: it is accepted, or it is refused with one of the numbers 1 to 15.
  *   - Accepted: the number is 0, the offset is the job's length, and each command with an
  *     answer has put it into the answer buffer, in the order of the commands.
  *   - Refused: the offset is that of the first byte of the command that was refused, and
@@ -28,15 +28,27 @@
  *
  * The commands, each one byte with operands of fixed width, numbers low byte first:
  *   COVER_SIZES     n, m                   first, once; each 1 to 8
- *   COVER_ROW       vertex, on, dc         before any term, primes, list or cheapest
- *   COVER_TERM      care, value, outputs   adds a candidate; not after primes, list or cheapest
- *   COVER_PRIMES                           the primes become the candidates; once, no term before
- *                                          it, not after list or cheapest
+ *   COVER_ROW       vertex, on, dc         before any term, add, primes, list or cheapest
+ *   COVER_TERM      care, value, outputs   adds a candidate at the end; not after primes, list or
+ *                                          cheapest
+ *   COVER_PRIMES                           the primes become the candidates; once, no term or add
+ *                                          before it, not after list or cheapest
+ *   COVER_ADD       care, value, outputs   adds a candidate at the end; anywhere, also after
+ *                                          primes, list or cheapest
+ *   COVER_REMOVE    number                 takes this candidate out, and those above it move down
+ *                                          by one; anywhere, as an add
  *   COVER_LIST      start (8 bytes), count (1)
  *   COVER_CHEAPEST
  *   COVER_END                              last
+ * An operand is one byte unless its width is given. Where nothing else is said, a command may
+ * stand anywhere behind COVER_SIZES and before COVER_END. For the places of row and primes an add
+ * counts even if its candidate has been taken out again. A term may follow an add or a remove as
+ * long as no primes, list or cheapest came.
  *
- * The answers, numbers low byte first:
+ * The candidates have the numbers from 0 on, in the order in which they came; at most 64 stand at
+ * a time, and equal ones are allowed.
+ *
+ * The answers, numbers low byte first; the other commands have none:
  *   COVER_PRIMES    0x70, count (1 byte), then care, value and outputs of each prime
  *   COVER_LIST      0x6C, sets k (1 byte), more (0 or 1), then k times 8 bytes: the
  *                   irredundant covers at or above start, rising, none skipped, at most count.
@@ -47,12 +59,16 @@
  *                   care) costs 1, one with more costs 1 plus its literals; a set costs the sum
  *                   over its members.
  *   COVER_END       0x65
- * Bit i of a set stands for candidate i: the i-th term of the job, or the i-th prime.
+ * Bit i of a set stands for candidate i of those that stand at the command, as the terms, primes,
+ * adds and removes before it leave them. List and cheapest answer as in a fresh job that has
+ * these candidates, in this order, as its terms.
  *
  * Paging: the first page starts at 0, each further one at one above the last set of the page
  * before; a page without sets leaves the start as it was. No page follows one that says no
  * more. Where a job or an answer buffer is too short for all pages, a further job sets the same
- * table and the same candidates in the same order anew and goes on.
+ * table and the same candidates in the same order anew, by the same adds and removes, and goes
+ * on. Pages are joined only where the same adds and removes stand before each, in a further job
+ * too: behind one more of them the list is another one, and its first page starts at 0.
  *
  * A job is put together by the cover_put functions, and its answers are read one by one:
  *
@@ -87,6 +103,8 @@ enum cover_command {
     COVER_ROW = 0x52,      /* R */
     COVER_TERM = 0x54,     /* T */
     COVER_PRIMES = 0x50,   /* P */
+    COVER_ADD = 0x41,      /* A */
+    COVER_REMOVE = 0x44,   /* D */
     COVER_LIST = 0x4C,     /* L */
     COVER_CHEAPEST = 0x43, /* C */
     COVER_END = 0x45       /* E */
@@ -97,6 +115,8 @@ enum cover_command {
 #define COVER_ROW_BYTES 4u
 #define COVER_TERM_BYTES 4u
 #define COVER_PRIMES_BYTES 1u
+#define COVER_ADD_BYTES 4u
+#define COVER_REMOVE_BYTES 2u
 #define COVER_LIST_BYTES 10u
 #define COVER_CHEAPEST_BYTES 1u
 #define COVER_END_BYTES 1u
@@ -115,7 +135,10 @@ enum cover_answer {
 #define COVER_CHEAPEST_ANSWER_BYTES 11u
 #define COVER_END_ANSWER_BYTES 1u
 
-/* How a job ended. Where several apply at one command, the smallest number is given. */
+/*
+ * How a job ended. At each command the refusals are tried in the order in which they stand here,
+ * 15 right after 5, and the first that applies is given.
+ */
 enum cover_refusal {
     COVER_ACCEPTED = 0,
     COVER_TOO_LONG = 1,         /* the job or the answer buffer is longer than 32,768 bytes */
@@ -123,19 +146,20 @@ enum cover_refusal {
     COVER_NO_COMMAND = 3,       /* the byte is no command */
     COVER_WRONG_PLACE = 4,      /* the command is not allowed at this place */
     COVER_NO_OPERANDS = 5,      /* operand bytes are missing */
+    COVER_WRONG_CANDIDATE = 15, /* no candidate has the number that is to be removed */
     COVER_WRONG_SIZES = 6,      /* n or m is outside 1 to 8 */
     COVER_WRONG_VERTEX = 7,     /* the vertex is 2^n or more, or has a row already */
     COVER_WRONG_ROW = 8,        /* on and dc share a bit, or one has bit m or above */
     COVER_MALFORMED_TERM = 9,   /* a care bit n or above, a value bit outside care, outputs 0,
                                    or an output bit m or above */
     COVER_OFF_CELL = 10,        /* the term holds an off cell */
-    COVER_TOO_MANY = 11,        /* a 65th candidate, or more than 64 primes */
+    COVER_TOO_MANY = 11,        /* a 65th standing candidate, or more than 64 primes */
     COVER_UNHELD_CELL = 12,     /* a wanted cell is held by no candidate */
     COVER_BYTES_AFTER_END = 13, /* bytes follow the end command; its answer isn't written */
     COVER_NO_ROOM = 14          /* the answer is longer than the free part of the buffer */
 };
 
-#define COVER_LAST_REFUSAL 14u /* the largest number */
+#define COVER_LAST_REFUSAL 15u /* the largest number */
 
 /* Runs a job. Gives number * 2^32 + offset * 2^16 + written. */
 uint64_t cover_job(const uint8_t *job, size_t job_len, uint8_t *answers, size_t answers_len);
@@ -209,6 +233,22 @@ static inline size_t cover_put_term(uint8_t *at, unsigned care, unsigned value, 
     return COVER_TERM_BYTES;
 }
 
+static inline size_t cover_put_add(uint8_t *at, unsigned care, unsigned value, unsigned outputs)
+{
+    at[0] = COVER_ADD;
+    at[1] = (uint8_t)care;
+    at[2] = (uint8_t)value;
+    at[3] = (uint8_t)outputs;
+    return COVER_ADD_BYTES;
+}
+
+static inline size_t cover_put_remove(uint8_t *at, unsigned number)
+{
+    at[0] = COVER_REMOVE;
+    at[1] = (uint8_t)number;
+    return COVER_REMOVE_BYTES;
+}
+
 static inline size_t cover_put_list(uint8_t *at, uint64_t start, unsigned count)
 {
     at[0] = COVER_LIST;
@@ -225,6 +265,8 @@ static inline size_t cover_command_bytes(uint8_t byte)
     case COVER_ROW: return COVER_ROW_BYTES;
     case COVER_TERM: return COVER_TERM_BYTES;
     case COVER_PRIMES: return COVER_PRIMES_BYTES;
+    case COVER_ADD: return COVER_ADD_BYTES;
+    case COVER_REMOVE: return COVER_REMOVE_BYTES;
     case COVER_LIST: return COVER_LIST_BYTES;
     case COVER_CHEAPEST: return COVER_CHEAPEST_BYTES;
     case COVER_END: return COVER_END_BYTES;
