@@ -1,5 +1,6 @@
 /*
- * What single commands cost: I, R and T of 2 and of 8 inputs, in the engine and in the one that it is compared with.
+ * What single commands cost: I, R, T, A and D of 2 and of 8 inputs, in the engine and in the one that it is compared
+ * with.
  *
  *   commands time ROUNDS        nanoseconds for each command, the best of the rounds
  *   commands jobs               the numbers of the jobs
@@ -7,9 +8,11 @@
  *   commands once PROGRAM JOB   one call, for a tool that counts
  *   commands instructions       the same table from lines "JOB PROGRAM COUNT" on standard input
  *
- * For each size three jobs are run: I and E; I, a row for each vertex and E; the same with terms. A row costs what the
- * second takes above the first, divided by the rows; a term what the third takes above the second. For I the first
- * is shown whole: the call, I and E.
+ * For each size five jobs are run: I and E; I, a row for each vertex and E; the same with terms; the same with the terms
+ * put in by A; and this with the first candidate taken out, so that all others move, until none is left. A row costs what
+ * the second takes above the first, divided by the rows; a T and an A what the third and the fourth take above the
+ * second, a D what the fifth takes above the fourth. For I the first is shown whole: the call, I and E. Where a former
+ * library does not know A and D, they are left out.
  */
 #define _GNU_SOURCE
 #include <stdio.h>
@@ -20,8 +23,8 @@
 #include "job.h"
 #include "other.h"
 
-/* Jobs come by threes, one three for each size. */
-enum { SIZES = 2, KINDS = 3, JOBS = SIZES * KINDS, PROGRAMS = 2 };
+/* Jobs come by fives, one five for each size. */
+enum { SIZES = 2, KINDS = 5, WITHOUT_A_AND_D = 3, JOBS = SIZES * KINDS, PROGRAMS = 2 };
 
 static const unsigned inputs[SIZES] = {2, 8};
 
@@ -31,6 +34,7 @@ typedef struct {
 } Sample;
 
 static Sample samples[JOBS];
+static int kinds = KINDS; /* how many of the five both programs know */
 static uint8_t answers[LONGEST];
 
 typedef uint64_t (*Engine)(const uint8_t *, size_t, uint8_t *, size_t);
@@ -55,7 +59,10 @@ static void make(Sample *s, unsigned n, int kind)
         job->len += cover_put_row(job->bytes + job->len, v, on | 1, dc);
     }
     for (unsigned v = 0; v < s->terms; v++)
-        job->len += cover_put_term(job->bytes + job->len, all, v, 1);
+        job->len += kind == 2 ? cover_put_term(job->bytes + job->len, all, v, 1)
+                              : cover_put_add(job->bytes + job->len, all, v, 1);
+    for (unsigned v = 0; kind == 4 && v < s->terms; v++)
+        job->len += cover_put_remove(job->bytes + job->len, 0);
     put_end(job);
 }
 
@@ -80,19 +87,21 @@ static void print_line(const char *command, unsigned n, const double taken[PROGR
     printf("%-12s %6u  %10.1f  %10.1f  %6.2f\n", command, n, taken[0], taken[1], taken[0] / taken[1]);
 }
 
-/* By the costs of the three jobs of each size, in any unit. */
+/* By the costs of the jobs of each size, in any unit. */
 static void print_table(double costs[JOBS][PROGRAMS], const char *unit)
 {
     printf("%-12s %6s  %10s  %10s  %6s   %s\n", "command", "inputs", "engine", OTHER, "ratio", unit);
     for (int s = 0; s < SIZES; s++) {
-        double (*of)[PROGRAMS] = costs + KINDS * s, row[PROGRAMS], term[PROGRAMS];
-        for (int p = 0; p < PROGRAMS; p++) {
-            row[p] = (of[1][p] - of[0][p]) / samples[KINDS * s + 1].rows;
-            term[p] = (of[2][p] - of[1][p]) / samples[KINDS * s + 2].terms;
+        double (*of)[PROGRAMS] = costs + KINDS * s, one[KINDS][PROGRAMS];
+        static const char *const command[KINDS] = {"I and E", "R", "T", "A", "D"};
+        static const int above[KINDS] = {0, 0, 1, 1, 3};
+        print_line(command[0], inputs[s], of[0]);
+        for (int k = 1; k < kinds; k++) {
+            const Sample *sample = &samples[KINDS * s + k];
+            for (int p = 0; p < PROGRAMS; p++)
+                one[k][p] = (of[k][p] - of[above[k]][p]) / (k == 1 ? sample->rows : sample->terms);
+            print_line(command[k], inputs[s], one[k]);
         }
-        print_line("I and E", inputs[s], of[0]);
-        print_line("R", inputs[s], row);
-        print_line("T", inputs[s], term);
     }
 }
 
@@ -101,7 +110,7 @@ static int print_times(int rounds)
     static double best[JOBS][PROGRAMS];
     for (int r = 0; r < rounds; r++)
         for (int j = 0; j < JOBS; j++)
-            for (int p = 0; p < PROGRAMS; p++) {
+            for (int p = 0; p < PROGRAMS && j % KINDS < kinds; p++) {
                 double took = 1e9 * timed(p, &samples[j]);
                 if (r == 0 || took < best[j][p])
                     best[j][p] = took;
@@ -120,19 +129,19 @@ static int print_instructions(void)
             counts[job][program] = count;
             lines++;
         }
-    if (lines != JOBS * PROGRAMS) {
-        fprintf(stderr, "commands: %d counts, and not %d\n", lines, JOBS * PROGRAMS);
+    if (lines != SIZES * kinds * PROGRAMS) {
+        fprintf(stderr, "commands: %d counts, and not %d\n", lines, SIZES * kinds * PROGRAMS);
         return 2;
     }
     print_table(counts, "instructions");
     return 0;
 }
 
-/* Every job is accepted by both; else there is nothing to measure. */
-static bool all_accepted(void)
+/* The first jobs of each size are accepted by both; else there is nothing to measure. */
+static bool all_accepted(int first)
 {
     for (int j = 0; j < JOBS; j++)
-        for (int p = 0; p < PROGRAMS; p++)
+        for (int p = 0; p < PROGRAMS && j % KINDS < first; p++)
             if (cover_number(run(p, &samples[j])) != COVER_ACCEPTED)
                 return false;
     return true;
@@ -157,14 +166,17 @@ int main(int argc, char **argv)
         make(&samples[j], inputs[j / KINDS], j % KINDS);
     if (strcmp(what, "once") == 0 || strcmp(what, "name") == 0)
         return one(argc, argv);
-    if (strcmp(what, "jobs") == 0) {
-        for (int j = 0; j < JOBS; j++)
-            printf("%d\n", j);
-        return 0;
-    }
-    if (!all_accepted()) {
+    if (!all_accepted(WITHOUT_A_AND_D)) {
         fprintf(stderr, "commands: a job is refused\n");
         return 2;
+    }
+    if (!all_accepted(KINDS))
+        kinds = WITHOUT_A_AND_D;
+    if (strcmp(what, "jobs") == 0) {
+        for (int j = 0; j < JOBS; j++)
+            if (j % KINDS < kinds)
+                printf("%d\n", j);
+        return 0;
     }
     if (strcmp(what, "instructions") == 0)
         return print_instructions();

@@ -2,11 +2,10 @@
 use mathlib.Core.Path.{_≡_, sym, subst}
 use mathlib.Core.Logic.{⊎-elim}
 use mathlib.Core.Bool.{Bool, true, false}
-use Prim.Native.Nat.{ℕ, _≤_}
-use native.Mathlib.Decide.{decLt}
+use Prim.Native.Nat.{ℕ}
 use native.Mathlib.Omega.{arith}
-use lib.Dec.{eqb, leb}
-use borrow.Author.Tests.{eq-eqb, ne-eqb, le-leb, lt-leb}
+use lib.Dec.{eqb}
+use borrow.Author.Tests.{eq-eqb, ne-eqb}
 use Rattle.bits.specs.Bits.{Decides}
 use Rattle.bits.proofs.Digits.{eq?}
 
@@ -34,10 +33,3 @@ says-eqb P a b f g =
     ⊎-elim (λ e. subst (Decides P) (sym (eq-eqb a b e)) (says-true P (f e)))
     (λ n. subst (Decides P) (sym (ne-eqb a b n)) (says-false P (λ p. n (g p))))
     (eq? a b)
-
-pub says-leb : (P : Type 0) (a b : ℕ) → (a ≤ b → P) → (P → a ≤ b) → Decides P (leb a b)
-says-leb P a b f g =
-    elim (decLt b a) [
-      | yes lt ↦ subst (Decides P) (sym (lt-leb a b lt)) (says-false P (λ p. let le : a ≤ b = g p in omega arith))
-      | no ge ↦ let le : a ≤ b = omega arith in subst (Decides P) (sym (le-leb a b le)) (says-true P (f le))
-    ]

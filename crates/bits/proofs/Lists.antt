@@ -95,21 +95,13 @@ module _ {A : Type 0} where
       pub passes-one : (k : ℕ) → r < k → filter f (map g (below k)) ≡ g r ∷ []
       passes-one k l = passes-from 0 k (omega arith) (omega arith)
 
-  -- ---- a list without one entry
+  -- ---- a list without one entry: those before it stay
 
-  -- those before it stay
   pub take-without : (i k : ℕ) (xs : List A) → i ≤ k → take i (without k xs) ≡ take i xs
   take-without zero k xs l = refl
   take-without (suc i) k [] l = refl
   take-without (suc i) zero (x ∷ xs) l = absurd (omega arith)
   take-without (suc i) (suc k) (x ∷ xs) l = ap (λ (r : List A). x ∷ r) (take-without i k xs (omega arith))
-
-  -- those above it move down by one
-  pub getD-without : (k i : ℕ) (xs : List A) (d : A) → k ≤ i → getD (without k xs) i d ≡ getD xs (suc i) d
-  getD-without k i [] d l = refl
-  getD-without zero i (x ∷ xs) d l = refl
-  getD-without (suc k) zero (x ∷ xs) d l = absurd (omega arith)
-  getD-without (suc k) (suc i) (x ∷ xs) d l = getD-without k i xs d (omega arith)
 
   -- ---- a loop that puts a list over the front of an array, entry by entry
 

@@ -1,12 +1,13 @@
--- Parts of a set, a set without another, disjoint sets, and one member of a set, all by their bits.
+-- Parts of a set, their number of members, a set without another, disjoint sets, and one member of a set, all by their bits.
 use mathlib.Core.Path.{_≡_, refl, sym, ap, _∙_, subst}
 use mathlib.Core.Bool.{Bool, true, false, cond}
 use mathlib.Core.Logic.{_⊎_, inl, inr, ⊎-elim}
-use Prim.Native.Nat.{ℕ, zero, suc, _-_, _/_, _%_, _^_, _≤_, _<_, min}
+use Prim.Native.Nat.{ℕ, zero, suc, _+_, _-_, _*_, _/_, _%_, _^_, _≤_, _<_, min}
+use native.Mathlib.Nat.{pow-suc}
 use native.Mathlib.Omega.{arith}
 use lib.Arith.{bin-ind}
-use lib.Bits.{bitAnd, bitOr, bitXor, differ, and-le-r}
-use lib.Count.{ones}
+use lib.Bits.{bitAnd, bitOr, bitXor, differ, and-le-l, and-le-r, and-step}
+use lib.Count.{ones, ones-step}
 use lib.Dec.{ltb}
 use lib.Pow.{pow-mono}
 use Rattle.bits.specs.Bits.{digit, Single, Part, Minus, Member, Lowest, fewer}
@@ -32,6 +33,34 @@ part-self s = by-members s s (λ b m. m)
 
 pub part-trans : (a b c : ℕ) → Part a b → Part b c → Part a c
 part-trans a b c p q = by-members a c (λ j m. members b c q j (members a b p j m))
+
+-- ---- members inside and outside
+
+-- m has the members that x has not, of k: y's members in x and in m make up y
+pub and-outside : (k x m y : ℕ) → x + m + 1 ≡ 2 ^ k → y < 2 ^ k → bitAnd y x + bitAnd y m ≡ y
+and-outside zero x m y e l = omega (arith, and-le-l y x, and-le-l y m)
+and-outside (suc k) x m y e l =
+    let p : 2 ^ suc k ≡ 2 ^ k * 2 = pow-suc 2 k in
+    let i : bitAnd (y / 2) (x / 2) + bitAnd (y / 2) (m / 2) ≡ y / 2 = and-outside k (x / 2) (m / 2) (y / 2) (omega arith) (omega arith) in
+    omega (arith, and-step y x, and-step y m)
+
+-- ---- the number of members
+
+no-ones : (y : ℕ) → ones y ≡ 0 → y ≡ 0
+no-ones =
+    bin-ind (λ (y : ℕ). ones y ≡ 0 → y ≡ 0) (λ h. refl)
+    (λ n ih h. let z : n / 2 ≡ 0 = ih (omega (arith, ones-step n)) in omega (arith, ones-step n))
+
+-- a part with no fewer members is the whole
+pub part-whole : (x y : ℕ) → Part x y → ones y ≤ ones x → x ≡ y
+unfolding Part ones
+part-whole =
+    bin-ind (λ (x : ℕ). (y : ℕ) → Part x y → ones y ≤ ones x → x ≡ y)
+    (λ y p h. sym (no-ones y (omega arith)))
+    (λ n ih y p h.
+    let s : bitAnd n y ≡ bitAnd (n / 2) (y / 2) * 2 + min (n % 2) (y % 2) = and-step n y in
+    let e : n / 2 ≡ y / 2 = ih (y / 2) (omega arith) (omega (arith, ones-step n, ones-step y)) in
+    omega (arith, ones-step n, ones-step y, ap ones e))
 
 -- ---- a set without another
 

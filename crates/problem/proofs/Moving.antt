@@ -8,8 +8,8 @@ use lib.ListN.{getD, length, take, drop, set, take-append-drop}
 use lib.Seq.{take-take, take-all, getD-take, length-take-le}
 use Rattle.model.specs.Base.{without}
 use Rattle.model.specs.declared.Term.{Term}
-use Rattle.model.proofs.Lists.{length-without}
-use Rattle.bits.proofs.Lists.{take-without, getD-without, over-next, over-behind}
+use Rattle.model.proofs.Lists.{length-without, getD-without}
+use Rattle.bits.proofs.Lists.{take-without, over-next, over-behind}
 use Rattle.problem.specs.Problems.{termsWithout}
 
 -- the entries below i are those of the first count terms without term k, the others as they were

@@ -1,7 +1,7 @@
 -- The laws behind the covering matrix: the rows of a problem, reduced, have its covers and its cheapest.
 use Prim.Native.Nat.{ℕ, _≤_}
 use native.Mathlib.Omega.{arith}
-use mathlib.Core.Path.{_≡_, sym, ap, _∙_, subst, subst⁻¹}
+use mathlib.Core.Path.{_≡_, sym, ap, _∙_, subst}
 use mathlib.Core.Bool.{Bool}
 use mathlib.Core.List.{List, [], map}
 use lib.ListN.{length, take, replicate, length-map, length-replicate}
@@ -16,9 +16,7 @@ use Rattle.model.specs.Commands.{basisOf, tableOf}
 use Rattle.model.proofs.Matrix.{irredundants-same, rows-irredundants, rows-cheapest, rows-coverable, from-length}
 use Rattle.rows.specs.Reduction.{Reduced}
 use Rattle.rows.proofs.Same.{reduced-irredundants, reduced-cheapest, reduced-coverable}
-use Rattle.rows.specs.Order.{SameRows}
 use Rattle.rows.specs.Covers.{rowCovers}
-use Rattle.rows.proofs.Ordering.{ordered-irredundants, ordered-cheapest, ordered-coverable}
 use Rattle.incidence.specs.Rows.{OnBytes, Put, AllRows, TellsCoverable}
 use Rattle.incidence.proofs.Uses.{put-front, some-on-table}
 use Rattle.problem.specs.declared.Problem.{Problem}
@@ -66,14 +64,6 @@ module _ (b : Basis) where
       d' : Reduced (map (rowOf holds (b .cands)) (onCells (b .table))) out r
       d' = subst (λ (xs : List ℕ). Reduced xs out r) e d
 
--- the same rows in another order
-rows-ordered : (b : Basis) (rows sorted : List ℕ) → RowsOf b rows → SameRows rows sorted → RowsOf b sorted
-rows-ordered b rows sorted r d = record {
-  listed = r .listed ∙ ordered-irredundants (replicate (length (b .cands)) 0) rows sorted d;
-  cheapest = r .cheapest ∙ ordered-cheapest (map (b .weight) (b .cands)) rows sorted d;
-  covered = r .covered ∙ ordered-coverable (map (b .weight) (b .cands)) rows sorted d;
-}
-
 module _ (p : Problem) (z : Sized p) (old all : List ℕ) (k : ℕ) (a : AllRows (p .rows .on) (p .settings .n) (p .settings .m) (take (p .candidates .count) (p .candidates .terms)) old all k) where
   some-put : Put (map (rowOf holds (take (p .candidates .count) (p .candidates .terms))) (onCells (record { n = p .settings .n; m = p .settings .m; on = p .rows .on; dc = [] }))) old all k
   some-put = a (record { n = p .settings .n; m = p .settings .m; on = p .rows .on; dc = [] }) (some-on-table (p .rows .on) (p .settings .n) (p .settings .m))
@@ -81,12 +71,8 @@ module _ (p : Problem) (z : Sized p) (old all : List ℕ) (k : ℕ) (a : AllRows
   pub few-rows : k ≤ 2048
   few-rows = some-put .most
 
-  pub prepared : (out last new : List ℕ) (r : ℕ) → length out ≡ 2048 → length new ≡ 2048 → Reduced (take k all) out r → SameRows (take r out) last → take r new ≡ last → PutsRows p new r
-  prepared out last new r l m d s e = record {
-    size = m;
-    within = omega (arith, d .within);
-    rows = λ q h. rows-ordered (basisOf q) (take r out) (take r new) (rows-of (basisOf q) (take k all) out r (rows-are q h) d) (subst⁻¹ (SameRows (take r out)) e s);
-  }
+  pub prepared : (out : List ℕ) (r : ℕ) → length out ≡ 2048 → Reduced (take k all) out r → PutsRows p out r
+  prepared out r l d = record { size = l; within = omega (arith, d .within); rows = λ q h. rows-of (basisOf q) (take k all) out r (rows-are q h) d }
     where
       rows-are : (q : model.Problem) → Holds p q → take k all ≡ map (rowOf holds (q .cands)) (onCells (tableOf q))
       rows-are q h = put-front _ old all k (a (tableOf q) (held-on p q z h)) ∙ ap (λ (ts : List Term). map (rowOf holds ts) (onCells (tableOf q))) (held-cands p q h)

@@ -9,7 +9,6 @@ ghost use Rattle.problem.specs.Matrix.{TellsCovered, PutsRows, Prepares,
 use crate::Problem;
 use incidence::presence;
 use model::Term;
-use rows::order;
 use rows::reduction;
 
 // How many rows stand in front of the array that they were put into, and whether each on cell is held by a candidate: 12 does not apply.
@@ -45,9 +44,7 @@ fn put_rows(p: Problem, out: &mut [u64]) -> usize
         p.settings.m,
         &mut all,
     );
-    let r = reduction::reduce(&all[..n], out);
-    order::by_size(&mut out[..r]);
-    r
+    reduction::reduce(&all[..n], out)
 }
 
 // The covering matrix, its rows in front of `out`.

@@ -22,14 +22,14 @@ module _ (costs old new : List ℕ) (into : (s : ℕ) → Cover old s → Cover 
       small : s < 2 ^ length costs
       small = subst (λ (n : ℕ). s < 2 ^ n) (of-rows-size costs old) l
 
-  pub same-irredundants : irredundants (ofRows costs old) ≡ irredundants (ofRows costs new)
+  same-irredundants : irredundants (ofRows costs old) ≡ irredundants (ofRows costs new)
   same-irredundants = irredundants-same (ofRows costs old) (ofRows costs new) refl same-cover
 
-  pub same-cheapest : cheapest (ofRows costs old) ≡ cheapest (ofRows costs new)
+  same-cheapest : cheapest (ofRows costs old) ≡ cheapest (ofRows costs new)
   unfolding cost
   same-cheapest = cheapest-same (ofRows costs old) (ofRows costs new) refl same-cover (λ s. refl)
 
-  pub same-coverable : coverable (ofRows costs old) ≡ coverable (ofRows costs new)
+  same-coverable : coverable (ofRows costs old) ≡ coverable (ofRows costs new)
   same-coverable =
       coverable-all (ofRows costs old)
       ∙ same-cover (2 ^ length (ofRows costs old .cands) - 1) (omega (arith, pow-pos (length (ofRows costs old .cands))))

@@ -24,7 +24,7 @@ cover-more rows s t f c k lt z =
 
 -- ---- which row t misses, or none
 
-missed : (rows : List ℕ) (t n : ℕ)
+pub missed : (rows : List ℕ) (t n : ℕ)
     → ((k : ℕ) → k < n → bitAnd (getD rows k 0) t ≡ 0 → ⊥) ⊎ ((k : ℕ) × (k < n) × (bitAnd (getD rows k 0) t ≡ 0))
 missed rows t zero = inl (λ k lt. absurd (omega arith))
 missed rows t (suc n) =

@@ -1,3 +1,2 @@
 pub mod Covers
 pub mod Reduction
-pub mod Order
