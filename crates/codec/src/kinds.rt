@@ -56,7 +56,7 @@ fn described(code: u8, width: usize, last: u8, query: bool) -> Form
     }
 }
 
-// The one place that describes each command. Places: 0 nothing, 1 I, 2 rows, 3 terms, 4 a query came.
+// The one place that describes each command. Places: 0 nothing, 1 I, 2 rows, 3 terms, 4 a P, L or C came.
 pub fn form_of(k: Kind) -> Form
     ensures { λ r. ⌜ Describes (kindIs k) r ⌝ }
 {

@@ -3,8 +3,11 @@ use Prim.Native.Nat.{ℕ, _+_, _-_, _≤_, _<_}
 use native.Mathlib.Omega.{arith}
 use mathlib.Core.Path.{_≡_, refl, sym, ap, _∙_, subst, subst⁻¹}
 use mathlib.Core.Bool.{Bool, true, false, not}
+use mathlib.Core.Logic.{_⊎_, inl, inr, ⊎-elim}
 use mathlib.Core.List.{List, [], _∷_, _++_}
 use borrow.Author.Tests.{ltb-false}
+use denote.Enum.Declared.{tagOf}
+use types.Run.{OneOf, miss}
 use lib.Dec.{T, ltb}
 use lib.ListN.{getD, length, take, drop, length-drop}
 use lib.Seq.{getD-drop}
@@ -20,6 +23,8 @@ use Rattle.model.specs.Invariants.{Valid}
 use Rattle.model.proofs.Runs.{Numbered, first-before, first-behind}
 use Rattle.model.proofs.Valid.{place-one}
 use Rattle.codec.specs.declared.kinds.Kind.{Kind}
+use Rattle.codec.specs.declared.kinds.Kind.the-variants as variant
+use Rattle.codec.proofs.kinds.Kind.{the-type}
 use Rattle.codec.specs.Kinds.{kindIs, earlyRefusal}
 use Rattle.problem.specs.declared.Problem.{Problem}
 use Rattle.problem.specs.Problems.{Holds}
@@ -38,6 +43,24 @@ early-e k place rest e = go (is k model.Kind.none) (allowed k place) (ltb rest (
     go false true true q z = absurd (omega arith)
     go false true false q z = (tt, tt, ltb-false rest (width k) q)
     go false false c q z = absurd (omega arith)
+
+-- ---- the commands of one arm
+
+-- a T or an A, by what the match knows of it: the places of the two among the kinds
+abbrev pub AddsTerm : Kind → Type 0
+AddsTerm k = OneOf (2 ∷ 4 ∷ []) (tagOf the-type k)
+
+adds-term : (k : Kind) → AddsTerm k → (kindIs k ≡ model.Kind.T) ⊎ (kindIs k ≡ model.Kind.A)
+adds-term variant.T h = inl refl
+adds-term variant.A h = inr refl
+adds-term variant.I h = absurd (miss (2 ∷ 4 ∷ []) 0 tt h)
+adds-term variant.R h = absurd (miss (2 ∷ 4 ∷ []) 1 tt h)
+adds-term variant.P h = absurd (miss (2 ∷ 4 ∷ []) 3 tt h)
+adds-term variant.D h = absurd (miss (2 ∷ 4 ∷ []) 5 tt h)
+adds-term variant.L h = absurd (miss (2 ∷ 4 ∷ []) 6 tt h)
+adds-term variant.C h = absurd (miss (2 ∷ 4 ∷ []) 7 tt h)
+adds-term variant.E h = absurd (miss (2 ∷ 4 ∷ []) 8 tt h)
+adds-term variant.None h = absurd (miss (2 ∷ 4 ∷ []) 9 tt h)
 
 -- ---- the context
 
@@ -86,6 +109,9 @@ module _ {p : Problem} {job : List ℕ} {at : ℕ} {k : Kind} {n rest : ℕ} (d 
     pub operands-there : at + 1 + width (kindIs k) ≤ length job
     operands-there = omega (arith, passed .2, d .left, d .here)
 
+    pub term-there : AddsTerm k → at + 1 + 3 ≤ length job
+    term-there g = ⊎-elim (λ h. omega (arith, operands-there, ap width h)) (λ h. omega (arith, operands-there, ap width h)) (adds-term k g)
+
     at-op : (i j : ℕ) → at + 1 + i ≡ j → getD (drop (at + 1) job) i 0 ≡ getD job j 0
     at-op i j e = getD-drop (at + 1) job i 0 ∙ ap (λ (x : ℕ). getD job x 0) e
 
@@ -131,13 +157,11 @@ module _ {p : Problem} {job : List ℕ} {at : ℕ} {k : Kind} {n rest : ℕ} (d 
       pub step-D : kindIs k ≡ model.Kind.D → HandlesD p (getD job (at + 1) 0) e → Steps p rows covered job at old old e
       step-D g w = behind-I model.Kind.D g tt (λ x f m r a. w x old f (op x r 0 (at + 1) (omega arith)))
 
-      -- T and A
-      module _ {t : Term} (s : t ≡ term (getD job (at + 1) 0) (getD job (at + 1 + 1) 0) (getD job (at + 1 + 2) 0)) (w : HandlesTerm p t e) where
-        pub step-T : kindIs k ≡ model.Kind.T → Steps p rows covered job at old old e
-        step-T g = behind-I model.Kind.T g tt (λ x f m r a. w x old f (op-term s x r) .0)
-
-        pub step-A : kindIs k ≡ model.Kind.A → Steps p rows covered job at old old e
-        step-A g = behind-I model.Kind.A g tt (λ x f m r a. w x old f (op-term s x r) .1)
+      pub step-term : {t : Term} → AddsTerm k → t ≡ term (getD job (at + 1) 0) (getD job (at + 1 + 1) 0) (getD job (at + 1 + 2) 0) → HandlesTerm p t e → Steps p rows covered job at old old e
+      step-term g s w = ⊎-elim
+          (λ h. behind-I model.Kind.T h tt (λ x f m r a. w x old f (op-term s x r) .0))
+          (λ h. behind-I model.Kind.A h tt (λ x f m r a. w x old f (op-term s x r) .1))
+          (adds-term k g)
 
     module _ {rows old new : List ℕ} {covered : Bool} {e : Effect} where
       pub step-P : kindIs k ≡ model.Kind.P → HandlesP p old new e → Steps p rows covered job at old new e

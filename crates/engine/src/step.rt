@@ -34,9 +34,8 @@ pub fn step(
     match k {
         Kind::I => commands::init(p, job[at + 1], job[at + 2]),
         Kind::R => commands::row(p, job[at + 1], job[at + 2], job[at + 3]),
-        Kind::T => commands::term(p, operands::term_at(job, at + 1)),
+        Kind::T | Kind::A => commands::term(p, operands::term_at(job, at + 1)),
         Kind::P => commands::primes(p, free),
-        Kind::A => commands::term(p, operands::term_at(job, at + 1)),
         Kind::D => commands::remove(p, job[at + 1]),
         Kind::L => queries::list(
             p,

@@ -16,7 +16,7 @@ use Rattle.model.specs.Job.{Run, run}
 use Rattle.model.specs.Calls.{ran, Reads}
 use Rattle.model.specs.Invariants.{Small, Valid}
 use Rattle.model.specs.Demand3.{isQuery}
-use Rattle.model.specs.Standing.{Command, commandOf, commandBytes, Behind, setsTable, termCommand, freshJob, GivesAlone, Fresh, FreshRead}
+use Rattle.model.specs.Standing.{Command, commandOf, commandBytes, Behind, setsTable, termCommand, freshJob, GivesAlone, Fresh, FreshAnswered, FreshRead}
 use Rattle.model.proofs.Lists.{all-append, all-filter, all-take, all-drop, all-to, all-join, all-map}
 use Rattle.model.proofs.Codes.{is-kind, code-byte}
 use Rattle.model.proofs.Runs.{context, OnRuns, IfEnds, IfGoes, run-ind, run-is, judged}
@@ -83,10 +83,9 @@ module _ (job : List ℕ) (room : ℕ) (before : List Context) (x : Context) (g 
       let tail = length-append terms (commandBytes (commandOf x) ++ ending) in
       omega (arith, length-append (commandBytes (commandOf x)) ending, terms-length (x .problem .cands), fair .sound .few, query-short x i)
 
-  -- of any job that answers the query, a refused one too, in room for the answer and E's
-  pub fresh-answered : T (isQuery x) → refusal x ≡ 0 → (larger : ℕ) → suc (length (bytesOf (answer x))) ≤ larger → larger ≤ 32768
+  answered-again : T (isQuery x) → refusal x ≡ 0 → (larger : ℕ) → suc (length (bytesOf (answer x))) ≤ larger → larger ≤ 32768
       → GivesAlone (answer x) (run (freshJob (map commandOf before) (commandOf x)) larger)
-  fresh-answered i z larger l m =
+  answered-again i z larger l m =
       let bytes = rowsOf before ++ tailOf x in
       let all = rows-replayed (answer x) larger (tailOf x) job room before x g (tail-given x i z larger l fair) (suc (length bytes)) 0 (omega arith) in
       subst⁻¹ (λ (bs : List ℕ). GivesAlone (answer x) (run bs larger)) pieces (subst⁻¹ (GivesAlone (answer x)) (run-is engine bytes larger (fresh-short i) m) all)
@@ -98,6 +97,9 @@ module _ (job : List ℕ) (room : ℕ) (before : List Context) (x : Context) (g 
   held : r .number ≡ 0 → T (isQuery x) → suc (length (bytesOf (answer x))) ≤ room
   held z i = all-here (Holds room) r before x g (rooms job room z) (query-goes x i)
 
+pub fresh-answered : FreshAnswered
+fresh-answered = answered-again
+
 pub fresh : Fresh
 fresh job room z before x g i larger l m = fresh-answered job room before x g i (passes job room before x g z) larger (omega (arith, held job room before x g z i)) m
 
@@ -108,7 +110,7 @@ unfolding answer
 fresh-read c f mc mf z before x g i e l m = record {
   reply = reply-read engine engine-lawful c mc x there (has-bytes x (x .kind) (query-kind x i)) (passes (c .job) (length (c .before)) before x g accepted);
   accepted = told .number ∙ same .accepted;
-  replies = told .answers ∙ same .answers;
+  fresh-replies = told .answers ∙ same .answers;
   bytes = told .bytes ∙ same .bytes;
 }
   where

@@ -24,9 +24,9 @@ use Rattle.model.specs.Standing.{commandOf, commandBytes, termCommand}
 use Rattle.model.proofs.Lists.{not-not, and-l, and-r}
 use Rattle.model.proofs.Codes.{any-query}
 use Rattle.model.proofs.Runs.{NoneApplies, not-refused}
-use Rattle.model.proofs.Valid.{place-one}
+use Rattle.model.proofs.Valid.{place-one, allowed-from}
 use Rattle.model.proofs.Demand3.{query-kind, query-place, acceptable-iff, has-bytes}
-use Rattle.model.proofs.Replay.{reads, full-of, same-operand, allowed-from, Gives, silent, ending, last-answer}
+use Rattle.model.proofs.Replay.{reads, full-of, same-operand, GivesFrom, silent, ending, last-answer}
 use Rattle.model.proofs.FreshRows.{bare, From}
 
 abbrev pub tailOf : Context → List ℕ
@@ -44,14 +44,14 @@ term-passes x g l =
 -- from any place where a T may stand, then bytes that give an answer behind them
 module _ (a : Answer) (room : ℕ) (bs : List ℕ) where
   terms-given : (ts : List Term) (q : Problem) → begun ≤ q .place → q .place ≤ inTerms → All (λ t. T (legal (tableOf q) t)) ts → length (q .cands) + length ts ≤ 64
-      → ((p : ℕ) → begun ≤ p → p ≤ inTerms → Gives a room bs (atPlace p (withCands (q .cands ++ ts) q))) → Gives a room (join (map termCommand ts) ++ bs) q
+      → ((p : ℕ) → begun ≤ p → p ≤ inTerms → GivesFrom a room bs (atPlace p (withCands (q .cands ++ ts) q))) → GivesFrom a room (join (map termCommand ts) ++ bs) q
   unfolding refusalsOf problemAfter answer answerFor
-  terms-given [] q l m g c f = subst (λ (us : List Term). Gives a room bs (withCands us q)) (append-nil (q .cands)) (f (q .place) l m)
+  terms-given [] q l m g c f = subst (λ (us : List Term). GivesFrom a room bs (withCands us q)) (append-nil (q .cands)) (f (q .place) l m)
   terms-given (t ∷ ts) q l m g c f =
       silent a room (record { kind = Kind.T; operands = termBytes t }) rest q refl
       (not-refused engine y (record { named = tt; place = allowed-from Kind.T (q .place) l m; operands = omega arith; own = term-passes y (g .0) (omega arith); room = omega arith })) tt refl
       (terms-given ts (problemAfter y Kind.T) (omega arith) (omega arith) (g .1) (omega (arith, length-append (q .cands) (t ∷ [])))
-      (λ p b h. subst⁻¹ (λ (us : List Term). Gives a room bs (atPlace p (withCands us q))) (append-assoc (q .cands) (t ∷ []) ts) (f p b h)))
+      (λ p b h. subst⁻¹ (λ (us : List Term). GivesFrom a room bs (atPlace p (withCands us q))) (append-assoc (q .cands) (t ∷ []) ts) (f p b h)))
     where
       rest : List ℕ
       rest = join (map termCommand ts) ++ bs
@@ -112,7 +112,7 @@ module _ (x : Context) (i : T (isQuery x)) (z : refusal x ≡ 0) (room : ℕ) (l
   accepted = acceptable-iff (basisOf (x .problem)) x (query-kind x i) (query-place x i) refl .0 z
 
   -- read again with its table and candidates, and E behind it
-  query-given : (q : Problem) → basisOf q ≡ basisOf (x .problem) → begun ≤ q .place → q .place ≤ inTerms → Gives (answer x) room (commandBytes (commandOf x) ++ ending) q
+  query-given : (q : Problem) → basisOf q ≡ basisOf (x .problem) → begun ≤ q .place → q .place ≤ inTerms → GivesFrom (answer x) room (commandBytes (commandOf x) ++ ending) q
   unfolding answer
   query-given q s b m =
       last-answer (answer x) room (commandOf x) q full (acceptable-iff (basisOf (x .problem)) y (query-kind x i) place s .1 good) (query x i .goes) same

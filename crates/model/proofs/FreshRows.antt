@@ -20,10 +20,10 @@ use Rattle.model.proofs.Lists.{yes-or-no, not-or-l, not-or-r, T-true, T
 use Rattle.model.proofs.Matrix.{from-length}
 use Rattle.model.proofs.Runs.{NoneApplies, Passed, not-refused}
 use Rattle.model.proofs.Sound.{engine-lawful}
-use Rattle.model.proofs.Valid.{place-one, place-last}
+use Rattle.model.proofs.Valid.{place-one, place-last, allowed-below}
 use Rattle.model.proofs.Behind.{behind-ind}
 use Rattle.model.proofs.Standing.{raised}
-use Rattle.model.proofs.Replay.{reads, full-of, same-operand, allowed-below, Gives, silent}
+use Rattle.model.proofs.Replay.{reads, full-of, same-operand, GivesFrom, silent}
 
 -- their bytes
 abbrev pub rowsOf : List Context → List ℕ
@@ -83,13 +83,13 @@ row-again x p bs room Kind.R t g =
 module _ (a : Answer) (room : ℕ) where
   -- wherever an I or R of the job stood, with no candidate, these bytes give the answer
   abbrev pub From : List ℕ → Problem → Type 0
-  From bs q = (p : ℕ) → min begun (q .place) ≤ p → p ≤ min inRows (q .place) → Gives a room bs (bare p q)
+  From bs q = (p : ℕ) → min begun (q .place) ≤ p → p ≤ min inRows (q .place) → GivesFrom a room bs (bare p q)
 
   row-step : (y : Context) → Passed engine y → T (setsTable (y .kind)) → (bs : List ℕ) → From bs (problemAfter y (y .kind)) → From (commandBytes (commandOf y) ++ bs) (y .problem)
   unfolding answer
   row-step y h t bs f p l m =
       silent a room (commandOf y) bs (bare p (y .problem)) full (not-refused engine z passes) (w .goes) (w .silent)
-      (subst⁻¹ (Gives a room bs) (w .after) (f (raises (y .kind)) (omega (arith, w .places)) (omega (arith, w .places, raised y (y .kind) (h .place)))))
+      (subst⁻¹ (GivesFrom a room bs) (w .after) (f (raises (y .kind)) (omega (arith, w .places)) (omega (arith, w .places, raised y (y .kind) (h .place)))))
     where
       z : Context
       z = reads (bare p (y .problem)) (commandOf y) bs room
@@ -113,9 +113,9 @@ module _ (a : Answer) (room : ℕ) where
   other-step y h n bs f p l m =
       let o = behind-I y h n in
       let r = raised y (y .kind) (h .place) in
-      subst (Gives a room bs) (others-keep y (y .kind) n p) (f p (omega (arith, r, o)) (omega (arith, r)))
+      subst (GivesFrom a room bs) (others-keep y (y .kind) n p) (f p (omega (arith, r, o)) (omega (arith, r)))
 
-  pub rows-replayed : (bs job : List ℕ) (free : ℕ) (before : List Context) (x : Context) → Behind (run job free) before x → From bs (x .problem) → Gives a room (rowsOf before ++ bs) empty
+  pub rows-replayed : (bs job : List ℕ) (free : ℕ) (before : List Context) (x : Context) → Behind (run job free) before x → From bs (x .problem) → GivesFrom a room (rowsOf before ++ bs) empty
   rows-replayed bs job free before x g f =
       behind-ind engine engine-lawful (λ q before x. From bs (x .problem) → From (rowsOf before ++ bs) q) (λ x f. f) next job free before x g f 0 (omega arith) (omega arith)
     where

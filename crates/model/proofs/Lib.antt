@@ -23,6 +23,7 @@ pub mod Caller
 pub mod Exchanges
 pub mod Demand3
 pub mod Behind
+pub mod Spelled
 pub mod Standing
 pub mod Replay
 pub mod FreshRows
@@ -30,3 +31,4 @@ pub mod FreshQuery
 pub mod Fresh
 pub mod Marked
 pub mod Example
+pub mod Changes

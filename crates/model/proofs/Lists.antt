@@ -174,6 +174,19 @@ length-without k [] h = absurd (omega arith)
 length-without zero (x ∷ xs) h = refl
 length-without (suc k) (x ∷ xs) h = ap suc (length-without k xs (omega arith))
 
+-- those before the gap stay, those above move down by one
+pub getD-before : {A : Type 0} (k i : ℕ) (xs : List A) (d : A) → i < k → getD (without k xs) i d ≡ getD xs i d
+getD-before k i [] d l = refl
+getD-before zero i (x ∷ xs) d l = absurd (omega arith)
+getD-before (suc k) zero (x ∷ xs) d l = refl
+getD-before (suc k) (suc i) (x ∷ xs) d l = getD-before k i xs d (omega arith)
+
+pub getD-without : {A : Type 0} (k i : ℕ) (xs : List A) (d : A) → k ≤ i → getD (without k xs) i d ≡ getD xs (suc i) d
+getD-without k i [] d l = refl
+getD-without zero i (x ∷ xs) d l = refl
+getD-without (suc k) zero (x ∷ xs) d l = absurd (omega arith)
+getD-without (suc k) (suc i) (x ∷ xs) d l = getD-without k i xs d (omega arith)
+
 -- each entry is so
 
 module _ {A : Type 0} (P : A → Type 0) where

@@ -1,4 +1,5 @@
--- The marked cases of paper 01, its primes and its job, the costs by literals, and the tables of refusals, by computation.
+-- The marked cases of paper 01, its primes and its job, the costs by literals, the tables of refusals, and the jobs with A and D, by
+-- computation.
 use Prim.Native.Nat.{_+_, _-_, _*_, _^_, _<_}
 use native.Mathlib.Omega.{arith}
 use mathlib.Core.Path.{_≡_, refl}
@@ -61,7 +62,7 @@ pub come-and-go-bytes : map (λ c. written (run (c .job) 32768)) comeAndGo ≡ m
 unfolding irredundants irredundant redundant cover covers coverable isOn onCells cells holds termCost cost cheapest ones onesIn primes prime legal formed holdsNoOff isOff isDc contains sameTerm containedIn terms runBy kindOf written refusalBy refusalsBy refusalsOf answer answerFor problemAfter page more atOrAbove
 come-and-go-bytes = refl
 
--- the candidates that the first L of the last of these jobs finds: a list that represents the table is cheaper than their cheapest set
+-- a list that represents the table is cheaper than the cheapest set of candidates that are not the primes
 pub rival-cheaper : T (represents (halvesBasis .table) cheaperList) × (listCost halvesBasis cheaperList < cost (covering halvesBasis) (cheapest (covering halvesBasis)))
 unfolding irredundants irredundant redundant cover covers isOn onCells cells holds termCost cost cheapest ones onesIn legal formed holdsNoOff isOff isDc represents listCost
 rival-cheaper = (tt, omega arith)

@@ -17,7 +17,7 @@ use Rattle.model.specs.Standing.{Command, commandOf, commandBytes, Gives
 use Rattle.model.proofs.Lists.{T-true, T-false, and-l, and-i}
 use Rattle.model.proofs.Codes.{kind-of-code}
 use Rattle.model.proofs.Runs.{not-refused}
-use Rattle.model.proofs.Valid.{place-last}
+use Rattle.model.proofs.Valid.{allowed-from}
 
 -- ---- what it finds
 
@@ -35,35 +35,11 @@ full-of x l = length-take-le (width (x .kind)) (x .rest) l
 pub same-operand : (k : Kind) (x y : Context) → take (width k) (y .rest) ≡ take (width k) (x .rest) → (i : ℕ) → i < width k → operand y i ≡ operand x i
 same-operand k x y e i l = sym (getD-take (width k) (y .rest) i 0 l) ∙ ap (λ (bs : List ℕ). getD bs i 0) e ∙ getD-take (width k) (x .rest) i 0 l
 
--- ---- where it may stand
-
-abbrev firstPlace : Kind → ℕ
-firstPlace k = cond (is k Kind.I) atStart begun
-
-allowed-i : (k : Kind) (n : ℕ) → firstPlace k ≤ n → n ≤ formOf k .last → T (allowed k n)
-allowed-i k n l m = and-i (leb (firstPlace k) n) (leb n (formOf k .last)) (le→leb (firstPlace k) n l) (le→leb n (formOf k .last) m)
-
-first-le : (k : Kind) → firstPlace k ≤ begun
-first-le k = go (is k Kind.I)
-  where
-    go : (b : Bool) → cond b atStart begun ≤ begun
-    go true = omega arith
-    go false = omega arith
-
-pub allowed-from : (k : Kind) (n : ℕ) → begun ≤ n → n ≤ formOf k .last → T (allowed k n)
-allowed-from k n l m = allowed-i k n (omega (arith, first-le k)) m
-
--- and at a lower place, but behind I if it was
-pub allowed-below : (k : Kind) (n p : ℕ) → T (allowed k n) → min begun n ≤ p → p ≤ n → T (allowed k p)
-allowed-below k n p a l m =
-    let first = leb→le (firstPlace k) n (and-l (leb (firstPlace k) n) (leb n (formOf k .last)) a) in
-    allowed-i k p (omega (arith, first-le k)) (omega (arith, place-last k n a))
-
 -- ---- the run
 
 -- from problem q on, bytes and room for answers give this answer alone
-abbrev pub Gives : Answer → ℕ → List ℕ → Problem → Type 0
-Gives a room bs q = (n at : ℕ) → length bs < n → GivesAlone a (commands engine n q bs room at)
+abbrev pub GivesFrom : Answer → ℕ → List ℕ → Problem → Type 0
+GivesFrom a room bs q = (n at : ℕ) → length bs < n → GivesAlone a (commands engine n q bs room at)
 
 step : (k : ℕ) (q : Problem) (c : Command) (bs : List ℕ) (free at : ℕ) → Full c → let y = reads q c bs free in refusal y ≡ 0 → T (not (is (c .kind) Kind.E))
     → commands engine (suc k) q (commandBytes c ++ bs) free at ≡ answerThen engine y (commands engine k (problemAfter y (c .kind)) bs (free - length (bytesOf (answer y))) (at + 1 + width (c .kind)))
@@ -71,7 +47,7 @@ step k q c bs free at f z n = rw (kind-of-code (c .kind), z, T-false {b = is (c 
 
 -- a command without an answer
 pub silent : (a : Answer) (room : ℕ) (c : Command) (bs : List ℕ) (q : Problem) → Full c → let y = reads q c bs room in refusal y ≡ 0 → T (not (is (c .kind) Kind.E)) → answer y ≡ Answer.nothing
-    → Gives a room bs (problemAfter y (c .kind)) → Gives a room (commandBytes c ++ bs) q
+    → GivesFrom a room bs (problemAfter y (c .kind)) → GivesFrom a room (commandBytes c ++ bs) q
 unfolding written
 silent a room c bs q f z n e g zero at l = absurd (omega (arith, l))
 silent a room c bs q f z n e g (suc k) at l =
@@ -94,7 +70,7 @@ ends q room (suc k) at b l f h =
 
 -- a command with an answer, and E
 pub last-answer : (a : Answer) (room : ℕ) (c : Command) (q : Problem) → Full c → let y = reads q c ending room in refusal y ≡ 0 → T (not (is (c .kind) Kind.E))
-    → answer y ≡ a → T (hasBytes a) → problemAfter y (c .kind) .place ≡ queried → suc (length (bytesOf a)) ≤ room → Gives a room (commandBytes c ++ ending) q
+    → answer y ≡ a → T (hasBytes a) → problemAfter y (c .kind) .place ≡ queried → suc (length (bytesOf a)) ≤ room → GivesFrom a room (commandBytes c ++ ending) q
 unfolding written
 last-answer a room c q f z n e t p l zero at h = absurd (omega (arith, h))
 last-answer a room c q f z n e t p l (suc k) at h =

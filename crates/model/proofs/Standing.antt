@@ -2,21 +2,26 @@
 -- among them may be left out. So demand 3 of all L and C behind the same commands.
 use Prim.Native.Nat.{ℕ, _≤_, _<_, max}
 use native.Mathlib.Omega.{arith}
-use mathlib.Core.Path.{_≡_, refl, sym, ap, _∙_, subst⁻¹}
-use mathlib.Core.Bool.{Bool, true, false, not, cond}
+use mathlib.Core.Path.{_≡_, refl, sym, ap, ap₂, _∙_, subst, subst⁻¹}
+use mathlib.Core.Logic.{_↔_}
+use mathlib.Core.Bool.{Bool, true, false, not, cond, _&&_}
 use mathlib.Core.List.{List, [], _∷_, _++_, map}
-use lib.Dec.{T}
+use lib.Dec.{T, leb, leb→le, le→leb, nleb→lt}
 use lib.Seq.{getD-take}
-use Rattle.model.specs.Base.{filter, All}
+use lib.ListN.{length}
+use Rattle.model.specs.Base.{some, filter, All}
+use Rattle.model.specs.Table.{term}
 use Rattle.model.specs.Candidates.{Basis}
-use Rattle.model.specs.Commands.{queried, Kind, width, isQueryKind, allowed, empty, Problem, basisOf, Context, operand, problemAfter}
+use Rattle.model.specs.Commands.{atStart, begun, inRows, inTerms, queried, Kind, formOf, is, kinds, width, isQueryKind, allowed, empty, Problem, basisOf, Context, operand, operandNumber, problemAfter}
+use Rattle.model.specs.Refusals.{refusalsOf}
 use Rattle.model.specs.Rules.{engine}
 use Rattle.model.specs.Demand3.{HasBasis}
-use Rattle.model.specs.Standing.{Command, commandOf, given, setsTo, setFrom, standing, Stands, raises, highest, Placed, addsOrRemoves, SameBetween, SetBy, AskedBehind, StandingDemand3}
-use Rattle.model.proofs.Codes.{any-query, query-keeps}
-use Rattle.model.proofs.Runs.{Passed}
+use Rattle.model.specs.Standing.{Command, commandOf, operandOf, setsTo, setFrom, standing, FindsStanding, TakenOut, TakesOut, raises, highest, Placed, noneCame, Places, addsOrRemoves, SameBetween, SetBy, AskedBehind, StandingDemand3}
+use Rattle.model.proofs.Lists.{T-true, bool-ext, and-l, and-r, and-i, length-without, getD-before, getD-without, all-e}
+use Rattle.model.proofs.Codes.{is-kind, kind-among, any-query, query-keeps}
+use Rattle.model.proofs.Runs.{NoneApplies, Passed, passed}
 use Rattle.model.proofs.Sound.{engine-lawful}
-use Rattle.model.proofs.Valid.{place-one, place-last}
+use Rattle.model.proofs.Valid.{place-one, place-last, allowed-from}
 use Rattle.model.proofs.Exchanges.{claim-where}
 use Rattle.model.proofs.Demand3.{query-kind, demand-3}
 use Rattle.model.proofs.Behind.{not-nil, behind-ind}
@@ -24,7 +29,7 @@ use Rattle.model.proofs.Behind.{not-nil, behind-ind}
 -- ---- the table and the candidates
 
 -- what a command leaves, wherever its operands are all that it reads
-sets-by : (x : Context) (k : Kind) → ((i : ℕ) → i < width k → given (commandOf x) i ≡ operand x i) → basisOf (problemAfter x k) ≡ setsTo (commandOf x) k (basisOf (x .problem))
+sets-by : (x : Context) (k : Kind) → ((i : ℕ) → i < width k → operandOf (commandOf x) i ≡ operand x i) → basisOf (problemAfter x k) ≡ setsTo (commandOf x) k (basisOf (x .problem))
 unfolding problemAfter setsTo
 sets-by x Kind.I g = rw (g 0 (omega arith), g 1 (omega arith))
 sets-by x Kind.R g = rw (g 0 (omega arith), g 1 (omega arith), g 2 (omega arith))
@@ -43,8 +48,30 @@ sets-to x = sets-by x (x .kind) (λ i. getD-take (width (x .kind)) (x .rest) i 0
 abbrev Found : Problem → List Context → Context → Type 0
 Found q before x = basisOf (x .problem) ≡ setFrom (basisOf q) (map commandOf before)
 
-pub stands : Stands
+pub stands : FindsStanding
 stands = behind-ind engine engine-lawful Found (λ x. refl) (λ y h ys x e. e ∙ ap (λ (b : Basis). setFrom b (map commandOf ys)) (sets-to y))
+
+-- ---- D, entry by entry
+
+taken : (x : Context) → NoneApplies (refusalsOf x Kind.D) → TakenOut (operandNumber x) (x .problem .cands) (problemAfter x Kind.D .cands)
+unfolding refusalsOf problemAfter
+taken x a =
+    let k = operandNumber x in
+    let ts = x .problem .cands in
+    record {
+      fewer = length-without k ts (nleb→lt (length ts) k (a .0));
+      before = λ i. getD-before k i ts (term 0 0 0);
+      behind = λ i. getD-without k i ts (term 0 0 0);
+    }
+
+pub taken-out : TakesOut
+taken-out x i z = subst (λ (k : Kind). TakenOut (operandNumber x) (x .problem .cands) (problemAfter x k .cands)) (sym e) (taken x (subst (λ (k : Kind). NoneApplies (refusalsOf x k)) e (h .own)))
+  where
+    e : x .kind ≡ Kind.D
+    e = is-kind (x .kind) Kind.D i
+
+    h : Passed engine x
+    h = passed engine engine-lawful x z
 
 -- ---- the place
 
@@ -72,6 +99,43 @@ at-next y h ys x e = omega (arith, raised y (y .kind) (h .place))
 
 pub placed : Placed
 placed job room before x g = omega (arith, behind-ind engine engine-lawful At (λ x. omega arith) at-next job room before x g)
+
+-- in the paper's words: which kinds raise the place beyond that of a row, and of a term
+
+beyond-rows : (k : Kind) → leb (raises k) inRows ≡ not (some (is k) (Kind.T ∷ Kind.A ∷ Kind.P ∷ Kind.L ∷ Kind.C ∷ []))
+beyond-rows k = all-e (λ (k : Kind). leb (raises k) inRows ≡ not (some (is k) (Kind.T ∷ Kind.A ∷ Kind.P ∷ Kind.L ∷ Kind.C ∷ []))) (Kind.none ∷ kinds)
+    (refl, (refl, (refl, (refl, (refl, (refl, (refl, (refl, (refl, (refl, tt)))))))))) (kind-among k)
+
+beyond-terms : (k : Kind) → leb (raises k) inTerms ≡ not (some (is k) (Kind.P ∷ Kind.L ∷ Kind.C ∷ []))
+beyond-terms k = all-e (λ (k : Kind). leb (raises k) inTerms ≡ not (some (is k) (Kind.P ∷ Kind.L ∷ Kind.C ∷ []))) (Kind.none ∷ kinds)
+    (refl, (refl, (refl, (refl, (refl, (refl, (refl, (refl, (refl, (refl, tt)))))))))) (kind-among k)
+
+max-leb : (a b m : ℕ) → leb (max a b) m ≡ leb a m && leb b m
+max-leb a b m = bool-ext (leb (max a b) m) (leb a m && leb b m)
+    (λ t. let l = leb→le (max a b) m t in and-i (leb a m) (leb b m) (le→leb a m (omega arith)) (le→leb b m (omega arith)))
+    (λ t. le→leb (max a b) m (let u = leb→le a m (and-l (leb a m) (leb b m) t) in let v = leb→le b m (and-r (leb a m) (leb b m) t) in omega arith))
+
+module _ (k : Kind) (barred : List Kind) (beyond : (y : Kind) → leb (raises y) (formOf k .last) ≡ not (some (is y) barred)) where
+  none-beyond : (before : List Context) → leb (highest before) (formOf k .last) ≡ noneCame barred before
+  none-beyond [] = T-true {b = leb atStart (formOf k .last)} (le→leb atStart (formOf k .last) (omega arith))
+  none-beyond (y ∷ ys) = max-leb (raises (y .kind)) (highest ys) (formOf k .last) ∙ ap₂ (λ (b c : Bool). b && c) (beyond (y .kind)) (none-beyond ys)
+
+  -- behind I it may stand where none of these came
+  place-in-words : (before : List Context) (place : ℕ) → place ≡ highest before → begun ≤ place → T (allowed k place) ↔ T (noneCame barred before)
+  place-in-words before place e l =
+      let same : leb place (formOf k .last) ≡ noneCame barred before = ap (λ (p : ℕ). leb p (formOf k .last)) e ∙ none-beyond before in (
+        λ a. subst (λ (b : Bool). T b) same (le→leb place (formOf k .last) (place-last k place a)),
+        λ t. allowed-from k place l (leb→le place (formOf k .last) (subst⁻¹ (λ (b : Bool). T b) same t)),
+      )
+
+pub places : Places
+places job room before x g l =
+    let e = placed job room before x g in
+    record {
+      row = place-in-words Kind.R (Kind.T ∷ Kind.A ∷ Kind.P ∷ Kind.L ∷ Kind.C ∷ []) beyond-rows before (x .problem .place) e l;
+      primes = place-in-words Kind.P (Kind.T ∷ Kind.A ∷ Kind.P ∷ Kind.L ∷ Kind.C ∷ []) beyond-rows before (x .problem .place) e l;
+      term = place-in-words Kind.T (Kind.P ∷ Kind.L ∷ Kind.C ∷ []) beyond-terms before (x .problem .place) e l;
+    }
 
 -- ---- no A and no D between
 

@@ -1,11 +1,11 @@
 -- What every problem of a job keeps: its rows are well formed and its candidates legal.
-use Prim.Native.Nat.{ℕ, _^_, _≤_, _<_, max}
+use Prim.Native.Nat.{ℕ, _^_, _≤_, _<_, min, max}
 use native.Mathlib.Omega.{arith}
 use native.Mathlib.Decide.{ℕ-discrete}
 use mathlib.Core.Path.{_≡_, refl, ap, _∙_, subst, subst⁻¹}
 use mathlib.Core.Bool.{Bool, true, false, not, cond, _&&_, _||_}
 use mathlib.Core.List.{List, [], _∷_, _++_}
-use lib.Dec.{T, leb, eqb, leb→le, nleb→lt}
+use lib.Dec.{T, leb, eqb, leb→le, le→leb, nleb→lt}
 use lib.Bits.{and-zero-r}
 use lib.Pow.{pow-pos}
 use lib.Seq.{getD-set-same, getD-set-other}
@@ -53,6 +53,28 @@ place-one k n i a = leb→le begun n (subst (λ (b : Bool). T (leb (cond b atSta
 
 pub place-last : (k : Kind) (n : ℕ) → T (allowed k n) → n ≤ formOf k .last
 place-last k n a = leb→le n (formOf k .last) (and-r (leb (cond (is k Kind.I) atStart begun) n) (leb n (formOf k .last)) a)
+
+abbrev firstPlace : Kind → ℕ
+firstPlace k = cond (is k Kind.I) atStart begun
+
+allowed-i : (k : Kind) (n : ℕ) → firstPlace k ≤ n → n ≤ formOf k .last → T (allowed k n)
+allowed-i k n l m = and-i (leb (firstPlace k) n) (leb n (formOf k .last)) (le→leb (firstPlace k) n l) (le→leb n (formOf k .last) m)
+
+first-le : (k : Kind) → firstPlace k ≤ begun
+first-le k = go (is k Kind.I)
+  where
+    go : (b : Bool) → cond b atStart begun ≤ begun
+    go true = omega arith
+    go false = omega arith
+
+pub allowed-from : (k : Kind) (n : ℕ) → begun ≤ n → n ≤ formOf k .last → T (allowed k n)
+allowed-from k n l m = allowed-i k n (omega (arith, first-le k)) m
+
+-- and at a lower place, but behind I if it was
+pub allowed-below : (k : Kind) (n p : ℕ) → T (allowed k n) → min begun n ≤ p → p ≤ n → T (allowed k p)
+allowed-below k n p a l m =
+    let first = leb→le (firstPlace k) n (and-l (leb (firstPlace k) n) (leb n (formOf k .last)) a) in
+    allowed-i k p (omega (arith, first-le k)) (omega (arith, place-last k n a))
 
 valid-I : (t : Context) → NoneApplies (refusalsOf t Kind.I) → Valid (t .problem) → Valid (problemAfter t Kind.I)
 unfolding refusalsOf problemAfter

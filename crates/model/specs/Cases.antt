@@ -1,5 +1,5 @@
 -- Paper 01, "The two-output example of document 003": the marked cases as one table, and the job with all its bytes;
--- and tables of jobs and library calls that pin the order of refusals (theorems: proofs/Marked).
+-- tables of jobs and library calls that pin the order of refusals, and one of jobs in which candidates come and go (theorems: proofs/Marked).
 use Prim.Native.Nat.{ℕ, zero, suc, _+_}
 use mathlib.Core.Bool.{cond}
 use mathlib.Core.List.{List, [], _∷_, _++_, map}
@@ -236,7 +236,7 @@ stops =
 abbrev pub countZeroAnswers : List ℕ
 countZeroAnswers = 0x6c ∷ 0 ∷ 1 ∷ 0x65 ∷ []
 
--- ---- K2: jobs with A and D, and the bytes that they write
+-- ---- K2: jobs with A and D, and the bytes that they write; the sets were worked out by hand
 
 pub record AnsweredJob : Type 0 where
   pub job : List ℕ
@@ -276,11 +276,14 @@ comeAndGo =
     writes (exampleRows (sixAdded (l 6 (0x43 ∷ 0x45 ∷ [])))) exampleAnswers
     -- the example's first term taken out: those above move down by one; then put in again, at the end
     ∷ writes (exampleHead ++ d 0 (ask (a 1 0 1 (ask (0x45 ∷ [])))))
-    (pageBytes (11 ∷ 13 ∷ 26 ∷ 28 ∷ []) ++ (leastBytes 5 26 ++ (pageBytes (11 ∷ 13 ∷ 26 ∷ 28 ∷ 37 ∷ 52 ∷ []) ++ (leastBytes 3 52 ++ (0x65 ∷ [])))))
+    (join (pageBytes (11 ∷ 13 ∷ 26 ∷ 28 ∷ []) ∷ leastBytes 5 26 ∷ pageBytes (11 ∷ 13 ∷ 26 ∷ 28 ∷ 37 ∷ 52 ∷ []) ∷ leastBytes 3 52 ∷ (0x65 ∷ []) ∷ []))
+    -- its third taken out, then the last of those left
+    ∷ writes (exampleHead ++ d 2 (ask (d 4 (ask (0x45 ∷ [])))))
+    (join (pageBytes (7 ∷ 14 ∷ 21 ∷ 28 ∷ []) ∷ leastBytes 3 21 ∷ pageBytes (7 ∷ 14 ∷ []) ∷ leastBytes 5 7 ∷ (0x65 ∷ []) ∷ []))
     -- behind P: the halves, and the prime taken out; the prime put in again; the halves taken out
     ∷ writes (wanted (0x50 ∷ 0x43 ∷ a 1 0 1 (a 1 1 1 (d 0 (ask (a 0 0 1 (ask (d 0 (d 0 (ask (0x45 ∷ [])))))))))))
-    ((0x70 ∷ 1 ∷ 0 ∷ 0 ∷ 1 ∷ []) ++ (leastBytes 1
-        1 ++ (pageBytes (3 ∷ []) ++ (leastBytes 2 3 ++ (pageBytes (3 ∷ 4 ∷ []) ++ (leastBytes 1 4 ++ (pageBytes (1 ∷ []) ++ (leastBytes 1 1 ++ (0x65 ∷ [])))))))))
+    (join ((0x70 ∷ 1 ∷ 0 ∷ 0 ∷ 1 ∷ []) ∷ leastBytes 1 1 ∷ pageBytes (3 ∷ []) ∷ leastBytes 2 3 ∷ pageBytes (3 ∷ 4 ∷ []) ∷ leastBytes 1 4
+    ∷ pageBytes (1 ∷ []) ∷ leastBytes 1 1 ∷ (0x65 ∷ []) ∷ []))
     ∷ []
 
 -- "against a rival's free terms the cheapest set is compared only while the candidates are the primes": the halves are not the primes, and

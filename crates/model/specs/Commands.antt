@@ -23,7 +23,7 @@ number (b ∷ bs) = b + 256 * number bs
 
 -- ---- places
 
--- the place in a job, by the last that came: nothing, I, a row, a term (T or A), or a P, L or C. Each is behind those before it
+-- the place in a job, by the furthest that came: nothing, I, a row, a term (T or A), or a P, L or C. Each is behind those before it
 abbrev pub atStart : ℕ
 atStart = 0
 

@@ -11,7 +11,7 @@ use Rattle.model.specs.Primes.{primes}
 use Rattle.model.specs.Sets.{coverable}
 use Rattle.model.specs.Commands.{Kind, Context, operand, operandTerm, operandNumber, coveringOf, tableOf}
 
--- the last of them
+-- the largest number
 abbrev pub largestNumber : ℕ
 largestNumber = 15
 

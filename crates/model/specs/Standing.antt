@@ -1,17 +1,18 @@
--- Paper 02, K2: the standing candidates, the place behind an A, the same A and D commands before two pages, and the fresh job of a query.
-use Prim.Native.Nat.{ℕ, _^_, _≤_, max}
+-- Paper 02, K2: the standing candidates, the place behind an A, pages behind the same commands, and the fresh job of a query.
+use Prim.Native.Nat.{ℕ, suc, _^_, _≤_, _<_, max}
 use mathlib.Core.Path.{_≡_}
+use mathlib.Core.Logic.{_↔_}
 use mathlib.Core.Bool.{Bool, not, _||_}
 use mathlib.Core.List.{List, [], _∷_, _++_, map, List·Memᴰ}
 use lib.Dec.{T}
-use lib.ListN.{getD, length, take, set}
-use Rattle.model.specs.Base.{without, filter, join, All}
+use lib.ListN.{getD, length, take, set, replicate}
+use Rattle.model.specs.Base.{without, every, some, filter, join, All}
 use Rattle.model.specs.Table.{Table, Term, term}
 use Rattle.model.specs.Primes.{primes}
 use Rattle.model.specs.Candidates.{Basis, basis}
-use Rattle.model.specs.Commands.{atStart, begun, inRows, inTerms, queried, Kind, formOf, is, isQueryKind, width, started, empty, basisOf, Context}
+use Rattle.model.specs.Commands.{atStart, begun, inRows, inTerms, queried, Kind, formOf, is, kindOf, isQueryKind, width, allowed, empty, basisOf, Context, operandNumber, problemAfter}
 use Rattle.model.specs.Answers.{Answer, bytesOf, termBytes, hasBytes, answer}
-use Rattle.model.specs.Rules.{engine}
+use Rattle.model.specs.Rules.{engine, refusal}
 use Rattle.model.specs.Job.{Run, run, written}
 use Rattle.model.specs.Calls.{Call, ran, Met, numberOf, writtenOf, replies}
 use Rattle.model.specs.Exchanges.{Exchange, exchange, readIn, Claim}
@@ -34,27 +35,39 @@ commandBytes c = formOf (c .kind) .code ∷ c .operands
 abbrev pub Behind : Run → List Context → Context → Type 0
 Behind r before x = (after : List Context) × (r .contexts ≡ before ++ (x ∷ after))
 
+-- the commands before x, and its own byte, are the job's bytes up to the bytes behind it (law `spelled`)
+pub record Spells (job : List ℕ) (before : List Context) (x : Context) : Type 0 where
+  pub byte : ℕ
+  pub kind : kindOf byte ≡ x .kind
+  pub bytes : job ≡ join (map (λ y. commandBytes (commandOf y)) before) ++ (byte ∷ x .rest)
+
+abbrev pub Spelled : Type 0
+Spelled = (job : List ℕ) (room : ℕ) (before : List Context) (x : Context) → Behind (run job room) before x → Spells job before x
+
 -- ---- the table and the candidates that commands set
 
-abbrev pub given : Command → ℕ → ℕ
-given c i = getD (c .operands) i 0
+abbrev pub operandOf : Command → ℕ → ℕ
+operandOf c i = getD (c .operands) i 0
 
-abbrev pub givenTerm : Command → Term
-givenTerm c = term (given c 0) (given c 1) (given c 2)
+abbrev pub termOf : Command → Term
+termOf c = term (operandOf c 0) (operandOf c 1) (operandOf c 2)
 
--- the table with on and dc at vertex v
+-- a table without a row, and with on and dc at vertex v
+abbrev pub noRowsYet : ℕ → ℕ → Table
+noRowsYet n m = record { n = n; m = m; on = replicate (2 ^ n) 0; dc = replicate (2 ^ n) 0 }
+
 abbrev pub rowSet : Table → ℕ → ℕ → ℕ → Table
 rowSet p v on dc = record { n = p .n; m = p .m; on = set (p .on) v on; dc = set (p .dc) v dc }
 
 -- I and R set the table; T and A add a candidate "at the end", P puts the primes in their place, D takes one out and "those above move down
 -- by one"; the others set nothing
 unfoldable pub setsTo : Command → Kind → Basis → Basis
-setsTo c Kind.I b = basisOf (started begun (given c 0) (given c 1) (2 ^ given c 0))
-setsTo c Kind.R b = basis (rowSet (b .table) (given c 0) (given c 1) (given c 2)) (b .cands)
-setsTo c Kind.T b = basis (b .table) (b .cands ++ (givenTerm c ∷ []))
+setsTo c Kind.I b = basis (noRowsYet (operandOf c 0) (operandOf c 1)) []
+setsTo c Kind.R b = basis (rowSet (b .table) (operandOf c 0) (operandOf c 1) (operandOf c 2)) (b .cands)
+setsTo c Kind.T b = basis (b .table) (b .cands ++ (termOf c ∷ []))
 setsTo c Kind.P b = basis (b .table) (primes (b .table))
-setsTo c Kind.A b = basis (b .table) (b .cands ++ (givenTerm c ∷ []))
-setsTo c Kind.D b = basis (b .table) (without (given c 0) (b .cands))
+setsTo c Kind.A b = basis (b .table) (b .cands ++ (termOf c ∷ []))
+setsTo c Kind.D b = basis (b .table) (without (operandOf c 0) (b .cands))
 setsTo c Kind.L b = b
 setsTo c Kind.C b = b
 setsTo c Kind.E b = b
@@ -70,8 +83,17 @@ abbrev pub standing : List Command → Basis
 standing cs = setFrom (basisOf empty) cs
 
 -- what each command of a job finds is what the commands before it set (law `stands`)
-abbrev pub Stands : Type 0
-Stands = (job : List ℕ) (room : ℕ) (before : List Context) (x : Context) → Behind (run job room) before x → basisOf (x .problem) ≡ standing (map commandOf before)
+abbrev pub FindsStanding : Type 0
+FindsStanding = (job : List ℕ) (room : ℕ) (before : List Context) (x : Context) → Behind (run job room) before x → basisOf (x .problem) ≡ standing (map commandOf before)
+
+-- what a D that is not refused leaves, entry by entry (law `taken-out`)
+pub record TakenOut (k : ℕ) (old new : List Term) : Type 0 where
+  pub fewer : suc (length new) ≡ length old
+  pub before : (i : ℕ) → i < k → getD new i (term 0 0 0) ≡ getD old i (term 0 0 0)
+  pub behind : (i : ℕ) → k ≤ i → getD new i (term 0 0 0) ≡ getD old (suc i) (term 0 0 0)
+
+abbrev pub TakesOut : Type 0
+TakesOut = (x : Context) → T (is (x .kind) Kind.D) → refusal x ≡ 0 → TakenOut (operandNumber x) (x .problem .cands) (problemAfter x (x .kind) .cands)
 
 -- ---- the place
 
@@ -96,6 +118,19 @@ highest (x ∷ xs) = max (raises (x .kind)) (highest xs)
 abbrev pub Placed : Type 0
 Placed = (job : List ℕ) (room : ℕ) (before : List Context) (x : Context) → Behind (run job room) before x → x .problem .place ≡ highest before
 
+-- none of these kinds came
+abbrev pub noneCame : List Kind → List Context → Bool
+noneCame ks before = every (λ y. not (some (is (y .kind)) ks)) before
+
+-- so, behind I: R and P stand where no T, A, P, L or C came, T where no P, L or C came (law `places`)
+pub record PlacesBehind (before : List Context) (place : ℕ) : Type 0 where
+  pub row : T (allowed Kind.R place) ↔ T (noneCame (Kind.T ∷ Kind.A ∷ Kind.P ∷ Kind.L ∷ Kind.C ∷ []) before)
+  pub primes : T (allowed Kind.P place) ↔ T (noneCame (Kind.T ∷ Kind.A ∷ Kind.P ∷ Kind.L ∷ Kind.C ∷ []) before)
+  pub term : T (allowed Kind.T place) ↔ T (noneCame (Kind.P ∷ Kind.L ∷ Kind.C ∷ []) before)
+
+abbrev pub Places : Type 0
+Places = (job : List ℕ) (room : ℕ) (before : List Context) (x : Context) → Behind (run job room) before x → begun ≤ x .problem .place → PlacesBehind before (x .problem .place)
+
 -- ---- the same commands
 
 -- in one job, behind a query: only A and D change the candidates, and nothing the table. So where no A and no D stands between, a later
@@ -108,8 +143,8 @@ SameBetween = (job : List ℕ) (room : ℕ) (before : List Context) (x : Context
     → Behind (run job room) (before ++ (x ∷ between)) y → T (isQuery x) → All (λ z. T (not (addsOrRemoves (z .kind)))) between
     → basisOf (y .problem) ≡ basisOf (x .problem)
 
--- in one job or two: x is a command of some job; of those before it these, operands included, are no queries. Where two commands stand so behind the same,
--- they find the same table and candidates (laws `same-set`, `same-found`)
+-- in one job or two: some job reads x, and cs are the commands before it that are no queries, with their operands. Where two commands
+-- stand so behind the same, they find the same table and candidates (laws `same-set`, `same-found`)
 pub record SetBy (cs : List Command) (x : Context) : Type 0 where
   pub job : List ℕ
   pub room : ℕ
@@ -122,7 +157,7 @@ abbrev pub AskedBehind : List Command → Exchange → Type 0
 AskedBehind cs e = T (isAsked e) × SetBy cs (e .context)
 
 -- "pages are joined only where the same A and D commands stand before each, in a further job too": demand 3 of any such L and C, in one job
--- or several (law `standing-demand-3`). Its rival is met only where the standing candidates are the primes
+-- or several, a corollary of `Demand3` (law `standing-demand-3`). Its rival is met only where the standing candidates are the primes
 abbrev pub StandingDemand3 : Type 0
 StandingDemand3 = (cs : List Command) (calls : List Call) → All Met calls → Claim engine (AskedBehind cs) (Demand (standing cs)) calls
 
@@ -149,11 +184,16 @@ abbrev pub Fresh : Type 0
 Fresh = (job : List ℕ) (room : ℕ) → run job room .number ≡ 0 → (before : List Context) (x : Context) → Behind (run job room) before x → T (isQuery x)
     → (larger : ℕ) → room ≤ larger → larger ≤ 32768 → GivesAlone (answer x) (run (freshJob (map commandOf before) (commandOf x)) larger)
 
+-- and in any job that answers it, a refused one too, in room for the answer and E's (law `fresh-answered`)
+abbrev pub FreshAnswered : Type 0
+FreshAnswered = (job : List ℕ) (room : ℕ) (before : List Context) (x : Context) → Behind (run job room) before x → T (isQuery x) → refusal x ≡ 0
+    → (enough : ℕ) → suc (length (bytesOf (answer x))) ≤ enough → enough ≤ 32768 → GivesAlone (answer x) (run (freshJob (map commandOf before) (commandOf x)) enough)
+
 -- what a caller reads: from c the reply to x, from f the same, with E's and no other
 pub record SameReply (c f : Call) (x : Context) : Type 0 where
   pub reply : List·Memᴰ (exchange x (answer x)) (readIn engine c)
   pub accepted : numberOf f ≡ 0
-  pub replies : replies f ≡ answer x ∷ Answer.ended ∷ []
+  pub fresh-replies : replies f ≡ answer x ∷ Answer.ended ∷ []
   pub bytes : take (writtenOf f) (f .after) ≡ bytesOf (answer x) ++ bytesOf Answer.ended
 
 -- of two calls that meet their contract, the second with the fresh job of a query of the first (law `fresh-read`)
