@@ -1,0 +1,133 @@
+/* What the fitter's tests are made of: checks, jobs, and a call between guard bytes. */
+#ifndef KIT_H
+#define KIT_H
+
+#include "covers.h"
+
+#include <stdio.h>
+#include <stdlib.h>
+#include <string.h>
+
+/* One fault can show in thousands of checks: the first ones tell enough. */
+enum { MOST_PRINTED = 20 };
+
+static unsigned passed, failed;
+
+static void check(int right, const char *name, int line)
+{
+    if (right) {
+        passed++;
+        return;
+    }
+    failed++;
+    if (failed <= MOST_PRINTED)
+        printf("line %d: wrong: %s\n", line, name);
+}
+
+#define CHECK(right) check((right) != 0, #right, __LINE__)
+
+/* Jobs. */
+
+struct job {
+    uint8_t bytes[COVER_MOST_JOB_BYTES + 1];
+    size_t length;
+};
+
+/* Where the next command of so many bytes is to be put. */
+static uint8_t *next_command(struct job *job, size_t bytes)
+{
+    if (job->length + bytes > sizeof job->bytes)
+        abort();
+    uint8_t *at = job->bytes + job->length;
+    job->length += bytes;
+    return at;
+}
+
+/* A command without operands. */
+static void add(struct job *job, enum cover_command command)
+{
+    cover_put_command(next_command(job, 1), command);
+}
+
+static void add_sizes(struct job *job, unsigned n, unsigned m)
+{
+    job->length = 0;
+    cover_put_sizes(next_command(job, COVER_SIZES_BYTES), n, m);
+}
+
+static void add_row(struct job *job, unsigned vertex, unsigned on, unsigned dc)
+{
+    cover_put_row(next_command(job, COVER_ROW_BYTES), vertex, on, dc);
+}
+
+static void add_term(struct job *job, unsigned care, unsigned value, unsigned outputs)
+{
+    cover_put_term(next_command(job, COVER_TERM_BYTES), care, value, outputs);
+}
+
+/* A candidate that comes by COVER_ADD, and one that goes. */
+static void add_late(struct job *job, unsigned care, unsigned value, unsigned outputs)
+{
+    cover_put_add(next_command(job, COVER_ADD_BYTES), care, value, outputs);
+}
+
+static void add_remove(struct job *job, unsigned number)
+{
+    cover_put_remove(next_command(job, COVER_REMOVE_BYTES), number);
+}
+
+static void add_list(struct job *job, uint64_t start, unsigned count)
+{
+    cover_put_list(next_command(job, COVER_LIST_BYTES), start, count);
+}
+
+/* Calls. */
+
+enum { GUARD = 64, GUARD_BYTE = 0xC3 };
+
+/* One more than allowed, so that too long a buffer can be lent as well. */
+static uint8_t memory[GUARD + COVER_MOST_ANSWER_BYTES + 1 + GUARD];
+static uint8_t *const answers = memory + GUARD;
+
+static uint8_t pattern(size_t i)
+{
+    return (uint8_t)(i * 37 + (i >> 8) + 11);
+}
+
+static int all_guards(const uint8_t *bytes)
+{
+    for (size_t i = 0; i < GUARD; i++)
+        if (bytes[i] != GUARD_BYTE)
+            return 0;
+    return 1;
+}
+
+/* Runs a job with this much room and checks what holds after every call. */
+static uint64_t call(const struct job *job, size_t room)
+{
+    static struct job copy;
+    memcpy(&copy, job, sizeof copy);
+    memset(memory, GUARD_BYTE, sizeof memory);
+    for (size_t i = 0; i < room; i++)
+        answers[i] = pattern(i);
+
+    uint64_t outcome = cover_job(job->bytes, job->length, answers, room);
+
+    int kept = 1;
+    for (size_t i = cover_written(outcome); i < room; i++)
+        kept = kept && answers[i] == pattern(i);
+    CHECK(kept);
+    CHECK(cover_written(outcome) <= room);
+    CHECK(all_guards(memory) && all_guards(answers + room));
+    CHECK(memcmp(&copy, job, sizeof copy) == 0);
+    CHECK(outcome >> 32 <= COVER_LAST_REFUSAL);
+    return outcome;
+}
+
+static int is(uint64_t outcome, enum cover_refusal number, size_t offset, size_t written)
+{
+    return cover_number(outcome) == number && cover_offset(outcome) == offset &&
+           cover_written(outcome) == written;
+}
+
+#endif
