@@ -3,7 +3,8 @@
 //! Every answer is held to the definitions as far as that can be done without a search: each set
 //! is an irredundant cover, sets rise from the start, the cost is that of the set. That no set
 //! is left out and none is cheaper needs a search; where it is given up the job is checked in part.
-//! A job that is checked fully is asked again with each candidate taken out and put in again.
+//! A job that is checked fully is asked again with each candidate taken out and put in again. Where
+//! candidates come and go between its queries, those that follow each other are checked by themselves.
 
 use crate::engine;
 use crate::exact::{GivenUp, Search};
