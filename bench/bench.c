@@ -16,8 +16,8 @@
  * along, or A, L and D in turn (long_job.h). -m prints the jobs as a markdown table, -c writes the times to a file as
  * CSV. The last line sums up. -a runs every job once in both engines, compares the answers and measures nothing.
  *
- * A job with a command that the other engine does not know (the plain C engine: one that is neither of paper 01 nor of
- * K2) is newer than that engine, and is left out.
+ * A job with a command that the other engine does not know (the plain C engine: one that is not of paper 01, K2 or K3)
+ * is newer than that engine, and is left out.
  *
  * The exit status is 1 where answers differ or the stack use reaches 256 KiB (with -a also where a job did not end), 2
  * where nothing was run.

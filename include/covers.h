@@ -29,6 +29,8 @@
  * The commands, each one byte with operands of fixed width, numbers low byte first:
  *   COVER_SIZES     n, m                   first, once; each 1 to 8
  *   COVER_ROW       vertex, on, dc         before any term, add, primes, list or cheapest
+ *   COVER_ROWS      vertex, 8 x (on, dc)   the rows of this vertex and of the seven above it, in
+ *                                          rising order; where a row may stand
  *   COVER_TERM      care, value, outputs   adds a candidate at the end; not after primes, list or
  *                                          cheapest
  *   COVER_PRIMES                           the primes become the candidates; once, no term or add
@@ -41,9 +43,15 @@
  *   COVER_CHEAPEST
  *   COVER_END                              last
  * An operand is one byte unless its width is given. Where nothing else is said, a command may
- * stand anywhere behind COVER_SIZES and before COVER_END. For the places of row and primes an add
- * counts even if its candidate has been taken out again. A term may follow an add or a remove as
- * long as no primes, list or cheapest came.
+ * stand anywhere behind COVER_SIZES and before COVER_END. For the places of row, rows and primes
+ * an add counts even if its candidate has been taken out again. A term may follow an add or a
+ * remove as long as no primes, list or cheapest came.
+ *
+ * COVER_ROWS equals eight COVER_ROW commands, one by one; both kinds may stand in one job, in any
+ * order of the vertices. A vertex above 255 counts as one of 2^n or more and does not wrap, so the
+ * command is refused unless its first vertex is at most 2^n - 8, and always with fewer than 3
+ * inputs. The answers are those of the job with the row commands, where that job is not too long
+ * (number 1).
  *
  * The candidates have the numbers from 0 on, in the order in which they came; at most 64 stand at
  * a time, and equal ones are allowed.
@@ -101,6 +109,7 @@ extern "C" {
 enum cover_command {
     COVER_SIZES = 0x49,    /* I */
     COVER_ROW = 0x52,      /* R */
+    COVER_ROWS = 0x42,     /* B */
     COVER_TERM = 0x54,     /* T */
     COVER_PRIMES = 0x50,   /* P */
     COVER_ADD = 0x41,      /* A */
@@ -113,6 +122,7 @@ enum cover_command {
 /* The bytes of each command, operands included. */
 #define COVER_SIZES_BYTES 3u
 #define COVER_ROW_BYTES 4u
+#define COVER_ROWS_BYTES 18u
 #define COVER_TERM_BYTES 4u
 #define COVER_PRIMES_BYTES 1u
 #define COVER_ADD_BYTES 4u
@@ -137,7 +147,9 @@ enum cover_answer {
 
 /*
  * How a job ended. At each command the refusals are tried in the order in which they stand here,
- * 15 right after 5, and the first that applies is given.
+ * 15 right after 5, and the first that applies is given. At COVER_ROWS 7 and 8 are tried row by
+ * row: 8 of a row comes before 7 of a later one. The offset is that of the command, whichever row
+ * it was.
  */
 enum cover_refusal {
     COVER_ACCEPTED = 0,
@@ -224,6 +236,19 @@ static inline size_t cover_put_row(uint8_t *at, unsigned vertex, unsigned on, un
     return COVER_ROW_BYTES;
 }
 
+/* Eight rows: on[i] and dc[i], i from 0 to 7, are those of vertex + i. */
+static inline size_t cover_put_rows(uint8_t *at, unsigned vertex, const uint8_t *on,
+                                    const uint8_t *dc)
+{
+    at[0] = COVER_ROWS;
+    at[1] = (uint8_t)vertex;
+    for (size_t i = 0; i < 8; i++) {
+        at[2 + 2 * i] = on[i];
+        at[3 + 2 * i] = dc[i];
+    }
+    return COVER_ROWS_BYTES;
+}
+
 static inline size_t cover_put_term(uint8_t *at, unsigned care, unsigned value, unsigned outputs)
 {
     at[0] = COVER_TERM;
@@ -263,6 +288,7 @@ static inline size_t cover_command_bytes(uint8_t byte)
     switch (byte) {
     case COVER_SIZES: return COVER_SIZES_BYTES;
     case COVER_ROW: return COVER_ROW_BYTES;
+    case COVER_ROWS: return COVER_ROWS_BYTES;
     case COVER_TERM: return COVER_TERM_BYTES;
     case COVER_PRIMES: return COVER_PRIMES_BYTES;
     case COVER_ADD: return COVER_ADD_BYTES;

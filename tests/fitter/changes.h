@@ -187,8 +187,9 @@ static void test_emptied(void)
 }
 
 /*
- * Places: one letter for each command. Behind I and a wanted row, R is that of the other vertex, T and
- * A have the one term, and D takes out the first. All are allowed but, where it is told, the last.
+ * Places: one letter for each command. Behind I and the wanted row of vertex 0, R is that of vertex 1, B
+ * has those of 2 to 9, T and A have the term of vertex 0, and D takes out the first. All are allowed but,
+ * where it is told, the last.
  */
 struct place {
     const char *commands;
@@ -205,15 +206,22 @@ static const struct place places[] = {
     {"PAP", 0},  {"PDP", 0},  {"PADP", 0},  {"PAR", 0},   {"PDR", 0},  {"PDAR", 0},  {"ADI", 0},  {"TCADI", 0},
     {"PAT", 0},  {"PDT", 0},  {"PDAT", 0},  {"PADT", 0},  {"ALT", 0},  {"ALAT", 0},  {"ACT", 0},  {"ACAT", 0},
     {"ACDT", 0}, {"ACADT", 0}, {"TLDAT", 0}, {"TCADT", 0},
+    {"B", 1},    {"RB", 1},   {"BR", 1},    {"BT", 1},    {"BA", 1},   {"BP", 1},    {"BTL", 1},  {"BTC", 1},
+    {"BPC", 1},  {"BE", 1},   {"RBTCE", 1}, {"BRPLE", 1}, {"BAD", 1},  {"BADT", 1},  {"BI", 0},   {"BTR", 0},
+    {"TB", 0},   {"AB", 0},   {"PB", 0},    {"TLB", 0},   {"TCB", 0},  {"PLB", 0},   {"PCB", 0},  {"ACB", 0},
+    {"TDB", 0},  {"ADB", 0},  {"PDB", 0},   {"PADDB", 0}, {"RADB", 0}, {"BTB", 0},   {"BADB", 0}, {"BAR", 0},
+    {"BPR", 0},  {"BTP", 0},  {"BADP", 0},  {"BPP", 0},   {"TADDB", 0}, {"ADADB", 0}, {"ACDB", 0},
 };
 
 static void add_letter(struct job *job, char letter)
 {
+    static const uint8_t on[8] = {0}, dc[8] = {1, 1, 1, 1, 1, 1, 1, 1};
     switch (letter) {
-    case 'I': cover_put_sizes(next_command(job, COVER_SIZES_BYTES), 1, 1); break;
+    case 'I': cover_put_sizes(next_command(job, COVER_SIZES_BYTES), 4, 1); break;
     case 'R': add_row(job, 1, 0, 1); break;
-    case 'T': add_term(job, 1, 0, 1); break;
-    case 'A': add_late(job, 1, 0, 1); break;
+    case 'B': add_rows(job, 2, on, dc); break;
+    case 'T': add_term(job, 15, 0, 1); break;
+    case 'A': add_late(job, 15, 0, 1); break;
     case 'D': add_remove(job, 0); break;
     case 'L': add_list(job, 0, 1); break;
     default: add(job, (enum cover_command)letter);
@@ -225,7 +233,7 @@ static void test_places(void)
     static struct job job;
     for (size_t i = 0; i < sizeof places / sizeof places[0]; i++) {
         size_t at = 0, taken = 0;
-        add_sizes(&job, 1, 1);
+        add_sizes(&job, 4, 1);
         add_row(&job, 0, 1, 0);
         for (const char *letter = places[i].commands; *letter; letter++) {
             taken = cover_written(call(&job, 99));
@@ -404,12 +412,20 @@ static uint64_t cover_from(uint64_t start)
     return high << 32 | (high ^ UINT32_MAX);
 }
 
-static unsigned turns(struct job *job, unsigned vertices)
+/* The rows of the first vertices, all wanted. */
+typedef void add_wanted(struct job *job, unsigned count);
+
+static void wanted_by_row(struct job *job, unsigned count)
+{
+    for (unsigned v = 0; v < count; v++)
+        add_row(job, v, 255, 0);
+}
+
+static unsigned turns(struct job *job, add_wanted *add_table, unsigned vertices)
 {
     unsigned turn = 0;
     add_sizes(job, 8, 8);
-    for (unsigned v = 0; v < 32 * vertices; v++)
-        add_row(job, v, 255, 0);
+    add_table(job, 32 * vertices);
     unsigned care = vertices == 8 ? 31 : 255;
     for (unsigned i = 0; i < 63; i++)
         add_term(job, care, i % 32, 255);
@@ -424,10 +440,10 @@ static unsigned turns(struct job *job, unsigned vertices)
 }
 
 /* In seconds of the processor, so that other work on the machine does not count. */
-static void check_turns(unsigned vertices, unsigned known)
+static void check_turns(add_wanted *add_table, unsigned vertices, unsigned known)
 {
     static struct job job;
-    CHECK(turns(&job, vertices) == known && job.length == COVER_MOST_JOB_BYTES);
+    CHECK(turns(&job, add_table, vertices) == known && job.length == COVER_MOST_JOB_BYTES);
     clock_t start = clock();
     uint64_t outcome = call(&job, COVER_MOST_ANSWER_BYTES);
     double seconds = (double)(clock() - start) / CLOCKS_PER_SEC;
@@ -445,8 +461,8 @@ static void check_turns(unsigned vertices, unsigned known)
 
 static void test_turns(void)
 {
-    check_turns(1, 2024);
-    check_turns(8, 1968);
+    check_turns(wanted_by_row, 1, 2024);
+    check_turns(wanted_by_row, 8, 1968);
 }
 
 #endif

@@ -1,12 +1,13 @@
 /*
  * Links the engine as the fitter does and asks it for lists that are known: pages over several
  * jobs and buffers, joined, against the whole list; the marked cases; candidates that come and go;
- * every refusal once. Every call lies between guard bytes, and the bytes behind `written` are held to
- * be unchanged.
+ * eight rows in a command; every refusal once. Every call lies between guard bytes, and the bytes
+ * behind `written` are held to be unchanged.
  */
 #include "changes.h"
 #include "lists.h"
 #include "problems.h"
+#include "tables.h"
 
 static void test_putting(void)
 {
@@ -34,6 +35,11 @@ static void test_putting(void)
     CHECK(cover_put_remove(at, 63) == 2 && memcmp(at, "\x44\x3F", 2) == 0);
     CHECK(cover_put_remove(at, 255) == 2 && memcmp(at, "\x44\xFF", 2) == 0);
 
+    uint8_t eight[COVER_ROWS_BYTES];
+    static const uint8_t on[] = {1, 3, 5, 7, 9, 11, 13, 255}, dc[] = {2, 4, 8, 16, 32, 64, 128, 0};
+    static const uint8_t rows[] = {0x42, 248, 1, 2, 3, 4, 5, 8, 7, 16, 9, 32, 11, 64, 13, 128, 255, 0};
+    CHECK(cover_put_rows(eight, 248, on, dc) == 18 && sizeof rows == 18 && memcmp(eight, rows, 18) == 0);
+
     uint8_t list[COVER_LIST_BYTES];
     static const uint8_t expected[] = {0x4C, 0x88, 0x77, 0x66, 0x55, 0x44, 0x33, 0x22, 0x11, 255};
     CHECK(cover_put_list(list, UINT64_C(0x1122334455667788), 255) == sizeof expected);
@@ -45,9 +51,11 @@ static void test_putting(void)
 /* Each put function gives the bytes of its command, which its first byte tells too. */
 static void test_widths(void)
 {
-    uint8_t at[COVER_LIST_BYTES];
+    uint8_t at[COVER_ROWS_BYTES];
+    static const uint8_t eight[8] = {0};
     CHECK(cover_put_sizes(at, 1, 1) == 3 && cover_command_bytes(at[0]) == 3);
     CHECK(cover_put_row(at, 0, 1, 0) == 4 && cover_command_bytes(at[0]) == 4);
+    CHECK(cover_put_rows(at, 0, eight, eight) == 18 && cover_command_bytes(at[0]) == 18);
     CHECK(cover_put_term(at, 0, 0, 1) == 4 && cover_command_bytes(at[0]) == 4);
     CHECK(cover_put_command(at, COVER_PRIMES) == 1 && cover_command_bytes(at[0]) == 1);
     CHECK(cover_put_add(at, 0, 0, 1) == 4 && cover_command_bytes(at[0]) == 4);
@@ -334,6 +342,16 @@ static const struct refused refused[] = {
     {COVER_OFF_CELL, 4, 11, 11, "I\1\1CA\1\1\1"},
     {COVER_BYTES_AFTER_END, 3, 0, 9, "I\1\1EA"},
     {COVER_BYTES_AFTER_END, 3, 0, 9, "I\1\1ED\1"},
+    {COVER_WRONG_PLACE, 0, 0, 9, "B"},
+    {COVER_WRONG_PLACE, 0, 0, 9, "B\1\1\2\1\2\1\2\1\2\1\2\1\2\1\2\1\2E"},
+    {COVER_WRONG_PLACE, 4, 2, 11, "I\1\1PB"},
+    {COVER_WRONG_PLACE, 4, 11, 11, "I\1\1CB"},
+    {COVER_NO_OPERANDS, 3, 0, 9, "I\1\1B"},
+    {COVER_NO_OPERANDS, 3, 0, 9, "I\1\1B\1\1\1\1\1\1\1\1\1\1\1\1\1\1\1\1"},
+    {COVER_WRONG_ROW, 3, 0, 9, "I\1\1B\1\1\1\1\1\1\1\1\1\1\1\1\1\1\1\1\1"},
+    {COVER_WRONG_VERTEX, 3, 0, 9, "I\1\1B\2\1\1\1\1\1\1\1\1\1\1\1\1\1\1\1\1"},
+    {COVER_NO_END, 21, 0, 9, "I\4\2B\1\1\2\1\2\1\2\1\2\1\2\1\2\1\2\1\2"},
+    {COVER_BYTES_AFTER_END, 3, 0, 9, "I\1\1EB"},
 };
 
 static void test_refusals(void)
@@ -426,9 +444,19 @@ int main(void)
     test_starts();
     test_refusals();
     test_places();
+    test_first_vertices();
+    test_spoilt_rows();
+    test_taken_vertices();
+    test_two_blocks();
+    test_cut_blocks();
+    test_no_wrap();
+    test_known_tables();
+    test_tables_by_blocks();
+    test_blocks_and_rows();
     test_fresh();
     test_lengths();
     test_turns();
+    test_largest();
     test_null();
     test_nothing_kept();
     test_paging();

@@ -60,6 +60,12 @@ static void add_row(struct job *job, unsigned vertex, unsigned on, unsigned dc)
     cover_put_row(next_command(job, COVER_ROW_BYTES), vertex, on, dc);
 }
 
+/* Eight rows by COVER_ROWS. */
+static void add_rows(struct job *job, unsigned vertex, const uint8_t *on, const uint8_t *dc)
+{
+    cover_put_rows(next_command(job, COVER_ROWS_BYTES), vertex, on, dc);
+}
+
 static void add_term(struct job *job, unsigned care, unsigned value, unsigned outputs)
 {
     cover_put_term(next_command(job, COVER_TERM_BYTES), care, value, outputs);

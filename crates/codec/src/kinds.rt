@@ -9,6 +9,7 @@ ghost use Rattle.codec.specs.Kinds.{kindIs, formed, Describes, earlyRefu
 pub enum Kind {
     I,
     R,
+    B,
     T,
     P,
     A,
@@ -26,6 +27,7 @@ pub fn kind_of(b: u8) -> Kind
     match b {
         0x49 => Kind::I,
         0x52 => Kind::R,
+        0x42 => Kind::B,
         0x54 => Kind::T,
         0x50 => Kind::P,
         0x41 => Kind::A,
@@ -63,6 +65,7 @@ pub fn form_of(k: Kind) -> Form
     match k {
         Kind::I => described(0x49, 2, 0, false),
         Kind::R => described(0x52, 3, 2, false),
+        Kind::B => described(0x42, 17, 2, false),
         Kind::T => described(0x54, 3, 3, false),
         Kind::P => described(0x50, 0, 2, false),
         Kind::A => described(0x41, 3, 4, false),

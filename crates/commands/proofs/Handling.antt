@@ -1,20 +1,20 @@
 -- The laws behind the commands: a refusal, an answer of no bytes, an answer that is written, and one that is too long.
 use Prim.Native.Nat.{ℕ, _^_, _≤_, _<_, max}
 use native.Mathlib.Omega.{arith}
+use native.Mathlib.Decide.{ℕ-discrete}
 use mathlib.Core.Path.{_≡_, refl, sym, ap, _∙_, subst, subst⁻¹}
-use mathlib.Core.Bool.{Bool, true, false, not, cond, _&&_, _||_}
+use mathlib.Core.Bool.{true, false, not, _&&_}
 use mathlib.Core.List.{List, [], _∷_, _++_}
-use borrow.Author.Tests.{lt-ltb, le-ltb, le-leb, lt-leb, leb-false}
-use lib.Dec.{ltb, leb, eqb}
+use borrow.Author.Tests.{lt-ltb, le-ltb, le-leb, lt-leb}
+use lib.Dec.{ltb, leb}
 use lib.ListN.{length, drop, take, length-take}
-use Rattle.model.specs.Base.{some}
 use Rattle.model.specs.declared.Term.{Term}
 use Rattle.model.specs.Primes.{primes}
 use Rattle.model.specs.Commands as model
-use Rattle.model.specs.Commands.{Context, tableOf, operand, operandTerm, operandNumber, problemAfter}
+use Rattle.model.specs.Commands.{Context, tableOf, operand, Row, rowOfR, operandTerm, operandNumber, problemAfter}
 use Rattle.model.specs.Answers.{Answer, bytesOf, answerFor}
-use Rattle.model.specs.Refusals.{refuse, firstOf, refusalsOf, size, badRow}
-use Rattle.model.proofs.Runs.{first-before, first-behind}
+use Rattle.model.specs.Refusals.{refuse, firstOf, refusalsOf, size}
+use Rattle.model.proofs.Runs.{first-none, first-before, first-behind}
 use Rattle.model.proofs.Sound.{refusalsOf-no}
 use Rattle.table.specs.declared.prime_list.PrimeList.{PrimeList}
 use Rattle.bits.specs.Lists.{Filled}
@@ -25,10 +25,10 @@ use Rattle.answers.specs.declared.writers.Reply.{Reply}
 use Rattle.answers.specs.declared.writers.Reply.the-variants.{Written, TooLong}
 use Rattle.answers.specs.Writers.{Replied}
 use Rattle.problem.specs.declared.Problem.{Problem}
-use Rattle.problem.specs.Problems.{listed, startedWith, atPlace, withRows, withCandidates, rowPut, termPut, termTaken, Sized, Holds, Reached}
+use Rattle.problem.specs.Problems.{listed, startedWith, atPlace, withCandidates, termPut, termTaken, Sized, Holds, Reached}
 use Rattle.problem.specs.Refusing.{rowRefusals, termRefusals, TermRefusal}
 use Rattle.problem.proofs.Refusing.{row-refusal, held-bytes, term-here}
-use Rattle.problem.proofs.Keeping.{after-I, after-R, after-term, after-P, after-D}
+use Rattle.problem.proofs.Keeping.{after-I, withRow, after-row, row-within, after-term, after-P, after-D}
 use Rattle.commands.specs.declared.Effect.{Effect}
 use Rattle.commands.specs.Effects.{refusedAs, answerBytes, lateRefusal, Handled, Found, HandlesI, HandlesR, RefusesTerm, HandlesTerm, HandlesP, HandlesD, HandlesE}
 
@@ -47,12 +47,20 @@ module _ (x : Context) (k : model.Kind) where
   late-none : 0 ≡ firstOf (refusalsOf x k) → length (answerBytes x k) ≤ x .free → 0 ≡ lateRefusal x k
   late-none e l = sym (late-last (sym e) ∙ (rw (le-ltb (x .free) (length (answerBytes x k)) l)))
 
+  -- a command that answers nothing has no other
+  pub late-silent : answerBytes x k ≡ [] → lateRefusal x k ≡ firstOf (refusalsOf x k)
+  late-silent a = go (ℕ-discrete (firstOf (refusalsOf x k)) 0)
+    where
+      go : Dec (firstOf (refusalsOf x k) ≡ 0) → lateRefusal x k ≡ firstOf (refusalsOf x k)
+      go (yes z) = sym (late-none (sym z) (omega (arith, ap length a))) ∙ sym z
+      go (no n) = sym (late-own (firstOf (refusalsOf x k)) refl n)
+
   -- ---- effects
 
   pub handled-refused : (old : List ℕ) (p : Problem) (n : ℕ) (e : Effect) → e ≡ refusedAs p n → n ≡ lateRefusal x k → (n ≡ 0 → ⊥) → Handled x k old old e
   handled-refused old p n e q l d = rw q record { number = l; refused = λ h. refl; answered = λ z. absurd (d z) }
 
-  handled-silent : (old : List ℕ) (q : Problem) → answerBytes x k ≡ [] → 0 ≡ firstOf (refusalsOf x k) → Holds q (problemAfter x k)
+  pub handled-silent : (old : List ℕ) (q : Problem) → answerBytes x k ≡ [] → 0 ≡ firstOf (refusalsOf x k) → Holds q (problemAfter x k)
       → Handled x k old old (record { number = 0; written = 0; problem = q })
   handled-silent old q a e h = record {
     number = late-none e (omega (arith, ap length a));
@@ -88,32 +96,29 @@ pub init-good : (n m r : ℕ) (q : Problem) → r ≡ firstOf (refuse 6 (not (si
 unfolding refusalsOf answerFor
 init-good n m r q o z s x free a b = handled-silent x model.Kind.I free q refl (rw (a, b) (sym z ∙ o)) (subst⁻¹ (λ (y : Problem). Holds y (problemAfter x model.Kind.I)) s (after-I x n m a b))
 
-row-vertex : (x : Context) → 0 ≡ firstOf (refusalsOf x model.Kind.R) → operand x 0 < 2 ^ x .problem .settings .n
-unfolding refusalsOf
-row-vertex x e = go (leb (2 ^ x .problem .settings .n) (operand x 0)) refl e
-  where
-    rest : ℕ
-    rest = firstOf (refuse 8 (badRow (x .problem .settings .m) (operand x 1) (operand x 2)) ∷ [])
-
-    go : (b : Bool) → leb (2 ^ x .problem .settings .n) (operand x 0) ≡ b → 0 ≡ cond (b || some (eqb (operand x 0)) (x .problem .rows .given)) 7 rest → operand x 0 < 2 ^ x .problem .settings .n
-    go true q z = absurd (omega arith)
-    go false q z = leb-false (2 ^ x .problem .settings .n) (operand x 0) q
-
+-- a row: the vertex is that of a context's R, or of a row of its B
 module _ (p : Problem) (sizes : Sized p) (v on dc r : ℕ) (o : r ≡ firstOf (rowRefusals (p .settings .n) (p .settings .m) (p .rows .given) v on dc)) where
+  abbrev asRow : Row
+  asRow = record { vertex = v; on = on; dc = dc }
+
   row-here : (x : Context) → Found p x → operand x 0 ≡ v → operand x 1 ≡ on → operand x 2 ≡ dc → r ≡ firstOf (refusalsOf x model.Kind.R)
-  row-here x f a b c = o ∙ row-refusal p x v on dc sizes (f .holds) a b c
+  unfolding refusalsOf
+  row-here x f a b c = rw (a, b, c) (o ∙ row-refusal p (x .problem) asRow sizes (f .holds))
 
   pub row-refused : (e : Effect) → (r ≡ 0 → ⊥) → e ≡ refusedAs p r → HandlesR p v on dc e
   row-refused e d q x free f a b c = handled-refused x model.Kind.R free p r e q (late-own x model.Kind.R r (row-here x f a b c) d) d
 
-  pub row-kept : (q : Problem) (i : ℕ) → r ≡ 0 → i ≡ v → q ≡ atPlace model.inRows (withRows (rowPut (p .rows) i on dc) p) → HandlesR p v on dc (record { number = 0; written = 0; problem = q })
+  row-holds : (x : Context) → Found p x → operand x 0 ≡ v → operand x 1 ≡ on → operand x 2 ≡ dc → 0 ≡ firstOf (refusalsOf x model.Kind.R) → Holds (withRow asRow p) (problemAfter x model.Kind.R)
+  unfolding refusalsOf problemAfter
+  row-holds x f a b c own =
+      let none = first-none (refusalsOf x model.Kind.R) (refusalsOf-no x model.Kind.R) (sym own) in
+      rw (a, b, c) (after-row p (x .problem) asRow (f .holds) (f .valid) (f .begun) (subst (λ (u : ℕ). u < 2 ^ x .problem .settings .n) a (row-within (x .problem) (rowOfR (x .rest)) none)))
+
+  pub row-kept : (q : Problem) → r ≡ 0 → q ≡ withRow asRow p → HandlesR p v on dc (record { number = 0; written = 0; problem = q })
   unfolding answerFor
-  row-kept q i z e w x free f a b c =
-      let s : q ≡ atPlace model.inRows (withRows (rowPut (p .rows) v on dc) p) = w ∙ ap (λ (k : ℕ). atPlace model.inRows (withRows (rowPut (p .rows) k on dc) p)) e in
+  row-kept q z s x free f a b c =
       let own : 0 ≡ firstOf (refusalsOf x model.Kind.R) = sym z ∙ row-here x f a b c in
-      handled-silent x model.Kind.R free q refl own
-      (subst⁻¹ (λ (y : Problem). Holds y (problemAfter x model.Kind.R)) s
-      (after-R x p v on dc (f .holds) (f .valid) (f .begun) a b c (subst (λ (w : ℕ). w < 2 ^ x .problem .settings .n) a (row-vertex x own))))
+      handled-silent x model.Kind.R free q refl own (subst⁻¹ (λ (y : Problem). Holds y (problemAfter x model.Kind.R)) s (row-holds x f a b c own))
 
 -- ---- T and A
 

@@ -1,2 +1,3 @@
 pub mod Handling
+pub mod EightRows
 pub mod Querying

@@ -8,7 +8,7 @@ use lib.ListN.{length, drop}
 use Rattle.model.specs.declared.Term.{Term}
 use Rattle.model.specs.Pages.{page, more}
 use Rattle.model.specs.Commands as model
-use Rattle.model.specs.Commands.{Context, tableOf, basisOf, operand, operandTerm, operandNumber, start, count, problemAfter}
+use Rattle.model.specs.Commands.{Context, tableOf, basisOf, operand, Row, rowsOfB, operandTerm, operandNumber, start, count, problemAfter}
 use Rattle.model.specs.Answers.{Answer, bytesOf, answerFor}
 use Rattle.model.specs.Refusals.{refuse, firstOf, refusalsOf}
 use Rattle.model.specs.Invariants.{Valid}
@@ -65,6 +65,10 @@ HandlesI n m e = (x : Context) (free : List ℕ) → operand x 0 ≡ n → opera
 
 abbrev pub HandlesR : Problem → ℕ → ℕ → ℕ → Effect → Type 0
 HandlesR p v on dc e = (x : Context) (free : List ℕ) → Found p x → operand x 0 ≡ v → operand x 1 ≡ on → operand x 2 ≡ dc → Handled x model.Kind.R free free e
+
+-- B, while rows may come
+abbrev pub HandlesB : Problem → List Row → Effect → Type 0
+HandlesB p ws e = (x : Context) (free : List ℕ) → Found p x → x .problem .place ≤ model.inRows → rowsOfB (x .rest) ≡ ws → Handled x model.Kind.B free free e
 
 -- r is 9 or 10 of the term t, 0 where neither applies
 abbrev pub RefusesTerm : Problem → Term → ℕ → Type 0

@@ -3,9 +3,12 @@
 // Each function here and in `queries`, which has L and C, handles one kind of command behind the tests of 3, 4 and 5. A refusal leaves the
 // free part alone.
 ghost use mathlib.Core.Path.{_≡_};
-ghost use Prim.Native.Nat.{_<_};
+ghost use Prim.Native.Nat.{_+_, _≤_, _<_};
+ghost use lib.ListN.{length, drop};
+ghost use Rattle.model.specs.Commands as model;
+ghost use Rattle.model.specs.Commands.{rowsOfB};
 ghost use Rattle.problem.specs.Problems.{Sized, Reached};
-ghost use Rattle.commands.specs.Effects.{refusedAs, RefusesTerm, HandlesI, HandlesR, HandlesTerm, HandlesP, HandlesD, HandlesE};
+ghost use Rattle.commands.specs.Effects.{refusedAs, RefusesTerm, HandlesI, HandlesR, HandlesB, HandlesTerm, HandlesP, HandlesD, HandlesE};
 use answers::writers;
 use answers::writers::Reply;
 use bits::byte;
@@ -50,8 +53,8 @@ pub fn init(p: Problem, n: u8, m: u8) -> Effect
     }
 }
 
-// R with its operands. The rows are copied once, for the test and for what becomes of them.
-pub fn row(p: Problem, v: u8, on: u8, dc: u8) -> Effect
+// A row of R or B. The rows are copied once, for the test and for what becomes of them.
+pub fn row(p: Problem, v: usize, on: u8, dc: u8) -> Effect
     requires { ⌜ Sized p ⌝ }
     ensures { λ r. ⌜ HandlesR p v on dc r ⌝ }
 {
@@ -61,14 +64,38 @@ pub fn row(p: Problem, v: u8, on: u8, dc: u8) -> Effect
     if number != 0 {
         return refused(p, number);
     }
-    let i = byte::wide(v);
-    rows.on[i] = on;
-    rows.dc[i] = dc;
-    rows.given[i] = 1;
+    rows.on[v] = on;
+    rows.dc[v] = dc;
+    rows.given[v] = 1;
     Effect {
         number: 0,
         written: 0,
         problem: problem::with_rows(p, rows),
+    }
+}
+
+// B with its operands at `at`: eight rows, one by one. (`engine::row_block` reads those that are accepted in one go.)
+pub fn eight_rows(p: Problem, job: &[u8], at: usize) -> Effect
+    requires { ⌜ Reached p ⌝ }
+    requires { ⌜ (model.begun ≤ p .place) × (p .place ≤ model.inRows) ⌝ }
+    requires { ⌜ at + 17 ≤ length (now job) ⌝ }
+    ensures { λ r. ⌜ HandlesB p (rowsOfB (drop at (now (job .entry)))) r ⌝ }
+{
+    let first = byte::wide(job[at]);
+    let mut q = p;
+    let mut i: usize = 0;
+    while i < 8 {
+        let e = row(q, first + i, job[at + 1 + 2 * i], job[at + 2 + 2 * i]);
+        if e.number != 0 {
+            return refused(p, e.number);
+        }
+        q = e.problem;
+        i += 1;
+    }
+    Effect {
+        number: 0,
+        written: 0,
+        problem: q,
     }
 }
 

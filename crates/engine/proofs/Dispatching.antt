@@ -15,13 +15,13 @@ use Rattle.model.specs.Base.{All}
 use Rattle.model.specs.declared.Term.{Term}
 use Rattle.model.specs.Table.{term}
 use Rattle.model.specs.Commands as model
-use Rattle.model.specs.Commands.{Context, basisOf, kindOf, is, isQueryKind, width, allowed, operand, operandTerm, number}
+use Rattle.model.specs.Commands.{Context, basisOf, kindOf, is, isQueryKind, width, allowed, operand, rowsOfB, operandTerm, number}
 use Rattle.model.specs.Answers.{bytesOf, answer}
 use Rattle.model.specs.Refusals.{Refusal, refuse, firstOf, refusalsOf}
 use Rattle.model.specs.Rules.{refusalsBy, refusalBy, refusal}
 use Rattle.model.specs.Invariants.{Valid}
 use Rattle.model.proofs.Runs.{Numbered, first-before, first-behind}
-use Rattle.model.proofs.Valid.{place-one}
+use Rattle.model.proofs.Valid.{place-one, place-last}
 use Rattle.codec.specs.declared.kinds.Kind.{Kind}
 use Rattle.codec.specs.declared.kinds.Kind.the-variants as variant
 use Rattle.codec.proofs.kinds.Kind.{the-type}
@@ -30,7 +30,7 @@ use Rattle.problem.specs.declared.Problem.{Problem}
 use Rattle.problem.specs.Problems.{Holds}
 use Rattle.problem.specs.Matrix.{MatrixOf}
 use Rattle.commands.specs.declared.Effect.{Effect}
-use Rattle.commands.specs.Effects.{refusedAs, lateRefusal, Handled, Found, HandlesI, HandlesR, HandlesTerm, HandlesP, HandlesD, HandlesL, HandlesC, HandlesE}
+use Rattle.commands.specs.Effects.{refusedAs, lateRefusal, Handled, Found, HandlesI, HandlesR, HandlesB, HandlesTerm, HandlesP, HandlesD, HandlesL, HandlesC, HandlesE}
 use Rattle.engine.specs.Steps.{Stepped, Steps, contextAt}
 
 -- ---- what passing 3, 4 and 5 says
@@ -48,19 +48,20 @@ early-e k place rest e = go (is k model.Kind.none) (allowed k place) (ltb rest (
 
 -- a T or an A, by what the match knows of it: the places of the two among the kinds
 abbrev pub AddsTerm : Kind → Type 0
-AddsTerm k = OneOf (2 ∷ 4 ∷ []) (tagOf the-type k)
+AddsTerm k = OneOf (3 ∷ 5 ∷ []) (tagOf the-type k)
 
 adds-term : (k : Kind) → AddsTerm k → (kindIs k ≡ model.Kind.T) ⊎ (kindIs k ≡ model.Kind.A)
 adds-term variant.T h = inl refl
 adds-term variant.A h = inr refl
-adds-term variant.I h = absurd (miss (2 ∷ 4 ∷ []) 0 tt h)
-adds-term variant.R h = absurd (miss (2 ∷ 4 ∷ []) 1 tt h)
-adds-term variant.P h = absurd (miss (2 ∷ 4 ∷ []) 3 tt h)
-adds-term variant.D h = absurd (miss (2 ∷ 4 ∷ []) 5 tt h)
-adds-term variant.L h = absurd (miss (2 ∷ 4 ∷ []) 6 tt h)
-adds-term variant.C h = absurd (miss (2 ∷ 4 ∷ []) 7 tt h)
-adds-term variant.E h = absurd (miss (2 ∷ 4 ∷ []) 8 tt h)
-adds-term variant.None h = absurd (miss (2 ∷ 4 ∷ []) 9 tt h)
+adds-term variant.I h = absurd (miss (3 ∷ 5 ∷ []) 0 tt h)
+adds-term variant.R h = absurd (miss (3 ∷ 5 ∷ []) 1 tt h)
+adds-term variant.B h = absurd (miss (3 ∷ 5 ∷ []) 2 tt h)
+adds-term variant.P h = absurd (miss (3 ∷ 5 ∷ []) 4 tt h)
+adds-term variant.D h = absurd (miss (3 ∷ 5 ∷ []) 6 tt h)
+adds-term variant.L h = absurd (miss (3 ∷ 5 ∷ []) 7 tt h)
+adds-term variant.C h = absurd (miss (3 ∷ 5 ∷ []) 8 tt h)
+adds-term variant.E h = absurd (miss (3 ∷ 5 ∷ []) 9 tt h)
+adds-term variant.None h = absurd (miss (3 ∷ 5 ∷ []) 10 tt h)
 
 -- ---- the context
 
@@ -112,6 +113,10 @@ module _ {p : Problem} {job : List ℕ} {at : ℕ} {k : Kind} {n rest : ℕ} (d 
     pub term-there : AddsTerm k → at + 1 + 3 ≤ length job
     term-there g = ⊎-elim (λ h. omega (arith, operands-there, ap width h)) (λ h. omega (arith, operands-there, ap width h)) (adds-term k g)
 
+    -- a B stands while rows may come
+    pub rows-may-come : kindIs k ≡ model.Kind.B → (model.begun ≤ p .place) × (p .place ≤ model.inRows)
+    rows-may-come g = let a = subst (λ (c : model.Kind). T (allowed c (p .place))) g (passed .1) in (place-one model.Kind.B (p .place) tt a, place-last model.Kind.B (p .place) a)
+
     at-op : (i j : ℕ) → at + 1 + i ≡ j → getD (drop (at + 1) job) i 0 ≡ getD job j 0
     at-op i j e = getD-drop (at + 1) job i 0 ∙ ap (λ (x : ℕ). getD job x 0) e
 
@@ -151,8 +156,11 @@ module _ {p : Problem} {job : List ℕ} {at : ℕ} {k : Kind} {n rest : ℕ} (d 
       pub step-I : kindIs k ≡ model.Kind.I → HandlesI (getD job (at + 1) 0) (getD job (at + 2) 0) e → Steps p rows covered job at old old e
       step-I g w = record { in-problem = λ q h v f. as-kind model.Kind.I g q h (w (contextAt q job at (length old)) old (at-op 0 (at + 1) (omega arith)) (at-op 1 (at + 2) (omega arith))) }
 
-      pub step-R : kindIs k ≡ model.Kind.R → HandlesR p (getD job (at + 1) 0) (getD job (at + 2) 0) (getD job (at + 3) 0) e → Steps p rows covered job at old old e
-      step-R g w = behind-I model.Kind.R g tt (λ x f m r a. w x old f (op x r 0 (at + 1) (omega arith)) (op x r 1 (at + 2) (omega arith)) (op x r 2 (at + 3) (omega arith)))
+      pub step-R : {v : ℕ} → kindIs k ≡ model.Kind.R → v ≡ getD job (at + 1) 0 → HandlesR p v (getD job (at + 2) 0) (getD job (at + 3) 0) e → Steps p rows covered job at old old e
+      step-R g i w = behind-I model.Kind.R g tt (λ x f m r a. w x old f (op x r 0 (at + 1) (omega arith) ∙ sym i) (op x r 1 (at + 2) (omega arith)) (op x r 2 (at + 3) (omega arith)))
+
+      pub step-B : kindIs k ≡ model.Kind.B → HandlesB p (rowsOfB (drop (at + 1) job)) e → Steps p rows covered job at old old e
+      step-B g w = behind-I model.Kind.B g tt (λ x f m r a. w x old f (omega (arith, rows-may-come g, f .holds .place)) (ap rowsOfB r))
 
       pub step-D : kindIs k ≡ model.Kind.D → HandlesD p (getD job (at + 1) 0) e → Steps p rows covered job at old old e
       step-D g w = behind-I model.Kind.D g tt (λ x f m r a. w x old f (op x r 0 (at + 1) (omega arith)))

@@ -1,15 +1,17 @@
--- What the contracts of a block of R commands cite.
+-- What the contracts of a block of R and B commands cite.
 use Prim.Native.Nat.{ℕ, _+_, _≤_, _<_}
 use mathlib.Core.Path.{_≡_}
 use mathlib.Core.List.{List}
 use lib.ListN.{getD, length, drop}
 use Rattle.model.specs.Commands as model
-use Rattle.model.specs.Commands.{kindOf}
+use Rattle.model.specs.Base.{All}
+use Rattle.model.specs.Commands.{kindOf, rowsOfB}
 use Rattle.model.specs.Refusals.{firstOf}
 use Rattle.model.specs.Rules.{engine}
 use Rattle.model.specs.Job.{Run, commands, written}
 use Rattle.model.specs.Invariants.{Valid}
 use Rattle.problem.specs.declared.Settings.{Settings}
+use Rattle.problem.specs.declared.TableRows.{TableRows}
 use Rattle.problem.specs.declared.Problem.{Problem}
 use Rattle.problem.specs.Problems.{Holds}
 use Rattle.problem.specs.Refusing.{rowRefusals}
@@ -19,6 +21,22 @@ pub record RowAt (s : Settings) (given job : List ℕ) (at : ℕ) : Type 0 where
   pub room : at + 4 ≤ length job
   pub kind : kindOf (getD job at 0) ≡ model.Kind.R
   pub accepted : 0 ≡ firstOf (rowRefusals (s .n) (s .m) given (getD job (at + 1) 0) (getD job (at + 2) 0) (getD job (at + 3) 0))
+
+-- a B with its operands stands at `at`, its vertices are bytes, and neither 7 nor 8 applies to one of its rows
+pub record BlockAt (s : Settings) (given job : List ℕ) (at : ℕ) : Type 0 where
+  pub room : at + 18 ≤ length job
+  pub kind : kindOf (getD job at 0) ≡ model.Kind.B
+  pub bytes : getD job (at + 1) 0 + 8 ≤ 256
+  pub accepted : All (λ w. 0 ≡ firstOf (rowRefusals (s .n) (s .m) given (w .vertex) (w .on) (w .dc))) (rowsOfB (drop (at + 1) job))
+
+-- r are the bytes of an R or B at `at` that is accepted; 0 leaves the command to `step`
+pub record AcceptedAt (s : Settings) (given job : List ℕ) (at r : ℕ) : Type 0 where
+  pub one : r ≡ 4 → RowAt s given job at
+  pub eight : 0 < r → (r ≡ 4 → ⊥) → (r ≡ 18) × BlockAt s given job at
+
+-- the rows of three arrays
+abbrev pub rowsOf : List ℕ → List ℕ → List ℕ → TableRows
+rowsOf on dc given = record { on = on; dc = dc; given = given }
 
 -- what is left of a job's run: from `at` on with the problem q and so much free, at most so many commands
 abbrev pub restOf : List ℕ → ℕ → model.Problem → ℕ → ℕ → Run

@@ -3,6 +3,7 @@ ghost use Prim.Native.Nat.{_≤_, _<_};
 ghost use lib.ListN.{length};
 ghost use Rattle.problem.specs.Problems.{Reached};
 ghost use Rattle.engine.specs.Steps.{Steps};
+use bits::byte;
 use codec::kinds;
 use codec::kinds::Kind;
 use codec::operands;
@@ -33,7 +34,8 @@ pub fn step(
     }
     match k {
         Kind::I => commands::init(p, job[at + 1], job[at + 2]),
-        Kind::R => commands::row(p, job[at + 1], job[at + 2], job[at + 3]),
+        Kind::R => commands::row(p, byte::wide(job[at + 1]), job[at + 2], job[at + 3]),
+        Kind::B => commands::eight_rows(p, job, at + 1),
         Kind::T | Kind::A => commands::term(p, operands::term_at(job, at + 1)),
         Kind::P => commands::primes(p, free),
         Kind::D => commands::remove(p, job[at + 1]),

@@ -33,7 +33,7 @@ module _ (rules : Rules) (law : Lawful rules) (c : Call) (m : MetBy rules c) whe
   unfolding packed
   offset-is = rw (m .returned) (omega (arith, e .offset-small, e .written-small))
 
-  written-is : writtenOf c ≡ length (written (ranBy rules c))
+  pub written-is : writtenOf c ≡ length (written (ranBy rules c))
   unfolding packed
   written-is = rw (m .returned) (omega (arith, e .offset-small, e .written-small))
 

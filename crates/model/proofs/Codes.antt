@@ -2,7 +2,7 @@
 use Prim.Native.Nat.{ℕ, _<_}
 use mathlib.Core.Path.{_≡_, refl, sym, ap, _∙_, subst}
 use mathlib.Core.Logic.{_⊎_, inl, inr}
-use mathlib.Core.Bool.{Bool, true, false, cond}
+use mathlib.Core.Bool.{Bool, true, false, not, cond}
 use mathlib.Core.List.{List, [], _∷_, List·Memᴰ, List·Memᴰ·head, List·Memᴰ·tail}
 use lib.Dec.{T, ltb, eqb, eqb→eq, ltb→lt}
 use Rattle.model.specs.Base.{All}
@@ -13,6 +13,7 @@ pub kind-of-code : (k : Kind) → kindOf (formOf k .code) ≡ k
 unfolding kindOf
 kind-of-code Kind.I = refl
 kind-of-code Kind.R = refl
+kind-of-code Kind.B = refl
 kind-of-code Kind.T = refl
 kind-of-code Kind.P = refl
 kind-of-code Kind.A = refl
@@ -25,6 +26,20 @@ kind-of-code Kind.none = refl
 -- no two commands have the same byte
 pub is-kind : (k x : Kind) → T (is k x) → k ≡ x
 is-kind k x t = sym (kind-of-code k) ∙ ap kindOf (eqb→eq (formOf k .code) (formOf x .code) t) ∙ kind-of-code x
+
+first-code : (b : ℕ) (ks : List Kind) → T (not (is (firstKind b ks) Kind.none)) → formOf (firstKind b ks) .code ≡ b
+first-code b [] n = absurd n
+first-code b (k ∷ ks) n = go (eqb b (formOf k .code)) refl (first-code b ks) n
+  where
+    go : (c : Bool) → eqb b (formOf k .code) ≡ c → (T (not (is (firstKind b ks) Kind.none)) → formOf (firstKind b ks) .code ≡ b)
+        → T (not (is (cond c k (firstKind b ks)) Kind.none)) → formOf (cond c k (firstKind b ks)) .code ≡ b
+    go true e h n = sym (eqb→eq b (formOf k .code) (rw e tt))
+    go false e h n = h n
+
+-- the byte of a command is the one that was read
+pub code-of : (b : ℕ) → T (not (is (kindOf b) Kind.none)) → formOf (kindOf b) .code ≡ b
+unfolding kindOf
+code-of b n = first-code b kinds n
 
 -- the command of a byte is one of all commands, or none
 first-in : (b : ℕ) (ks : List Kind) → (firstKind b ks ≡ Kind.none) ⊎ List·Memᴰ (firstKind b ks) ks

@@ -27,7 +27,8 @@ use Rattle.model.proofs.Runs.{NoneApplies, not-refused}
 use Rattle.model.proofs.Valid.{place-one, allowed-from}
 use Rattle.model.proofs.Demand3.{query-kind, query-place, acceptable-iff, has-bytes}
 use Rattle.model.proofs.Replay.{reads, full-of, same-operand, GivesFrom, silent, ending, last-answer}
-use Rattle.model.proofs.FreshRows.{bare, From}
+use Rattle.model.proofs.RowByRow.{bare}
+use Rattle.model.proofs.FreshRows.{From}
 
 abbrev pub tailOf : Context → List ℕ
 tailOf x = join (map termCommand (x .problem .cands)) ++ (commandBytes (commandOf x) ++ ending)
@@ -62,7 +63,7 @@ module _ (a : Answer) (room : ℕ) (bs : List ℕ) where
 -- ---- the query
 
 -- it answers by table, candidates and operands alone
-same-answer : (x y : Context) → HasBasis (basisOf (x .problem)) y → (k : Kind) → T (isQueryKind k) → take (width k) (y .rest) ≡ take (width k) (x .rest) → answerFor y k ≡ answerFor x k
+pub same-answer : (x y : Context) → HasBasis (basisOf (x .problem)) y → (k : Kind) → T (isQueryKind k) → take (width k) (y .rest) ≡ take (width k) (x .rest) → answerFor y k ≡ answerFor x k
 unfolding answerFor
 same-answer x y s = any-query (λ k. take (width k) (y .rest) ≡ take (width k) (x .rest) → answerFor y k ≡ answerFor x k) (page-same, (cheapest-same, tt))
   where

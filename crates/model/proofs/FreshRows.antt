@@ -1,24 +1,25 @@
--- K2: the I and R commands of a job, read again with nothing between them: they set the same table, and are short.
+-- K2: the I, R and B commands of a job, read again with nothing between them: they set the same table, and are short.
 use Prim.Native.Nat.{ℕ, zero, suc, _+_, _*_, _^_, _≤_, _<_, min}
 use native.Mathlib.Omega.{arith}
 use mathlib.Core.Path.{_≡_, refl, ap, _∙_, subst, subst⁻¹}
 use mathlib.Core.Logic.{_⊎_, inl, inr}
-use mathlib.Core.Bool.{not}
+use mathlib.Core.Bool.{not, _||_}
 use mathlib.Core.List.{List, [], _∷_, _++_, map, append-assoc, List·Memᴰ}
 use lib.Dec.{T, leb, eqb, nleb→lt}
 use lib.Pow.{pow-mono}
 use lib.Seq.{take-at}
 use lib.ListN.{length, take, length-append}
-use Rattle.model.specs.Base.{below, some, filter, join, All, Ordered}
-use Rattle.model.specs.Commands.{begun, inRows, Kind, is, width, allowed, Problem, empty, atPlace, withCands, Context, operand, problemAfter}
+use Rattle.model.specs.Base.{from, below, some, filter, join, All, Ordered}
+use Rattle.model.specs.Commands.{begun, inRows, Kind, is, width, allowed, Problem, empty, Context, operand, Row, rowOfR, rowOfB, rowsOfB, addRow, addRows, problemAfter}
 use Rattle.model.specs.Answers.{Answer, answerFor, answer}
-use Rattle.model.specs.Refusals.{refusalsOf}
+use Rattle.model.specs.Refusals.{rowRefusals, rowsRefusals, refusalsOf}
 use Rattle.model.specs.Rules.{engine}
 use Rattle.model.specs.Job.{run}
 use Rattle.model.specs.Standing.{commandOf, commandBytes, Behind, raises, setsTable}
 use Rattle.model.proofs.Lists.{yes-or-no, not-or-l, not-or-r, T-true, T-false, not-some, below-i, all-to, distinct-among}
 use Rattle.model.proofs.Matrix.{from-length}
 use Rattle.model.proofs.Runs.{NoneApplies, Passed, not-refused}
+use Rattle.model.proofs.RowByRow.{rows-keep, rows-given, bare, rows-refused-bare, rows-bare, same-rows, rows-eight}
 use Rattle.model.proofs.Sound.{engine-lawful}
 use Rattle.model.proofs.Valid.{place-one, place-last, allowed-below}
 use Rattle.model.proofs.Behind.{behind-ind}
@@ -37,13 +38,9 @@ rows-other y ys n = rw (T-false {b = setsTable (y .kind)} n)
 
 -- ---- one command
 
--- a problem with its rows and no candidate
-abbrev pub bare : ℕ → Problem → Problem
-bare p q = atPlace p (withCands [] q)
-
 -- all others come behind I, and leave the table and the rows
 behind-I : (x : Context) → Passed engine x → T (not (setsTable (x .kind))) → begun ≤ x .problem .place
-behind-I x h n = place-one (x .kind) (x .problem .place) (not-or-l (is (x .kind) Kind.I) (is (x .kind) Kind.R) n) (h .place)
+behind-I x h n = place-one (x .kind) (x .problem .place) (not-or-l (is (x .kind) Kind.I) (is (x .kind) Kind.R || is (x .kind) Kind.B) n) (h .place)
 
 others-keep : (x : Context) (k : Kind) → T (not (setsTable k)) → (p : ℕ) → bare p (problemAfter x k) ≡ bare p (x .problem)
 unfolding problemAfter
@@ -56,7 +53,7 @@ others-keep x Kind.C n p = refl
 others-keep x Kind.E n p = refl
 others-keep x Kind.none n p = refl
 
--- an I or R read again: it meets the same refusals, sets the same, and is silent
+-- an I, R or B read again: it meets the same refusals, sets the same, and is silent
 record Again (k : Kind) (x y : Context) : Type 0 where
   refusals : refusalsOf y k ≡ refusalsOf x k
   after : problemAfter y k ≡ bare (raises k) (problemAfter x k)
@@ -64,6 +61,10 @@ record Again (k : Kind) (x y : Context) : Type 0 where
   goes : T (not (is k Kind.E))
   named : T (not (is k Kind.none))
   places : (begun ≤ raises k) × (raises k ≤ inRows)
+
+eight-bare : (bs : List ℕ) (p : ℕ) (q : Problem) → addRows (bare p q) (rowsOfB bs) ≡ bare inRows (addRows q (rowsOfB bs))
+unfolding rowsOfB
+eight-bare bs p q = rows-bare (rowOfB bs 0) (map (rowOfB bs) (from 1 7)) p q
 
 row-again : (x : Context) (p : ℕ) (bs : List ℕ) (room : ℕ) (k : Kind) → T (setsTable k) → let y = reads (bare p (x .problem)) (commandOf x) bs room in
     ((i : ℕ) → i < width k → operand y i ≡ operand x i) → Again k x y
@@ -77,11 +78,22 @@ row-again x p bs room Kind.R t g =
     let b = g 1 (omega arith) in
     let c = g 2 (omega arith) in
     record { refusals = rw (a, b, c); after = rw (a, b, c); silent = refl; goes = tt; named = tt; places = omega arith }
+row-again x p bs room Kind.B t g =
+    let q = x .problem in
+    let e = same-rows (commandOf x .operands ++ bs) (x .rest) g in
+    record {
+      refusals = ap (rowsRefusals (bare p q)) e ∙ rows-refused-bare (rowsOfB (x .rest)) p q;
+      after = ap (addRows (bare p q)) e ∙ eight-bare (x .rest) p q;
+      silent = refl;
+      goes = tt;
+      named = tt;
+      places = omega arith;
+    }
 
 -- ---- the commands read again, then bytes that give an answer
 
 module _ (a : Answer) (room : ℕ) where
-  -- wherever an I or R of the job stood, with no candidate, these bytes give the answer
+  -- wherever an I, R or B of the job stood, with no candidate, these bytes give the answer
   abbrev pub From : List ℕ → Problem → Type 0
   From bs q = (p : ℕ) → min begun (q .place) ≤ p → p ≤ min inRows (q .place) → GivesFrom a room bs (bare p q)
 
@@ -135,14 +147,17 @@ module _ (a : Answer) (room : ℕ) where
 abbrev Given : Problem → Type 0
 Given q = Ordered (λ v w. T (not (eqb v w))) (q .rows .given) × All (λ v. v < 2 ^ q .settings .n) (q .rows .given)
 
+given-row : (q : Problem) (w : Row) → NoneApplies (rowRefusals q w) → Given q → Given (addRow q w)
+given-row q w a g =
+    let high = leb (2 ^ q .settings .n) (w .vertex) in
+    let there = some (eqb (w .vertex)) (q .rows .given) in
+    ((not-some (eqb (w .vertex)) (q .rows .given) (not-or-r high there (a .0)), g .0), (nleb→lt (2 ^ q .settings .n) (w .vertex) (not-or-l high there (a .0)), g .1))
+
 row-given : (x : Context) (k : Kind) → T (setsTable k) → NoneApplies (refusalsOf x k) → Given (x .problem) → Given (problemAfter x k)
 unfolding refusalsOf problemAfter
 row-given x Kind.I t a g = (tt, tt)
-row-given x Kind.R t a g =
-    let v = operand x 0 in
-    let high = leb (2 ^ x .problem .settings .n) v in
-    let there = some (eqb v) (x .problem .rows .given) in
-    ((not-some (eqb v) (x .problem .rows .given) (not-or-r high there (a .0)), g .0), (nleb→lt (2 ^ x .problem .settings .n) v (not-or-l high there (a .0)), g .1))
+row-given x Kind.R t a g = given-row (x .problem) (rowOfR (x .rest)) a g
+row-given x Kind.B t a g = rows-keep Given given-row (rowsOfB (x .rest)) (x .problem) a g
 
 given-next : (x : Context) → Passed engine x → Given (x .problem) → Given (problemAfter x (x .kind))
 given-next x h g = go (yes-or-no (setsTable (x .kind)))
@@ -151,9 +166,9 @@ given-next x h g = go (yes-or-no (setsTable (x .kind)))
     go (inl t) = row-given x (x .kind) t (h .own) g
     go (inr n) = subst⁻¹ Given (others-keep x (x .kind) n 0) g
 
--- ---- the length of I and the R
+-- ---- the length of I and the rows
 
--- what I and so many R take, from I on
+-- what I and R commands for so many rows take, from I on: a B takes less than its eight R
 abbrev rowBytes : ℕ → ℕ → ℕ
 rowBytes zero rows = 0
 rowBytes (suc place) rows = 3 + 4 * rows
@@ -165,10 +180,18 @@ from-I : (place rows : ℕ) → begun ≤ place → rowBytes place rows ≡ 3 + 
 from-I zero rows l = absurd (omega arith)
 from-I (suc place) rows l = refl
 
+eight-begun : (bs : List ℕ) (q : Problem) → begun ≤ addRows q (rowsOfB bs) .place
+unfolding rowsOfB
+eight-begun bs q = omega arith
+
 row-taken : (x : Context) (k : Kind) → T (setsTable k) → T (allowed k (x .problem .place)) → suc (width k) + taken (x .problem) ≤ taken (problemAfter x k)
 unfolding problemAfter
 row-taken x Kind.I t a = let z : x .problem .place ≡ 0 = omega (arith, place-last Kind.I (x .problem .place) a) in rw z (omega arith)
 row-taken x Kind.R t a = omega (arith, from-I (x .problem .place) (length (x .problem .rows .given)) (place-one Kind.R (x .problem .place) tt a))
+row-taken x Kind.B t a =
+    let ws = rowsOfB (x .rest) in
+    let n = length (x .problem .rows .given) in
+    omega (arith, from-I (x .problem .place) n (place-one Kind.B (x .problem .place) tt a), from-I (addRows (x .problem) ws .place) (length (addRows (x .problem) ws .rows .given)) (eight-begun (x .rest) (x .problem)), rows-given ws (x .problem), rows-eight (x .rest))
 
 other-taken : (x : Context) → Passed engine x → T (not (setsTable (x .kind))) → taken (x .problem) ≡ taken (problemAfter x (x .kind))
 other-taken x h n =

@@ -16,6 +16,7 @@ pub mod Legal
 pub mod Codes
 pub mod Read
 pub mod Runs
+pub mod RowByRow
 pub mod Sound
 pub mod Valid
 pub mod Library
@@ -29,6 +30,15 @@ pub mod Replay
 pub mod FreshRows
 pub mod FreshQuery
 pub mod Fresh
+pub mod Pieces
+pub mod ExpandedJob
+pub mod Alike
+pub mod Traced
+pub mod RowsRun
+pub mod ExpandedCommand
+pub mod Expanded
+pub mod ExpandedCall
 pub mod Marked
+pub mod EightRows
 pub mod Example
 pub mod Changes

@@ -2,7 +2,7 @@
 use Prim.Native.Nat.{ℕ, zero, suc, _+_, _≤_, _<_}
 use native.Mathlib.Omega.{arith}
 use native.Mathlib.Decide.{decLt}
-use mathlib.Core.Path.{_≡_, refl, ap, subst, subst⁻¹}
+use mathlib.Core.Path.{_≡_, refl, ap, _∙_, subst, subst⁻¹}
 use mathlib.Core.Logic.{_⊎_, inl, inr}
 use mathlib.Core.Bool.{Bool, true, false, not, cond, _&&_, _||_}
 use mathlib.Core.List.{List, [], _∷_, _++_, map, List·Memᴰ, List·Memᴰ·head, List·Memᴰ·tail, Memᴰ·append-left, Memᴰ·append-right, Sublistᴰ, Sublistᴰ·slnil, Sublistᴰ·cons, Sublistᴰ·cons-cons}
@@ -148,6 +148,11 @@ from-i i (suc k) x h l = go (decLt i x) (from-i (suc i) k x)
     go : Dec (i < x) → (suc i ≤ x → x < suc i + k → List·Memᴰ x (from (suc i) k)) → List·Memᴰ x (from i (suc k))
     go (yes e) r = List·Memᴰ·tail (r e (omega arith))
     go (no e) r = let q : x ≡ i = omega arith in List·Memᴰ·head q
+
+pub from-at : (i k j : ℕ) → j < k → getD (from i k) j 0 ≡ i + j
+from-at i zero j l = absurd (omega arith)
+from-at i (suc k) zero l = omega arith
+from-at i (suc k) (suc j) l = from-at (suc i) k j (omega arith) ∙ omega arith
 
 pub from-e : (i k : ℕ) {x : ℕ} → List·Memᴰ x (from i k) → (i ≤ x) × (x < i + k)
 from-e i zero m = elim m [ ]

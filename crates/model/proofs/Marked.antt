@@ -14,7 +14,7 @@ use Rattle.model.specs.Primes.{contains, sameTerm, containedIn, terms, p
 use Rattle.model.specs.Sets.{covers, cover, coverable, redundant, irredundant, irredundants, cost, cheapest}
 use Rattle.model.specs.Pages.{atOrAbove, page, more}
 use Rattle.model.specs.Candidates.{termCost, listCost, covering}
-use Rattle.model.specs.Commands.{Kind, kindOf, width, allowed, Context, problemAfter, tableOf}
+use Rattle.model.specs.Commands.{Kind, kindOf, width, allowed, Context, rowsOfB, problemAfter, tableOf}
 use Rattle.model.specs.Answers.{answer, answerFor}
 use Rattle.model.specs.Refusals.{refusalsOf}
 use Rattle.model.specs.Rules.{refusal, refusalBy, refusalsBy}
@@ -69,7 +69,7 @@ rival-cheaper = (tt, omega arith)
 
 -- jobs with their number, offset and written
 pub stopped-jobs : map (λ c. packed (run (c .job) (c .room))) stops ≡ map (λ c. c .number * 2 ^ 32 + c .offset * 2 ^ 16 + c .written) stops
-unfolding irredundants irredundant redundant cover covers coverable isOn onCells cells holds termCost cost cheapest ones onesIn primes prime legal formed holdsNoOff isOff isDc contains sameTerm containedIn terms runBy kindOf packed written refusalBy refusalsBy refusalsOf answer answerFor problemAfter page more atOrAbove
+unfolding irredundants irredundant redundant cover covers coverable isOn onCells cells holds termCost cost cheapest ones onesIn primes prime legal formed holdsNoOff isOff isDc contains sameTerm containedIn terms runBy kindOf rowsOfB packed written refusalBy refusalsBy refusalsOf answer answerFor problemAfter page more atOrAbove
 stopped-jobs = refl
 
 -- 11 is before 14 at P: with more than 64 primes it is 11, whatever the free part. No job of the table above shows it, for so many primes

@@ -18,7 +18,7 @@ use Rattle.model.specs.Rules.{Rules, refusalsBy, refusalBy}
 use Rattle.model.specs.Job.{Run, stop, answerThen, commands, runBy, RefusedAt, Judged, written}
 use Rattle.model.specs.Invariants.{Sound}
 use Rattle.model.proofs.Read.{Fits}
-use Rattle.model.proofs.Lists.{twice, not-not, T-false, all-append, all-left, all-right}
+use Rattle.model.proofs.Lists.{twice, not-not, T-true, T-false, all-append, all-left, all-right}
 
 -- ---- what an answered command has passed
 
@@ -114,6 +114,23 @@ pub place-first : (rules : Rules) (x : Context) → T (not (is (x .kind) Kind.no
 unfolding refusalBy refusalsBy
 place-first rules x n a = rw (T-false {b = is (x .kind) Kind.none} n, T-false {b = allowed (x .kind) (x .problem .place)} a)
 
+-- where it may stand, with its operands there and no answer, its own refusals decide
+pub own-refusal : (rules : Rules) (x : Context) → T (not (is (x .kind) Kind.none)) → T (allowed (x .kind) (x .problem .place)) → width (x .kind) ≤ length (x .rest) → bytesOf (rules .answer x) ≡ []
+    → refusalBy rules x ≡ firstOf (rules .own x)
+unfolding refusalBy refusalsBy
+own-refusal rules x n a l e =
+    rw (
+      T-false {b = is (x .kind) Kind.none} n,
+      T-true {b = allowed (x .kind) (x .problem .place)} a,
+      T-false {b = ltb (length (x .rest)) (width (x .kind))} (le→nltb (length (x .rest)) (width (x .kind)) l),
+      e,
+    )
+    (without-room (rules .own x))
+  where
+    without-room : (rs : List Refusal) → firstOf (rs ++ (refuse 14 (ltb (x .free) 0) ∷ [])) ≡ firstOf rs
+    without-room [] = rw (T-false {b = ltb (x .free) 0} (le→nltb (x .free) 0 (omega arith)))
+    without-room (r ∷ rs) = ap (λ (n : ℕ). cond (r .applies) (r .no) n) (without-room rs)
+
 module _ (rules : Rules) (law : Lawful rules) where
   all-numbered : (x : Context) → All Numbered (refusalsBy rules x)
   unfolding refusalsBy
@@ -153,10 +170,24 @@ module _ (rules : Rules) (law : Lawful rules) where
 abbrev pub context : Problem → ℕ → List ℕ → ℕ → Context
 context q b bs free = record { problem = q; kind = kindOf b; rest = bs; free = free }
 
--- a refused command ends the run at the "offset of the command's first byte"
+-- one step of a run
+module _ (rules : Rules) (k : ℕ) (q : Problem) (b : ℕ) (bs : List ℕ) (free at : ℕ) where
+  -- a refused command ends it
+  pub step-refused : let x = context q b bs free in T (not (eqb (refusalBy rules x) 0)) → commands rules (suc k) q (b ∷ bs) free at ≡ stop (refusalBy rules x) at (x ∷ [])
+  step-refused n = rw (T-false {b = eqb (refusalBy rules (context q b bs free)) 0} n)
+
+  pub step-ends : let x = context q b bs free in refusalBy rules x ≡ 0 → T (is (kindOf b) Kind.E) → commands rules (suc k) q (b ∷ bs) free at ≡ answerThen rules x (stop 0 (at + 1) [])
+  step-ends z e = rw (z, T-true {b = is (kindOf b) Kind.E} e)
+
+  pub step-goes : let x = context q b bs free in refusalBy rules x ≡ 0 → T (not (is (kindOf b) Kind.E))
+      → commands rules (suc k) q (b ∷ bs) free at
+      ≡ answerThen rules x (commands rules k (rules .after x) (drop (width (kindOf b)) bs) (free - length (bytesOf (rules .answer x))) (at + 1 + width (kindOf b)))
+  step-goes z n = rw (z, T-false {b = is (kindOf b) Kind.E} n)
+
+-- at the "offset of the command's first byte"
 pub refused-here : (rules : Rules) (k : ℕ) (q : Problem) (b : ℕ) (bs : List ℕ) (free at : ℕ) → T (not (eqb (refusalBy rules (context q b bs free)) 0))
     → commands rules (suc k) q (b ∷ bs) free at .offset ≡ at
-refused-here rules k q b bs free at n = rw (T-false {b = eqb (refusalBy rules (context q b bs free)) 0} n)
+refused-here rules k q b bs free at n = ap (λ (r : Run). r .offset) (step-refused rules k q b bs free at n)
 
 -- a claim on the run of some bytes from a problem, a free part and an offset on; and what it asks where the first command is refused,
 -- where it is the last, and where others follow
@@ -219,6 +250,11 @@ module _ (rules : Rules) (law : Lawful rules) (P : OnRuns) (short : IfShort rule
 pub run-is : (rules : Rules) (job : List ℕ) (room : ℕ) → length job ≤ 32768 → room ≤ 32768 → runBy rules job room ≡ commands rules (suc (length job)) empty job room 0
 unfolding runBy
 run-is rules job room l m = rw (T-false {b = ltb 32768 (length job)} (le→nltb 32768 (length job) l), T-false {b = ltb 32768 room} (le→nltb 32768 room m))
+
+-- and one that is too long, or in a buffer that is
+pub run-long : (rules : Rules) (job : List ℕ) (room : ℕ) → T (ltb 32768 (length job) || ltb 32768 room) → runBy rules job room ≡ stop 1 0 []
+unfolding runBy
+run-long rules job room t = rw (T-true {b = ltb 32768 (length job) || ltb 32768 room} t)
 
 -- ---- where a job stops, and how much it writes
 

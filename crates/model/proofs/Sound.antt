@@ -15,7 +15,7 @@ use Rattle.model.specs.Sets.{Covering, members, coverable, irredundant, 
 use Rattle.model.specs.Pages.{atOrAbove, page, more}
 use Rattle.model.specs.Candidates.{termCost}
 use Rattle.model.specs.Commands.{queried, Kind, kindOf, width, Problem, empty, atPlace, Context, low, operand, operandTerm, operandNumber}
-use Rattle.model.specs.Commands.{start, count, coveringOf, withTerm, problemAfter, tableOf}
+use Rattle.model.specs.Commands.{start, count, coveringOf, Row, rowOfR, rowsOfB, addRow, withTerm, problemAfter, tableOf}
 use Rattle.model.specs.Answers.{Answer, bytesOf, answerFor, answer}
 use Rattle.model.specs.Refusals.{size, candidateRefusals, refusalsOf}
 use Rattle.model.specs.Rules.{Rules, engine}
@@ -29,6 +29,7 @@ use Rattle.model.proofs.Costs.{cost-small}
 use Rattle.model.proofs.Cubes.{Formed, formed-e, legal-formed, prime-e, primes-e}
 use Rattle.model.proofs.Codes.{is-kind}
 use Rattle.model.proofs.Runs.{Numbered, NoneApplies, Lawful, context, OnRuns, IfEnds, IfGoes, run-ind}
+use Rattle.model.proofs.RowByRow.{rows-keep, rows-numbered}
 use Rattle.model.proofs.Read.{Fits}
 
 -- ---- terms
@@ -60,7 +61,7 @@ flag-byte : (m : Bool) → cond m 1 0 < 256
 flag-byte true = omega arith
 flag-byte false = omega arith
 
-getD-byte : (bs : List ℕ) (i : ℕ) → Bytes bs → getD bs i 0 < 256
+pub getD-byte : (bs : List ℕ) (i : ℕ) → Bytes bs → getD bs i 0 < 256
 getD-byte [] i a = omega arith
 getD-byte (b ∷ bs) zero a = a .0
 getD-byte (b ∷ bs) (suc i) a = getD-byte bs i (a .1)
@@ -112,6 +113,9 @@ record LawfulAt (t : Context) (k : Kind) : Type 0 where
 sound-at : (place : ℕ) (q : Problem) → Sound q → Sound (atPlace place q)
 sound-at place q s = record { inputs = s .inputs; outputs = s .outputs; few = s .few; small = s .small }
 
+pub sound-row : (q : Problem) (w : Row) → Sound q → Sound (addRow q w)
+sound-row q w s = record { inputs = s .inputs; outputs = s .outputs; few = s .few; small = s .small }
+
 sound-I : (t : Context) → NoneApplies (refusalsOf t Kind.I) → Sound (problemAfter t Kind.I)
 unfolding refusalsOf problemAfter
 sound-I t a =
@@ -152,9 +156,10 @@ fits-C t a s =
 lawful-at : (t : Context) (k : Kind) → LawfulAt t k
 unfolding refusalsOf problemAfter answerFor
 lawful-at t Kind.I = record { numbered = (omega arith, tt); sound = λ a s. sound-I t a; fits = λ a s. (tt, λ b. tt) }
-lawful-at t Kind.R = record {
-  numbered = (omega arith, (omega arith, tt));
-  sound = λ a s. record { inputs = s .inputs; outputs = s .outputs; few = s .few; small = s .small };
+lawful-at t Kind.R = record { numbered = (omega arith, (omega arith, tt)); sound = λ a s. sound-row (t .problem) (rowOfR (t .rest)) s; fits = λ a s. (tt, λ b. tt) }
+lawful-at t Kind.B = record {
+  numbered = rows-numbered (rowsOfB (t .rest)) (t .problem);
+  sound = rows-keep Sound (λ q w a s. sound-row q w s) (rowsOfB (t .rest)) (t .problem);
   fits = λ a s. (tt, λ b. tt);
 }
 lawful-at t Kind.T = record { numbered = (omega arith, (omega arith, (omega arith, tt))); sound = sound-term t; fits = λ a s. (tt, λ b. tt) }

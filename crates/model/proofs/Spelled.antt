@@ -1,31 +1,16 @@
 -- The bytes of a job are those of the commands that it reads.
 use Prim.Native.Nat.{ℕ}
 use mathlib.Core.Path.{_≡_, refl, sym, ap, _∙_, subst}
-use mathlib.Core.Bool.{Bool, true, false, not, cond}
 use mathlib.Core.List.{List, [], _∷_, _++_, map, append-assoc}
-use lib.Dec.{T, eqb, eqb→eq}
 use lib.ListN.{take, take-append-drop}
 use Rattle.model.specs.Base.{join}
-use Rattle.model.specs.Commands.{Kind, formOf, is, firstKind, kinds, kindOf, width, Context}
+use Rattle.model.specs.Commands.{formOf, kindOf, width, Context}
 use Rattle.model.specs.Rules.{engine}
 use Rattle.model.specs.Standing.{commandOf, commandBytes, Behind, Spells, Spelled}
+use Rattle.model.proofs.Codes.{code-of}
 use Rattle.model.proofs.Runs.{context, OnRuns, IfGoes, run-ind}
 use Rattle.model.proofs.Sound.{engine-lawful}
 use Rattle.model.proofs.Behind.{not-nil}
-
-first-code : (b : ℕ) (ks : List Kind) → T (not (is (firstKind b ks) Kind.none)) → formOf (firstKind b ks) .code ≡ b
-first-code b [] n = absurd n
-first-code b (k ∷ ks) n = go (eqb b (formOf k .code)) refl (first-code b ks) n
-  where
-    go : (c : Bool) → eqb b (formOf k .code) ≡ c → (T (not (is (firstKind b ks) Kind.none)) → formOf (firstKind b ks) .code ≡ b)
-        → T (not (is (cond c k (firstKind b ks)) Kind.none)) → formOf (cond c k (firstKind b ks)) .code ≡ b
-    go true e h n = sym (eqb→eq b (formOf k .code) (rw e tt))
-    go false e h n = h n
-
--- the byte of a command is the one that was read
-code-of : (b : ℕ) → T (not (is (kindOf b) Kind.none)) → formOf (kindOf b) .code ≡ b
-unfolding kindOf
-code-of b n = first-code b kinds n
 
 abbrev Each : OnRuns
 Each q bs free at r = (before : List Context) (x : Context) → Behind r before x → Spells bs before x

@@ -11,15 +11,16 @@ use lib.Seq.{getD-take}
 use lib.ListN.{length}
 use Rattle.model.specs.Base.{some, filter, All}
 use Rattle.model.specs.Table.{term}
-use Rattle.model.specs.Candidates.{Basis}
-use Rattle.model.specs.Commands.{atStart, begun, inRows, inTerms, queried, Kind, formOf, is, kinds, width, isQueryKind, allowed, empty, Problem, basisOf, Context, operand, operandNumber, problemAfter}
+use Rattle.model.specs.Candidates.{Basis, basis}
+use Rattle.model.specs.Commands.{atStart, begun, inRows, inTerms, queried, Kind, formOf, is, kinds, width, isQueryKind, allowed, empty, Problem, tableOf, basisOf, Context, operand, operandNumber, Row, rowsOfB, problemAfter}
 use Rattle.model.specs.Refusals.{refusalsOf}
 use Rattle.model.specs.Rules.{engine}
 use Rattle.model.specs.Demand3.{HasBasis}
-use Rattle.model.specs.Standing.{Command, commandOf, operandOf, setsTo, setFrom, standing, FindsStanding, TakenOut, TakesOut, raises, highest, Placed, noneCame, Places, addsOrRemoves, SameBetween, SetBy, AskedBehind, StandingDemand3}
+use Rattle.model.specs.Standing.{Command, commandOf, operandOf, rowsSet, setsTo, setFrom, standing, FindsStanding, TakenOut, TakesOut, raises, highest, Placed, noneCame, Places, addsOrRemoves, SameBetween, SetBy, AskedBehind, StandingDemand3}
 use Rattle.model.proofs.Lists.{T-true, bool-ext, and-l, and-r, and-i, length-without, getD-before, getD-without, all-e}
 use Rattle.model.proofs.Codes.{is-kind, kind-among, any-query, query-keeps}
 use Rattle.model.proofs.Runs.{NoneApplies, Passed, passed}
+use Rattle.model.proofs.RowByRow.{rows-set, same-rows}
 use Rattle.model.proofs.Sound.{engine-lawful}
 use Rattle.model.proofs.Valid.{place-one, place-last, allowed-from}
 use Rattle.model.proofs.Exchanges.{claim-where}
@@ -33,6 +34,7 @@ sets-by : (x : Context) (k : Kind) → ((i : ℕ) → i < width k → operandOf 
 unfolding problemAfter setsTo
 sets-by x Kind.I g = rw (g 0 (omega arith), g 1 (omega arith))
 sets-by x Kind.R g = rw (g 0 (omega arith), g 1 (omega arith), g 2 (omega arith))
+sets-by x Kind.B g = rows-set (rowsOfB (x .rest)) (x .problem) ∙ ap (λ (ws : List Row). basis (rowsSet (tableOf (x .problem)) ws) (x .problem .cands)) (sym (same-rows (commandOf x .operands) (x .rest) g))
 sets-by x Kind.T g = rw (g 0 (omega arith), g 1 (omega arith), g 2 (omega arith))
 sets-by x Kind.P g = refl
 sets-by x Kind.A g = rw (g 0 (omega arith), g 1 (omega arith), g 2 (omega arith))
@@ -76,9 +78,10 @@ taken-out x i z = subst (λ (k : Kind). TakenOut (operandNumber x) (x .problem .
 -- ---- the place
 
 pub raised : (x : Context) (k : Kind) → T (allowed k (x .problem .place)) → problemAfter x k .place ≡ max (raises k) (x .problem .place)
-unfolding problemAfter
+unfolding problemAfter rowsOfB
 raised x Kind.I a = omega (arith, place-last Kind.I (x .problem .place) a)
 raised x Kind.R a = omega (arith, place-last Kind.R (x .problem .place) a)
+raised x Kind.B a = omega (arith, place-last Kind.B (x .problem .place) a)
 raised x Kind.T a = omega arith
 raised x Kind.P a = omega (arith, place-last Kind.P (x .problem .place) a)
 raised x Kind.A a = omega arith
@@ -104,11 +107,11 @@ placed job room before x g = omega (arith, behind-ind engine engine-lawful At (�
 
 beyond-rows : (k : Kind) → leb (raises k) inRows ≡ not (some (is k) (Kind.T ∷ Kind.A ∷ Kind.P ∷ Kind.L ∷ Kind.C ∷ []))
 beyond-rows k = all-e (λ (k : Kind). leb (raises k) inRows ≡ not (some (is k) (Kind.T ∷ Kind.A ∷ Kind.P ∷ Kind.L ∷ Kind.C ∷ []))) (Kind.none ∷ kinds)
-    (refl, (refl, (refl, (refl, (refl, (refl, (refl, (refl, (refl, (refl, tt)))))))))) (kind-among k)
+    (refl, (refl, (refl, (refl, (refl, (refl, (refl, (refl, (refl, (refl, (refl, tt))))))))))) (kind-among k)
 
 beyond-terms : (k : Kind) → leb (raises k) inTerms ≡ not (some (is k) (Kind.P ∷ Kind.L ∷ Kind.C ∷ []))
 beyond-terms k = all-e (λ (k : Kind). leb (raises k) inTerms ≡ not (some (is k) (Kind.P ∷ Kind.L ∷ Kind.C ∷ []))) (Kind.none ∷ kinds)
-    (refl, (refl, (refl, (refl, (refl, (refl, (refl, (refl, (refl, (refl, tt)))))))))) (kind-among k)
+    (refl, (refl, (refl, (refl, (refl, (refl, (refl, (refl, (refl, (refl, (refl, tt))))))))))) (kind-among k)
 
 max-leb : (a b m : ℕ) → leb (max a b) m ≡ leb a m && leb b m
 max-leb a b m = bool-ext (leb (max a b) m) (leb a m && leb b m)
@@ -133,6 +136,7 @@ places job room before x g l =
     let e = placed job room before x g in
     record {
       row = place-in-words Kind.R (Kind.T ∷ Kind.A ∷ Kind.P ∷ Kind.L ∷ Kind.C ∷ []) beyond-rows before (x .problem .place) e l;
+      rows = place-in-words Kind.B (Kind.T ∷ Kind.A ∷ Kind.P ∷ Kind.L ∷ Kind.C ∷ []) beyond-rows before (x .problem .place) e l;
       primes = place-in-words Kind.P (Kind.T ∷ Kind.A ∷ Kind.P ∷ Kind.L ∷ Kind.C ∷ []) beyond-rows before (x .problem .place) e l;
       term = place-in-words Kind.T (Kind.P ∷ Kind.L ∷ Kind.C ∷ []) beyond-terms before (x .problem .place) e l;
     }
@@ -144,6 +148,7 @@ settled : (x : Context) (k : Kind) → queried ≤ x .problem .place → T (allo
 unfolding problemAfter
 settled x Kind.I p a n = absurd (omega (arith, place-last Kind.I (x .problem .place) a))
 settled x Kind.R p a n = absurd (omega (arith, place-last Kind.R (x .problem .place) a))
+settled x Kind.B p a n = absurd (omega (arith, place-last Kind.B (x .problem .place) a))
 settled x Kind.T p a n = absurd (omega (arith, place-last Kind.T (x .problem .place) a))
 settled x Kind.P p a n = absurd (omega (arith, place-last Kind.P (x .problem .place) a))
 settled x Kind.L p a n = refl

@@ -13,9 +13,9 @@ use lib.ListN.{length, length-set, length-replicate}
 use Rattle.model.specs.Base.{some, without, All}
 use Rattle.model.specs.Table.{Table, Term, formed, holdsNoOff, legal}
 use Rattle.model.specs.Primes.{primes}
-use Rattle.model.specs.Commands.{atStart, begun, inTerms, queried, Kind, formOf, is, allowed, Problem, Context, operand, operandTerm}
-use Rattle.model.specs.Commands.{operandNumber, withRow, withRows, atPlace, withCands, withTerm, problemAfter, empty, tableOf}
-use Rattle.model.specs.Refusals.{size, badRow, candidateRefusals, refusalsOf}
+use Rattle.model.specs.Commands.{atStart, begun, inRows, inTerms, queried, Kind, formOf, is, allowed, Problem, Context, operand, operandTerm}
+use Rattle.model.specs.Commands.{operandNumber, Row, rowOfR, rowsOfB, withRow, withRows, atPlace, withCands, addRow, addRows, withTerm, problemAfter, empty, tableOf}
+use Rattle.model.specs.Refusals.{size, badRow, rowRefusals, rowsRefusals, candidateRefusals, refusalsOf}
 use Rattle.model.specs.Rules.{Rules, engine}
 use Rattle.model.specs.Job.{run, runBy}
 use Rattle.model.specs.Library.{badVertex}
@@ -23,7 +23,8 @@ use Rattle.model.specs.Invariants.{Sound, Valid}
 use Rattle.model.proofs.Lists.{zero-at, twice, not-or-l, and-l, and-r, and-i, all-append, all-without, all-of}
 use Rattle.model.proofs.Cubes.{prime-e, primes-e}
 use Rattle.model.proofs.Runs.{NoneApplies, Lawful, context, OnRuns, run-ind}
-use Rattle.model.proofs.Sound.{after-sound, engine-lawful}
+use Rattle.model.proofs.RowByRow.{rows-keep}
+use Rattle.model.proofs.Sound.{sound-row, after-sound, engine-lawful}
 
 -- ---- rows
 
@@ -89,20 +90,29 @@ valid-I t a s =
       legal = tt;
     }
 
-valid-R : (t : Context) → T (allowed Kind.R (t .problem .place)) → NoneApplies (refusalsOf t Kind.R) → Valid (t .problem) → Valid (problemAfter t Kind.R)
-unfolding refusalsOf problemAfter
-valid-R t p a s =
-    let o = place-one Kind.R (t .problem .place) tt p in
-    let l = nleb→lt (2 ^ t .problem .settings .n) (operand t 0) (not-or-l (leb (2 ^ t .problem .settings .n) (operand t 0)) (some (eqb (operand t 0)) (t .problem .rows .given)) (a .0)) in
-    let none = s .early (place-last Kind.R (t .problem .place) p) in
+-- a row, while rows may come
+pub valid-row : (q : Problem) (w : Row) → begun ≤ q .place → q .place ≤ inRows → NoneApplies (rowRefusals q w) → Valid q → Valid (addRow q w)
+valid-row q w o m a s =
+    let none = s .early m in
     record {
-      sound = after-sound t Kind.R a (s .sound);
-      sizes = λ q. s .sizes o;
-      rows = λ q. (length-set (t .problem .rows .on) (operand t 0) (operand t 1) ∙ s .rows o .0, length-set (t .problem .rows .dc) (operand t 0) (operand t 2) ∙ s .rows o .1);
-      good = set-good (t .problem) (operand t 0) (operand t 1) (operand t 2) (omega (arith, s .rows o .0)) (omega (arith, s .rows o .1)) (a .1 .0) (s .good);
-      early = λ q. none;
-      legal = subst⁻¹ (All (λ u. T (legal (tableOf (problemAfter t Kind.R)) u))) none tt;
+      sound = sound-row q w (s .sound);
+      sizes = λ l. s .sizes o;
+      rows = λ l. (length-set (q .rows .on) (w .vertex) (w .on) ∙ s .rows o .0, length-set (q .rows .dc) (w .vertex) (w .dc) ∙ s .rows o .1);
+      good = set-good q (w .vertex) (w .on) (w .dc) (omega (arith, within, s .rows o .0)) (omega (arith, within, s .rows o .1)) (a .1 .0) (s .good);
+      early = λ l. none;
+      legal = subst⁻¹ (All (λ u. T (legal (tableOf (addRow q w)) u))) none tt;
     }
+  where
+    within : w .vertex < 2 ^ q .settings .n
+    within =
+        let high = leb (2 ^ q .settings .n) (w .vertex) in
+        nleb→lt (2 ^ q .settings .n) (w .vertex) (not-or-l high (some (eqb (w .vertex)) (q .rows .given)) (a .0))
+
+abbrev InRows : Problem → Type 0
+InRows q = (begun ≤ q .place) × (q .place ≤ inRows) × Valid q
+
+valid-rows : (q : Problem) (ws : List Row) → begun ≤ q .place → q .place ≤ inRows → NoneApplies (rowsRefusals q ws) → Valid q → Valid (addRows q ws)
+valid-rows q ws o m a s = rows-keep InRows (λ r w b v. (omega arith, omega arith, valid-row r w (v .0) (v .1) b (v .2))) ws q a (o, m, s) .2
 
 -- other candidates, behind the rows
 valid-cands : (q : Problem) (place : ℕ) (ts : List Term) → inTerms ≤ place → begun ≤ q .place → Valid q → All (λ u. T (legal (tableOf q) u)) ts
@@ -128,7 +138,8 @@ primes-legal p = all-of (λ (u : Term). T (legal p u)) (primes p) (λ u m. prime
 pub after-valid : (t : Context) (k : Kind) → T (allowed k (t .problem .place)) → NoneApplies (refusalsOf t k) → Valid (t .problem) → Valid (problemAfter t k)
 unfolding refusalsOf problemAfter
 after-valid t Kind.I p a s = valid-I t a s
-after-valid t Kind.R p a s = valid-R t p a s
+after-valid t Kind.R p a s = valid-row (t .problem) (rowOfR (t .rest)) (place-one Kind.R (t .problem .place) tt p) (place-last Kind.R (t .problem .place) p) a s
+after-valid t Kind.B p a s = valid-rows (t .problem) (rowsOfB (t .rest)) (place-one Kind.B (t .problem .place) tt p) (place-last Kind.B (t .problem .place) p) a s
 after-valid t Kind.T p a s = valid-term t (place-one Kind.T (t .problem .place) tt p) a s (after-sound t Kind.T a (s .sound))
 after-valid t Kind.P p a s =
     let ts = primes (tableOf (t .problem)) in

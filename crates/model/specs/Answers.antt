@@ -10,7 +10,7 @@ use Rattle.model.specs.Sets.{irredundants, cheapest, cost}
 use Rattle.model.specs.Pages.{page, more}
 use Rattle.model.specs.Commands.{Kind, Context, low, start, count, coveringOf, tableOf}
 
--- I, R, T, A and D answer nothing
+-- I, R, B, T, A and D answer nothing
 pub data Answer : Type 0 where
   nothing : Answer
   primesAre : List Term → Answer
@@ -38,6 +38,7 @@ hasBytes a = nonEmpty (bytesOf a)
 unfoldable pub answerFor : Context → Kind → Answer
 answerFor x Kind.I = nothing
 answerFor x Kind.R = nothing
+answerFor x Kind.B = nothing
 answerFor x Kind.T = nothing
 answerFor x Kind.P = primesAre (primes (tableOf (x .problem)))
 answerFor x Kind.A = nothing

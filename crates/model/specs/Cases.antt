@@ -1,5 +1,6 @@
 -- Paper 01, "The two-output example of document 003": the marked cases as one table, and the job with all its bytes;
--- tables of jobs and library calls that pin the order of refusals, and one of jobs in which candidates come and go (theorems: proofs/Marked).
+-- tables of jobs and library calls that pin the order of refusals, of jobs in which candidates come and go, and of jobs with eight rows in a
+-- command (theorems: proofs/Marked, proofs/EightRows).
 use Prim.Native.Nat.{ℕ, zero, suc, _+_}
 use mathlib.Core.Bool.{cond}
 use mathlib.Core.List.{List, [], _∷_, _++_, map}
@@ -115,6 +116,13 @@ i11 bs = 0x49 ∷ 1 ∷ 1 ∷ bs
 abbrev row : ℕ → ℕ → ℕ → List ℕ → List ℕ
 row v on dc bs = 0x52 ∷ v ∷ on ∷ dc ∷ bs
 
+-- a B: its first vertex, its pairs; and one of eight rows of zeros
+abbrev b : ℕ → List ℕ → List ℕ → List ℕ
+b v pairs bs = 0x42 ∷ v ∷ (pairs ++ bs)
+
+abbrev zeros : ℕ → List ℕ → List ℕ
+zeros v bs = b v (replicate 16 0) bs
+
 abbrev t : ℕ → ℕ → ℕ → List ℕ → List ℕ
 t care value outputs bs = 0x54 ∷ care ∷ value ∷ outputs ∷ bs
 
@@ -175,12 +183,18 @@ stops =
     ∷ stopped (goneAgain (row 0 0 1 [])) 9 4 17 0
     ∷ stopped (goneAgain (0x50 ∷ [])) 9 4 17 0
     ∷ stopped (bothFree (0x43 ∷ a 0 0 1 (t 0 0 1 []))) 20 4 16 11
+    -- 4: B before I, though its operands are missing; behind T, and behind an A, its candidate gone
+    ∷ stopped (0x42 ∷ []) 9 4 0 0
+    ∷ stopped (bothFree (t 0 0 1 (zeros 0 []))) 9 4 15 0
+    ∷ stopped (goneAgain (zeros 0 [])) 9 4 17 0
     -- 5: before 6; an L of eight operand bytes
     ∷ stopped (0x49 ∷ 0 ∷ []) 9 5 0 0
     ∷ stopped (i11 (0x4c ∷ 0 ∷ 0 ∷ 0 ∷ 0 ∷ 0 ∷ 0 ∷ 0 ∷ 0 ∷ [])) 9 5 3 0
     -- 5: an A of two operand bytes; D, before 15
     ∷ stopped (i11 (0x41 ∷ 0 ∷ 0 ∷ [])) 9 5 3 0
     ∷ stopped (i11 (0x44 ∷ [])) 9 5 3 0
+    -- 5: a B of sixteen operand bytes, before 7
+    ∷ stopped (i11 (b 200 (replicate 15 0) [])) 9 5 3 0
     -- 15: nothing stands; one past the last; the last taken out before; 64 of 64; 255; the finished C stands
     ∷ stopped (i11 (d 0 [])) 0 15 3 0
     ∷ stopped (bothFree (t 0 0 1 (d 1 []))) 9 15 15 0
@@ -197,6 +211,19 @@ stops =
     -- 8: a shared bit; a bit above m
     ∷ stopped (i11 (row 0 1 1 [])) 9 8 3 0
     ∷ stopped (i11 (row 0 0 2 [])) 9 8 3 0
+    -- 7 and 8 of a B, row by row: 8 of vertex 1 before 7 of vertex 2; 7 of vertex 2 before 8 of vertex 3; 7 before 8 at vertex 2
+    ∷ stopped (i11 (b 0 (0 ∷ 0 ∷ 1 ∷ 1 ∷ replicate 12 0) [])) 9 8 3 0
+    ∷ stopped (i11 (b 0 (0 ∷ 0 ∷ 0 ∷ 0 ∷ 0 ∷ 0 ∷ 1 ∷ 1 ∷ replicate 8 0) [])) 9 7 3 0
+    ∷ stopped (i11 (b 2 (1 ∷ 1 ∷ replicate 14 0) [])) 9 7 3 0
+    -- 7 of a B: vertex 5 has a row; so has vertex 7, by a B; and a B behind it that has none in common is accepted
+    ∷ stopped (0x49 ∷ 3 ∷ 1 ∷ row 5 0 0 (zeros 0 [])) 9 7 7 0
+    ∷ stopped (0x49 ∷ 4 ∷ 1 ∷ zeros 0 (zeros 7 [])) 9 7 21 0
+    ∷ stopped (0x49 ∷ 4 ∷ 1 ∷ zeros 8 (zeros 0 (0x45 ∷ []))) 9 0 40 1
+    -- 7 of a B: vertex 256 of 256, no wrap to vertex 0; 255 is the last
+    ∷ stopped (0x49 ∷ 8 ∷ 1 ∷ zeros 249 []) 9 7 3 0
+    ∷ stopped (0x49 ∷ 8 ∷ 1 ∷ zeros 248 (0x45 ∷ [])) 9 0 22 1
+    -- 8 of the last row of a B, whose vertex is the last
+    ∷ stopped (0x49 ∷ 3 ∷ 1 ∷ b 0 (replicate 14 0 ++ (0 ∷ 2 ∷ [])) []) 9 8 3 0
     -- 9: before 10: care, value, no outputs, outputs
     ∷ stopped (i11 (t 2 0 1 [])) 9 9 3 0
     ∷ stopped (i11 (t 0 1 1 [])) 9 9 3 0
@@ -223,6 +250,8 @@ stops =
     ∷ stopped (i11 (row 0 1 0 (l 1 []))) 0 12 7 0
     ∷ stopped (i11 (row 0 1 0 (l 0 []))) 0 12 7 0
     ∷ stopped (i11 (row 0 1 0 (0x43 ∷ []))) 0 12 7 0
+    -- 12: a cell wanted by the last row of a B
+    ∷ stopped (0x49 ∷ 3 ∷ 1 ∷ b 0 (replicate 14 0 ++ (1 ∷ 0 ∷ [])) (0x43 ∷ [])) 0 12 21 0
     -- 13: before 14; the offset is E's
     ∷ stopped (i11 (0x45 ∷ 0x45 ∷ [])) 0 13 3 0
     -- 14: the finished C stands; an L of count 0 has three bytes
@@ -293,6 +322,65 @@ halvesBasis = basis bothOn halves
 
 abbrev pub cheaperList : List Term
 cheaperList = term 0 0 1 ∷ []
+
+-- ---- K3: jobs with B, and the same with R commands in its place; both were written out by hand
+
+pub record WrittenOut : Type 0 where
+  pub job : List ℕ
+  pub rows : List ℕ
+
+abbrev writtenAs : List ℕ → List ℕ → WrittenOut
+writtenAs job rows = record { job = job; rows = rows }
+
+abbrev i32 : List ℕ → List ℕ
+i32 bs = 0x49 ∷ 3 ∷ 2 ∷ bs
+
+-- no vertex has the same on and dc
+abbrev eightPairs : List ℕ
+eightPairs = 1 ∷ 2 ∷ 3 ∷ 0 ∷ 0 ∷ 1 ∷ 0 ∷ 2 ∷ 2 ∷ 1 ∷ 0 ∷ 3 ∷ 1 ∷ 0 ∷ 2 ∷ 0 ∷ []
+
+abbrev eightRows : List ℕ → List ℕ
+eightRows bs = row 0 1 2 (row 1 3 0 (row 2 0 1 (row 3 0 2 (row 4 2 1 (row 5 0 3 (row 6 1 0 (row 7 2 0 bs)))))))
+
+-- seven terms, their sets and the cheapest
+abbrev sevenTerms : List ℕ → List ℕ
+sevenTerms bs = t 6 0 1 (t 7 1 3 (t 7 4 2 (t 7 6 1 (t 6 4 2 (t 5 0 1 (t 7 7 2 bs))))))
+
+abbrev pub inOne : List ℕ
+inOne = i32 (b 0 eightPairs (sevenTerms (ask (0x45 ∷ []))))
+
+abbrev pub oneByOne : List ℕ
+oneByOne = i32 (eightRows (sevenTerms (ask (0x45 ∷ []))))
+
+-- what both write
+abbrev pub eightRowsAnswers : List ℕ
+eightRowsAnswers = pageBytes (79 ∷ 91 ∷ 110 ∷ 122 ∷ []) ++ (leastBytes 18 91 ++ (0x65 ∷ []))
+
+abbrev pub writtenOut : List WrittenOut
+writtenOut =
+    writtenAs inOne oneByOne
+    -- wherever it stands
+    ∷ writtenAs (i32 (t 0 0 1 (b 0 eightPairs (b 0 eightPairs [])))) (i32 (t 0 0 1 (eightRows (eightRows []))))
+    -- 255 for vertex 256 and the one above it
+    ∷ writtenAs (0x49 ∷ 8 ∷ 1 ∷ b 250 eightPairs (0x45 ∷ []))
+    (0x49 ∷ 8 ∷ 1 ∷ row 250 1 2 (row 251 3 0 (row 252 0 1 (row 253 0 2 (row 254 2 1 (row 255 0 3 (row 255 1 0 (row 255 2 0 (0x45 ∷ [])))))))))
+    -- no B: the vertex of an R; an operand missing; behind E; behind a byte that is no command
+    ∷ writtenAs (0x49 ∷ 7 ∷ 2 ∷ row 0x42 0 1 (row 0 0 0 [])) (0x49 ∷ 7 ∷ 2 ∷ row 0x42 0 1 (row 0 0 0 []))
+    ∷ writtenAs (i32 (b 0 (replicate 15 0) [])) (i32 (b 0 (replicate 15 0) []))
+    ∷ writtenAs (i32 (0x45 ∷ b 0 eightPairs [])) (i32 (0x45 ∷ b 0 eightPairs []))
+    ∷ writtenAs (i32 (0 ∷ b 0 eightPairs [])) (i32 (0 ∷ b 0 eightPairs []))
+    ∷ []
+
+-- vertex 5 has a row: the sixth R is refused, at 27 behind 7 bytes and five R; the B from which it came stands at 7
+abbrev pub fifthTwice : List ℕ
+fifthTwice = i32 (row 5 0 0 (b 0 eightPairs (0x45 ∷ [])))
+
+-- offsets in the job with the R commands, and in the job
+abbrev pub offsetsWithRows : List ℕ
+offsetsWithRows = 0 ∷ 2 ∷ 3 ∷ 6 ∷ 7 ∷ 10 ∷ 27 ∷ 38 ∷ 39 ∷ 40 ∷ []
+
+abbrev pub origins : List ℕ
+origins = 0 ∷ 0 ∷ 3 ∷ 3 ∷ 7 ∷ 7 ∷ 7 ∷ 7 ∷ 25 ∷ 26 ∷ []
 
 -- ---- library calls that are refused, each with its number. Where two refusals apply, the first in the paper's order is given
 

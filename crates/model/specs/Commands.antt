@@ -1,10 +1,10 @@
--- Paper 01, "Job stream", and K2: the commands, the problem so far, and what a command makes of it.
+-- Paper 01, "Job stream", and K2 and K3: the commands, the problem so far, and what a command makes of it.
 use Prim.Native.Nat.{ℕ, zero, suc, _+_, _*_, _/_, _%_, _^_, max}
 use mathlib.Core.Bool.{Bool, true, false, cond, _&&_}
-use mathlib.Core.List.{List, [], _∷_, _++_}
+use mathlib.Core.List.{List, [], _∷_, _++_, map}
 use lib.Dec.{leb, eqb}
 use lib.ListN.{getD, take, replicate, set}
-use Rattle.model.specs.Base.{filter, without}
+use Rattle.model.specs.Base.{below, filter, without}
 use Rattle.model.specs.Table.{Table, Cell, Term, term}
 use Rattle.model.specs.Primes.{primes}
 use Rattle.model.specs.Sets.{Covering}
@@ -23,7 +23,7 @@ number (b ∷ bs) = b + 256 * number bs
 
 -- ---- places
 
--- the place in a job, by the furthest that came: nothing, I, a row, a term (T or A), or a P, L or C. Each is behind those before it
+-- the place in a job, by the furthest that came: nothing, I, a row (R or B), a term (T or A), or a P, L or C. Each is behind those before it
 abbrev pub atStart : ℕ
 atStart = 0
 
@@ -43,7 +43,7 @@ queried = 4
 
 -- "commands of one byte"; `none` is a byte that is no command
 pub data Kind : Type 0 where
-  I R T P A D L C E none : Kind
+  I R B T P A D L C E none : Kind
 
 -- "one byte with operands of fixed widths": the byte, the width, the last place at which the command may stand, and whether it is a
 -- query, which asks for covers
@@ -56,11 +56,12 @@ pub record Form : Type 0 where
 abbrev form : ℕ → ℕ → ℕ → Bool → Form
 form code width last query = record { code = code; width = width; last = last; query = query }
 
--- I "first, once"; R "after I, before any T, P, L or C"; T "after I and any R, not after P, L or C"; P "at most once, no T before it, not
--- after L or C"; A and D "may stand anywhere after I and before E"; L, C and E "after I"
+-- I "first, once"; R "after I, before any T, P, L or C"; B "stands where R may stand"; T "after I and any R, not after P, L or C"; P "at most
+-- once, no T before it, not after L or C"; A and D "may stand anywhere after I and before E"; L, C and E "after I"
 abbrev pub formOf : Kind → Form
 formOf I = form 0x49 2 atStart false
 formOf R = form 0x52 3 inRows false
+formOf B = form 0x42 17 inRows false
 formOf T = form 0x54 3 inTerms false
 formOf P = form 0x50 0 inRows false
 formOf A = form 0x41 3 queried false
@@ -86,7 +87,7 @@ firstKind b (k ∷ ks) = let r = firstKind b ks in cond (eqb b (formOf k .code))
 
 -- all commands
 abbrev pub kinds : List Kind
-kinds = I ∷ R ∷ T ∷ P ∷ A ∷ D ∷ L ∷ C ∷ E ∷ []
+kinds = I ∷ R ∷ B ∷ T ∷ P ∷ A ∷ D ∷ L ∷ C ∷ E ∷ []
 
 unfoldable pub kindOf : ℕ → Kind
 kindOf b = firstKind b kinds
@@ -153,6 +154,23 @@ coveringOf x = covering (basisOf (x .problem))
 abbrev pub operand : Context → ℕ → ℕ
 operand x i = getD (x .rest) i 0
 
+-- a row: "vertex, on, dc". The vertex is a number: that of a B may be "a vertex above 255"
+pub record Row : Type 0 where
+  pub vertex : ℕ
+  pub on : ℕ
+  pub dc : ℕ
+
+-- R's row
+abbrev pub rowOfR : List ℕ → Row
+rowOfR bs = record { vertex = getD bs 0 0; on = getD bs 1 0; dc = getD bs 2 0 }
+
+-- B: "a first vertex and eight pairs of on and dc"; row i of it, and its eight rows, "for rising vertices"
+abbrev pub rowOfB : List ℕ → ℕ → Row
+rowOfB bs i = record { vertex = getD bs 0 0 + i; on = getD bs (1 + 2 * i) 0; dc = getD bs (2 + 2 * i) 0 }
+
+unfoldable pub rowsOfB : List ℕ → List Row
+rowsOfB bs = map (rowOfB bs) (below 8)
+
 -- T: "care, value, outputs"; A "has T's operands"
 abbrev pub operandTerm : Context → Term
 operandTerm x = term (operand x 0) (operand x 1) (operand x 2)
@@ -170,7 +188,7 @@ count x = operand x 8
 
 -- ---- the problem after a command that is answered
 
--- R: "vertex, on, dc"
+-- with on and dc at vertex v
 abbrev pub withRow : TableRows → ℕ → ℕ → ℕ → TableRows
 withRow rows v x y = record { on = set (rows .on) v x; dc = set (rows .dc) v y; given = v ∷ rows .given }
 
@@ -183,6 +201,15 @@ withRows rows q = record { place = q .place; settings = q .settings; rows = rows
 abbrev pub withCands : List Term → Problem → Problem
 withCands ts q = record { place = q .place; settings = q .settings; rows = q .rows; cands = ts }
 
+-- what R makes of a problem
+abbrev pub addRow : Problem → Row → Problem
+addRow q w = atPlace inRows (withRows (withRow (q .rows) (w .vertex) (w .on) (w .dc)) q)
+
+-- what R commands make of it, "one by one"
+abbrev pub addRows : Problem → List Row → Problem
+addRows q [] = q
+addRows q (w ∷ ws) = addRows (addRow q w) ws
+
 -- T, and A, which "adds a candidate at the end, also after P, L or C". "For the place of R and P, an A counts as a T, even if its candidate
 -- has gone again": the place is that of a term at least, and D leaves it
 abbrev pub withTerm : Context → Problem
@@ -190,7 +217,8 @@ withTerm x = atPlace (max (x .problem .place) inTerms) (withCands (x .problem .c
 
 unfoldable pub problemAfter : Context → Kind → Problem
 problemAfter x I = started begun (operand x 0) (operand x 1) (2 ^ operand x 0)
-problemAfter x R = atPlace inRows (withRows (withRow (x .problem .rows) (operand x 0) (operand x 1) (operand x 2)) (x .problem))
+problemAfter x R = addRow (x .problem) (rowOfR (x .rest))
+problemAfter x B = addRows (x .problem) (rowsOfB (x .rest))
 problemAfter x T = withTerm x
 problemAfter x P = atPlace queried (withCands (primes (tableOf (x .problem))) (x .problem))
 problemAfter x A = withTerm x

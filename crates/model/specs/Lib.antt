@@ -15,6 +15,8 @@ pub mod Calls
 pub mod Exchanges
 pub mod Demand3
 pub mod Standing
+pub mod Pieces
+pub mod Expanded
 pub mod Library
 pub mod Cases
 pub mod Invariants

@@ -1,7 +1,7 @@
--- Paper 01, "When a job stops", and K2: the refusals of a command, as data. 1 and 2 are the job's own (`Job`).
+-- Paper 01, "When a job stops", and K2 and K3: the refusals of a command, as data. 1 and 2 are the job's own (`Job`).
 use Prim.Native.Nat.{ℕ, _^_}
 use mathlib.Core.Bool.{Bool, not, cond, _&&_, _||_}
-use mathlib.Core.List.{List, [], _∷_}
+use mathlib.Core.List.{List, [], _∷_, _++_}
 use lib.Dec.{leb, ltb, eqb}
 use lib.Bits.{bitAnd}
 use lib.ListN.{length}
@@ -9,7 +9,7 @@ use Rattle.model.specs.Base.{some}
 use Rattle.model.specs.Table.{formed, holdsNoOff}
 use Rattle.model.specs.Primes.{primes}
 use Rattle.model.specs.Sets.{coverable}
-use Rattle.model.specs.Commands.{Kind, Context, operand, operandTerm, operandNumber, coveringOf, tableOf}
+use Rattle.model.specs.Commands.{Kind, Problem, Context, operand, Row, rowOfR, rowsOfB, addRow, operandTerm, operandNumber, coveringOf, tableOf}
 
 -- the largest number
 abbrev pub largestNumber : ℕ
@@ -36,6 +36,18 @@ size k = leb 1 k && leb k 8
 abbrev pub badRow : ℕ → ℕ → ℕ → Bool
 badRow m on dc = ltb 0 (bitAnd on dc) || (leb (2 ^ m) on || leb (2 ^ m) dc)
 
+-- 7 "R names a vertex of 2^n or more, or one that has a row"; 8 `badRow`: of a row, in the problem that it finds
+abbrev pub rowRefusals : Problem → Row → List Refusal
+rowRefusals q w =
+    refuse 7 (leb (2 ^ q .settings .n) (w .vertex) || some (eqb (w .vertex)) (q .rows .given))
+    ∷ refuse 8 (badRow (q .settings .m) (w .on) (w .dc))
+    ∷ []
+
+-- of rows "one by one", each in the problem that those before it leave: "the first refusal that they would meet"
+abbrev pub rowsRefusals : Problem → List Row → List Refusal
+rowsRefusals q [] = []
+rowsRefusals q (w ∷ ws) = rowRefusals q w ++ rowsRefusals (addRow q w) ws
+
 -- 9 and 10 "a term has a care bit n or above, ..", "holds an off cell"; 11 "a 65th candidate comes": T, and A "meets 9, 10 and 11 as T does"
 abbrev pub candidateRefusals : Context → List Refusal
 candidateRefusals x =
@@ -46,15 +58,13 @@ candidateRefusals x =
 
 -- 6 to 13 and 15, by command:
 -- 6 "I has n or m outside 1 to 8"
--- 7 "R names a vertex of 2^n or more, or one that has a row"; 8 `badRow`
+-- 7 and 8 of R's row, and of B's eight
 -- 11 ".. or there are more than 64 primes"; 15 "after 5, D names a number that is not standing"
 -- 12 "at L or C a wanted cell is held by no candidate"; 13 "bytes follow E"
 unfoldable pub refusalsOf : Context → Kind → List Refusal
 refusalsOf x Kind.I = refuse 6 (not (size (operand x 0) && size (operand x 1))) ∷ []
-refusalsOf x Kind.R =
-    refuse 7 (leb (2 ^ x .problem .settings .n) (operand x 0) || some (eqb (operand x 0)) (x .problem .rows .given))
-    ∷ refuse 8 (badRow (x .problem .settings .m) (operand x 1) (operand x 2))
-    ∷ []
+refusalsOf x Kind.R = rowRefusals (x .problem) (rowOfR (x .rest))
+refusalsOf x Kind.B = rowsRefusals (x .problem) (rowsOfB (x .rest))
 refusalsOf x Kind.T = candidateRefusals x
 refusalsOf x Kind.P = refuse 11 (ltb 64 (length (primes (tableOf (x .problem))))) ∷ []
 refusalsOf x Kind.A = candidateRefusals x

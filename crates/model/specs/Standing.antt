@@ -10,7 +10,7 @@ use Rattle.model.specs.Base.{without, every, some, filter, join, All}
 use Rattle.model.specs.Table.{Table, Term, term}
 use Rattle.model.specs.Primes.{primes}
 use Rattle.model.specs.Candidates.{Basis, basis}
-use Rattle.model.specs.Commands.{atStart, begun, inRows, inTerms, queried, Kind, formOf, is, kindOf, isQueryKind, width, allowed, empty, basisOf, Context, operandNumber, problemAfter}
+use Rattle.model.specs.Commands.{atStart, begun, inRows, inTerms, queried, Kind, formOf, is, kindOf, isQueryKind, width, allowed, empty, basisOf, Context, operandNumber, Row, rowOfR, rowsOfB, problemAfter}
 use Rattle.model.specs.Answers.{Answer, bytesOf, termBytes, hasBytes, answer}
 use Rattle.model.specs.Rules.{engine, refusal}
 use Rattle.model.specs.Job.{Run, run, written}
@@ -52,18 +52,23 @@ operandOf c i = getD (c .operands) i 0
 abbrev pub termOf : Command → Term
 termOf c = term (operandOf c 0) (operandOf c 1) (operandOf c 2)
 
--- a table without a row, and with on and dc at vertex v
+-- a table without a row, with a row, and with rows one by one
 abbrev pub noRowsYet : ℕ → ℕ → Table
 noRowsYet n m = record { n = n; m = m; on = replicate (2 ^ n) 0; dc = replicate (2 ^ n) 0 }
 
-abbrev pub rowSet : Table → ℕ → ℕ → ℕ → Table
-rowSet p v on dc = record { n = p .n; m = p .m; on = set (p .on) v on; dc = set (p .dc) v dc }
+abbrev pub rowSet : Table → Row → Table
+rowSet p w = record { n = p .n; m = p .m; on = set (p .on) (w .vertex) (w .on); dc = set (p .dc) (w .vertex) (w .dc) }
 
--- I and R set the table; T and A add a candidate "at the end", P puts the primes in their place, D takes one out and "those above move down
+abbrev pub rowsSet : Table → List Row → Table
+rowsSet p [] = p
+rowsSet p (w ∷ ws) = rowsSet (rowSet p w) ws
+
+-- I, R and B set the table; T and A add a candidate "at the end", P puts the primes in their place, D takes one out and "those above move down
 -- by one"; the others set nothing
 unfoldable pub setsTo : Command → Kind → Basis → Basis
 setsTo c Kind.I b = basis (noRowsYet (operandOf c 0) (operandOf c 1)) []
-setsTo c Kind.R b = basis (rowSet (b .table) (operandOf c 0) (operandOf c 1) (operandOf c 2)) (b .cands)
+setsTo c Kind.R b = basis (rowSet (b .table) (rowOfR (c .operands))) (b .cands)
+setsTo c Kind.B b = basis (rowsSet (b .table) (rowsOfB (c .operands))) (b .cands)
 setsTo c Kind.T b = basis (b .table) (b .cands ++ (termOf c ∷ []))
 setsTo c Kind.P b = basis (b .table) (primes (b .table))
 setsTo c Kind.A b = basis (b .table) (b .cands ++ (termOf c ∷ []))
@@ -101,6 +106,7 @@ TakesOut = (x : Context) → T (is (x .kind) Kind.D) → refusal x ≡ 0 → Tak
 abbrev pub raises : Kind → ℕ
 raises Kind.I = begun
 raises Kind.R = inRows
+raises Kind.B = inRows
 raises Kind.T = inTerms
 raises Kind.P = queried
 raises Kind.A = inTerms
@@ -122,9 +128,10 @@ Placed = (job : List ℕ) (room : ℕ) (before : List Context) (x : Context) →
 abbrev pub noneCame : List Kind → List Context → Bool
 noneCame ks before = every (λ y. not (some (is (y .kind)) ks)) before
 
--- so, behind I: R and P stand where no T, A, P, L or C came, T where no P, L or C came (law `places`)
+-- so, behind I: R, B and P stand where no T, A, P, L or C came, T where no P, L or C came (law `places`)
 pub record PlacesBehind (before : List Context) (place : ℕ) : Type 0 where
   pub row : T (allowed Kind.R place) ↔ T (noneCame (Kind.T ∷ Kind.A ∷ Kind.P ∷ Kind.L ∷ Kind.C ∷ []) before)
+  pub rows : T (allowed Kind.B place) ↔ T (noneCame (Kind.T ∷ Kind.A ∷ Kind.P ∷ Kind.L ∷ Kind.C ∷ []) before)
   pub primes : T (allowed Kind.P place) ↔ T (noneCame (Kind.T ∷ Kind.A ∷ Kind.P ∷ Kind.L ∷ Kind.C ∷ []) before)
   pub term : T (allowed Kind.T place) ↔ T (noneCame (Kind.P ∷ Kind.L ∷ Kind.C ∷ []) before)
 
@@ -164,12 +171,12 @@ StandingDemand3 = (cs : List Command) (calls : List Call) → All Met calls → 
 -- ---- "a fresh job with the standing candidates in the standing order"
 
 abbrev pub setsTable : Kind → Bool
-setsTable k = is k Kind.I || is k Kind.R
+setsTable k = is k Kind.I || (is k Kind.R || is k Kind.B)
 
 abbrev pub termCommand : Term → List ℕ
 termCommand t = formOf Kind.T .code ∷ termBytes t
 
--- I and the R as they came, a T for each standing candidate, the query and E
+-- I, the R and the B as they came, a T for each standing candidate, the query and E
 abbrev pub freshJob : List Command → Command → List ℕ
 freshJob cs query = join (map commandBytes (filter (λ c. setsTable (c .kind)) cs)) ++ (join (map termCommand (standing cs .cands)) ++ (commandBytes query ++ (formOf Kind.E .code ∷ [])))
 

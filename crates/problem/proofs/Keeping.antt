@@ -6,7 +6,7 @@ use mathlib.Core.Path.{_≡_, refl, sym, ap, _∙_}
 use mathlib.Core.Bool.{false}
 use mathlib.Core.List.{List, [], _∷_, _++_}
 use borrow.Author.Tests.{eq-eqb, ne-eqb}
-use lib.Dec.{T, ltb, eqb}
+use lib.Dec.{T, leb, ltb, eqb, nleb→lt}
 use lib.ListN.{getD, length, set, replicate, length-set, length-replicate}
 use lib.Pow.{pow-mono}
 use lib.Seq.{getD-set-same, getD-set-other}
@@ -14,16 +14,20 @@ use Rattle.model.specs.Base.{some}
 use Rattle.model.specs.declared.Term.{Term}
 use Rattle.model.specs.Primes.{primes}
 use Rattle.model.specs.Commands as model
-use Rattle.model.specs.Commands.{Context, operand, operandTerm, operandNumber, tableOf, isQueryKind, withTerm, problemAfter}
+use Rattle.model.specs.Commands.{Context, operand, operandTerm, operandNumber, Row, tableOf, isQueryKind, addRow, addRows, withTerm, problemAfter}
+use Rattle.model.specs.Refusals.{rowRefusals, rowsRefusals}
 use Rattle.model.specs.Invariants.{Valid}
 use Rattle.model.proofs.Codes.{any-query}
-use Rattle.model.proofs.Lists.{zero-at}
+use Rattle.model.proofs.Lists.{zero-at, not-or-l}
+use Rattle.model.proofs.Runs.{NoneApplies}
+use Rattle.model.proofs.RowByRow.{rows-split}
+use Rattle.model.proofs.Valid.{valid-row}
 use Rattle.bits.specs.Lists.{Filled}
 use Rattle.bits.proofs.Lists.{filled-next, filled-without}
 use Rattle.problem.specs.declared.TableRows.{TableRows}
 use Rattle.problem.specs.declared.Candidates.{Candidates}
 use Rattle.problem.specs.declared.Problem.{Problem}
-use Rattle.problem.specs.Problems.{noRows, listed, startedWith, noProblem, atPlace, withRows, withCandidates, rowPut, termPut, termsWithout}
+use Rattle.problem.specs.Problems.{noRows, listed, startedWith, noProblem, atPlace, withRows, withCandidates, rowPut, rowsPut, termPut, termsWithout}
 use Rattle.problem.specs.Problems.{termTaken, Sized, HoldsRows, HoldsCands, Holds, Reached}
 
 sized : (p : Problem) (q : model.Problem) → Holds p q → Valid q → Sized p
@@ -63,7 +67,7 @@ pub after-I : (x : Context) (n m : ℕ) → operand x 0 ≡ n → operand x 1 �
 unfolding problemAfter
 after-I x n m e f = rw (e, f) (holds-started n m (2 ^ n) model.begun)
 
--- ---- R
+-- ---- R and B
 
 set-both : (xs ys : List ℕ) (k v y w : ℕ) → v < length xs → v < length ys → w < k → ((u : ℕ) → u < k → getD xs u 0 ≡ getD ys u 0) → getD (set xs v y) w 0 ≡ getD (set ys v y) w 0
 set-both xs ys k v y w h g l f = go (ℕ-discrete w v)
@@ -90,16 +94,33 @@ holds-row r t v on dc h l a b = record {
   given = λ u k. given-more (r .given) (t .given) v u (omega (arith, l, h .given-size)) (h .given u k);
 }
 
-pub after-R : (x : Context) (p : Problem) (v on dc : ℕ) → Holds p (x .problem) → Valid (x .problem) → model.begun ≤ x .problem .place
-    → operand x 0 ≡ v → operand x 1 ≡ on → operand x 2 ≡ dc → v < 2 ^ x .problem .settings .n
-    → Holds (atPlace model.inRows (withRows (rowPut (p .rows) v on dc) p)) (problemAfter x model.Kind.R)
-unfolding problemAfter
-after-R x p v on dc h w o e f g l = rw (e, f, g) record {
+-- the record with a row, and with rows one by one
+abbrev pub withRow : Row → Problem → Problem
+withRow w p = atPlace model.inRows (withRows (rowPut (p .rows) (w .vertex) (w .on) (w .dc)) p)
+
+abbrev pub allRows : ℕ → List Row → Problem → Problem
+allRows place ws p = atPlace place (withRows (rowsPut (p .rows) ws) p)
+
+pub after-row : (p : Problem) (q : model.Problem) (w : Row) → Holds p q → Valid q → model.begun ≤ q .place → w .vertex < 2 ^ q .settings .n → Holds (withRow w p) (addRow q w)
+after-row p q w h v o l = record {
   place = refl;
   settings = h .settings;
-  rows = holds-row (p .rows) (x .problem .rows) v on dc (h .rows) (omega (arith, pow-mono (w .sound .inputs))) (omega (arith, w .rows o .0)) (omega (arith, w .rows o .1));
+  rows = holds-row (p .rows) (q .rows) (w .vertex) (w .on) (w .dc) (h .rows) (omega (arith, pow-mono (v .sound .inputs))) (omega (arith, v .rows o .0)) (omega (arith, v .rows o .1));
   cands = h .cands;
 }
+
+-- each row of an R or B that is not refused
+pub row-within : (q : model.Problem) (w : Row) → NoneApplies (rowRefusals q w) → w .vertex < 2 ^ q .settings .n
+row-within q w a =
+    let high = leb (2 ^ q .settings .n) (w .vertex) in
+    nleb→lt (2 ^ q .settings .n) (w .vertex) (not-or-l high (some (eqb (w .vertex)) (q .rows .given)) (a .0))
+
+pub after-rows : (ws : List Row) (p : Problem) (q : model.Problem) → Holds p q → Valid q → model.begun ≤ q .place → q .place ≤ model.inRows → NoneApplies (rowsRefusals q ws)
+    → Holds (allRows (addRows q ws .place) ws p) (addRows q ws)
+after-rows [] p q h v o m a = record { place = refl; settings = h .settings; rows = h .rows; cands = h .cands }
+after-rows (w ∷ ws) p q h v o m a =
+    let first = rows-split w ws q a in
+    after-rows ws (withRow w p) (addRow q w) (after-row p q w h v o (row-within q w (first .0))) (valid-row q w o m (first .0) v) (omega arith) (omega arith) (first .1)
 
 -- ---- other candidates: T and A, P, D
 

@@ -5,7 +5,7 @@ use native.Mathlib.Decide.{decLt}
 use mathlib.Core.Path.{_≡_, refl, sym, ap, _∙_, subst, subst⁻¹}
 use mathlib.Core.Bool.{Bool, true, false, not, _&&_, _||_}
 use mathlib.Core.List.{List, [], _∷_}
-use borrow.Author.Tests.{lt-ltb, le-ltb, le-leb, lt-leb}
+use borrow.Author.Tests.{lt-ltb, le-ltb, le-leb, lt-leb, leb-false}
 use lib.Bits.{bitAnd}
 use lib.Dec.{T, leb, ltb}
 use lib.ListN.{getD}
@@ -13,8 +13,9 @@ use lib.Pow.{pow-mono}
 use Rattle.model.specs.declared.Term.{Term}
 use Rattle.model.specs.Table.{Table, formed, holdsNoOff}
 use Rattle.model.specs.Commands as model
-use Rattle.model.specs.Commands.{Context, operand, tableOf}
-use Rattle.model.specs.Refusals.{refuse, firstOf, size, badRow, refusalsOf}
+use Rattle.model.specs.Commands.{Context, Row, tableOf}
+use Rattle.model.specs.Refusals as model·refusals
+use Rattle.model.specs.Refusals.{refuse, firstOf, size, badRow}
 use Rattle.model.specs.Invariants.{Valid}
 use Rattle.model.specs.Library.{badVertex}
 use Rattle.model.proofs.Cubes.{formed-e}
@@ -75,15 +76,24 @@ module _ (n m : ℕ) (given : List ℕ) (v on dc : ℕ) (t : Bool) (taken : t �
     pub row-good : b ≡ false → 0 ≡ firstOf (rowRefusals n m given v on dc)
     row-good f = rw (← taken, e, ← bad, f)
 
--- in the problem that p holds; a vertex of 256 or more is none of it
-pub row-refusal : (p : Problem) (x : Context) (v on dc : ℕ) → Sized p → Holds p (x .problem) → operand x 0 ≡ v → operand x 1 ≡ on → operand x 2 ≡ dc
-    → firstOf (rowRefusals (p .settings .n) (p .settings .m) (p .rows .given) v on dc) ≡ firstOf (refusalsOf x model.Kind.R)
-unfolding refusalsOf isTaken
-row-refusal p x v on dc z h a b c = go (decLt v 256)
+-- where neither applies the vertex is below 2^n, and so a byte
+pub row-vertex : (n m : ℕ) (given : List ℕ) (v on dc : ℕ) → n ≤ 8 → 0 ≡ firstOf (rowRefusals n m given v on dc) → v < 256
+unfolding isTaken
+row-vertex n m given v on dc l e = go (leb (2 ^ n) v) refl e
   where
-    go : Dec (v < 256) → firstOf (rowRefusals (p .settings .n) (p .settings .m) (p .rows .given) v on dc) ≡ firstOf (refusalsOf x model.Kind.R)
-    go (yes l) = rw (a, b, c, ← h .settings .inputs, ← h .settings .outputs, h .rows .given v l)
-    go (no l) = rw (a, b, c, ← h .settings .inputs, le-leb (2 ^ p .settings .n) v (omega (arith, pow-mono (z .inputs))))
+    go : (b : Bool) → leb (2 ^ n) v ≡ b → 0 ≡ firstOf (refuse 7 (b || ltb 0 (getD given v 0)) ∷ refuse 8 (badRow m on dc) ∷ []) → v < 256
+    go true q z = absurd (omega arith)
+    go false q z = omega (arith, leb-false (2 ^ n) v q, pow-mono l)
+
+-- in the problem that p holds; a vertex of 256 or more is none of it
+pub row-refusal : (p : Problem) (q : model.Problem) (w : Row) → Sized p → Holds p q
+    → firstOf (rowRefusals (p .settings .n) (p .settings .m) (p .rows .given) (w .vertex) (w .on) (w .dc)) ≡ firstOf (model·refusals.rowRefusals q w)
+unfolding isTaken
+row-refusal p q w z h = go (decLt (w .vertex) 256)
+  where
+    go : Dec (w .vertex < 256) → firstOf (rowRefusals (p .settings .n) (p .settings .m) (p .rows .given) (w .vertex) (w .on) (w .dc)) ≡ firstOf (model·refusals.rowRefusals q w)
+    go (yes l) = rw (← h .settings .inputs, ← h .settings .outputs, h .rows .given (w .vertex) l)
+    go (no l) = rw (← h .settings .inputs, le-leb (2 ^ p .settings .n) (w .vertex) (omega (arith, pow-mono (z .inputs))))
 
 -- ---- terms
 

@@ -1,13 +1,14 @@
 -- The engine's record of the problem so far, what a command makes of it, and which problem of the definitions it holds.
 use Prim.Native.Nat.{ℕ, _+_, _-_, _≤_, _<_}
 use mathlib.Core.Path.{_≡_}
-use mathlib.Core.List.{List, _++_}
+use mathlib.Core.List.{List, [], _∷_, _++_}
 use lib.Dec.{ltb, eqb}
 use lib.ListN.{getD, length, take, drop, set, replicate}
 use Rattle.model.specs.Base.{some, without}
 use Rattle.model.specs.declared.Term.{Term}
 use Rattle.model.specs.Table.{term}
 use Rattle.model.specs.Commands as model
+use Rattle.model.specs.Commands.{Row}
 use Rattle.model.specs.Invariants.{Valid}
 use Rattle.bits.specs.Lists.{Filled}
 use Rattle.problem.specs.declared.Settings.{Settings}
@@ -43,6 +44,11 @@ withCandidates cs p = record { place = p .place; settings = p .settings; rows = 
 
 unfoldable pub rowPut : TableRows → ℕ → ℕ → ℕ → TableRows
 rowPut rows v on dc = record { on = set (rows .on) v on; dc = set (rows .dc) v dc; given = set (rows .given) v 1 }
+
+-- rows one by one
+abbrev pub rowsPut : TableRows → List Row → TableRows
+rowsPut rows [] = rows
+rowsPut rows (w ∷ ws) = rowsPut (rowPut rows (w .vertex) (w .on) (w .dc)) ws
 
 unfoldable pub termPut : Candidates → Term → Candidates
 termPut cs t = listed (set (cs .terms) (cs .count) t) (cs .count + 1)

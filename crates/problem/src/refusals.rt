@@ -49,19 +49,18 @@ pub fn bad_row(m: u8, on: u8, dc: u8) -> bool
 }
 
 // Whether v is no vertex of n inputs, or one that has a row.
-fn is_taken(n: u8, given: &[u8; 256], v: u8) -> bool
+fn is_taken(n: u8, given: &[u8; 256], v: usize) -> bool
     requires { ⌜ n ≤ 8 ⌝ }
     ensures { λ r. ⌜ r ≡ isTaken n (now (given .entry)) v ⌝ }
 {
-    let i = byte::wide(v);
-    if byte::bound(n) <= i {
+    if byte::bound(n) <= v {
         return true;
     }
-    0 < given[i]
+    0 < given[v]
 }
 
-// R: 7, 8.
-pub fn row_refusal(s: Settings, given: &[u8; 256], v: u8, on: u8, dc: u8) -> u8
+// A row of R or B: 7, 8. The vertex is a number, for that of a B may be above 255.
+pub fn row_refusal(s: Settings, given: &[u8; 256], v: usize, on: u8, dc: u8) -> u8
     requires { ⌜ (s .n ≤ 8) × (s .m ≤ 8) ⌝ }
     ensures { λ r. ⌜ r ≡ firstOf (rowRefusals (s .n) (s .m) (now (given .entry)) v on dc) ⌝ }
 {

@@ -7,17 +7,22 @@
 //! 2. `reference/job.rs`: where it may stand (`allowed`), what refuses it and what it does
 //!    (`command`), from the paper's text. The table stands still from the first T, A, P, L or C on;
 //!    the candidates do not, and a command that changes them forgets the covers found so far;
-//! 3. `generate/sound.rs` (settings, rows, candidates), `generate/changes.rs` (candidates that come
-//!    and go) or `generate/queries.rs`: where a sound job has it;
-//! 4. `generate/purpose.rs` (`purpose_changes.rs` for A and D): its borders, in every run;
-//!    `selftest.rs`: the paper's cases of it;
-//! 5. `fresh.rs`: whether a fresh job with the same table has it, and which pages go on behind it.
+//! 3. `generate/sound.rs` (settings, candidates), `generate/tables.rs` (rows),
+//!    `generate/changes.rs` (candidates that come and go) or `generate/queries.rs`: where a sound
+//!    job has it;
+//! 4. `generate/purpose.rs` (`purpose_changes.rs` for A and D, `purpose_blocks.rs` for B): its
+//!    borders, in every run; `selftest.rs`: the paper's cases of it;
+//! 5. `fresh.rs`: whether a fresh job with the same table has it, and which pages go on behind it;
+//! 6. `expanded.rs`: what it is written out as, where it stands for other commands as B does.
 //!
 //! A stored job that has it needs `stored.rs` too. Every command at every place, damage, cuts and
 //! moved or doubled commands go by the table, and a run fails where a command was never accepted
 //! or never met one of the refusals that its entry names (`tally.rs`).
 
 use Operand::{Candidate, Inputs, Number, Outputs, Size};
+
+/// The rows of a B.
+pub const BLOCK: usize = 8;
 
 /// The largest number of a refusal. Each from 0 on must come in every run.
 pub const LAST_NUMBER: u64 = 15;
@@ -56,7 +61,8 @@ pub enum Part {
 
 pub struct Command {
     pub byte: u8,
-    /// Operand bytes that are good over one input and one output, the term held by the row.
+    /// Operand bytes that are good over four inputs and one output: R's row is wanted and held by
+    /// the term, B's rows stand elsewhere and are free.
     pub good: &'static [u8],
     pub operands: &'static [Operand],
     pub part: Part,
@@ -64,11 +70,11 @@ pub struct Command {
     pub refusals: &'static [u64],
 }
 
-/// The seven commands of paper 01, and A and D of K2.
+/// The seven commands of paper 01, A and D of K2, and B of K3.
 pub const COMMANDS: &[Command] = &[
     Command {
         byte: b'I',
-        good: &[1, 1],
+        good: &[4, 1],
         operands: &[Size, Size],
         part: Part::Other,
         refusals: &[6],
@@ -81,15 +87,22 @@ pub const COMMANDS: &[Command] = &[
         refusals: &[7, 8],
     },
     Command {
+        byte: b'B',
+        good: &[8, 0, 1, 0, 1, 0, 1, 0, 1, 0, 1, 0, 1, 0, 1, 0, 1],
+        operands: &FIRST_AND_PAIRS,
+        part: Part::Rows,
+        refusals: &[7, 8],
+    },
+    Command {
         byte: b'T',
-        good: &[1, 0, 1],
+        good: &[15, 0, 1],
         operands: &[Inputs, Inputs, Outputs],
         part: Part::Candidates,
         refusals: &[9, 10, 11],
     },
     Command {
         byte: b'A',
-        good: &[1, 0, 1],
+        good: &[15, 0, 1],
         operands: &[Inputs, Inputs, Outputs],
         part: Part::Candidates,
         refusals: &[9, 10, 11],
@@ -131,6 +144,13 @@ pub const COMMANDS: &[Command] = &[
     },
 ];
 
+/// B's operands: the first vertex, and on and dc of each row.
+const FIRST_AND_PAIRS: [Operand; 1 + 2 * BLOCK] = {
+    let mut list = [Outputs; 1 + 2 * BLOCK];
+    list[0] = Inputs;
+    list
+};
+
 /// The command that begins with this byte, None when the byte is no command.
 pub fn find(byte: u8) -> Option<&'static Command> {
     COMMANDS.iter().find(|command| command.byte == byte)
@@ -170,12 +190,15 @@ pub fn cut(job: &[u8]) -> Option<Vec<&[u8]>> {
     Some(list)
 }
 
-/// Whether an A or D stands in this list of whole commands.
-pub fn come_and_go(job: &[u8]) -> bool {
+/// Whether one of these stands in a list of whole commands.
+pub fn has(job: &[u8], bytes: &[u8]) -> bool {
     let commands = cut(job).expect("a list of whole commands");
-    commands
-        .iter()
-        .any(|command| matches!(command[0], b'A' | b'D'))
+    commands.iter().any(|command| bytes.contains(&command[0]))
+}
+
+/// Whether an A or D stands in a list of whole commands.
+pub fn come_and_go(job: &[u8]) -> bool {
+    has(job, b"AD")
 }
 
 /// A number, low byte first.

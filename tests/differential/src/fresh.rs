@@ -3,6 +3,7 @@
 //! have the same A and D commands before them.
 
 use crate::engine;
+use crate::expanded::expand;
 use crate::format::{self, cut, sets};
 use crate::generate::{page, term, Case};
 use crate::reference::{self, Asked, Covers, Query, Term, LONGEST};
@@ -26,7 +27,7 @@ pub fn check(job: &[u8], asked: &Asked) -> Result<Held, String> {
     if !format::come_and_go(job) {
         return Ok(held);
     }
-    let table = kept(job, |byte| b"IR".contains(&byte));
+    let table = kept(job, |byte| b"IRB".contains(&byte));
     for query in &asked.queries {
         as_in_a_fresh_job(&table, query)?;
         held.queries += 1;
@@ -80,9 +81,12 @@ fn joined_over_jobs(job: &[u8], asked: &Asked, query: &Query) -> Result<usize, S
     };
     let count = list.len().div_ceil(2).clamp(1, 255) as u8;
     // The same A and D commands stand in both, with the L and C commands between them and without.
+    // The table is the same, too, where the second one has R for B.
     let whole = &job[..query.at];
     let quiet = kept(whole, |byte| !b"LC".contains(&byte));
-    let heads = [whole, &quiet];
+    let by_rows = expand(&quiet).job;
+    let short = by_rows.len() + 11 <= LONGEST;
+    let heads = [whole, if short { &by_rows } else { &quiet }];
     let mut got: Vec<u64> = Vec::new();
     for (pages, head) in heads.iter().cycle().enumerate() {
         let start = got.last().map_or(0, |last| last.saturating_add(1));

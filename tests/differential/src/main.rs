@@ -5,6 +5,7 @@
 
 mod engine;
 mod exact;
+mod expanded;
 mod format;
 mod fresh;
 mod generate;
@@ -17,14 +18,14 @@ mod tally;
 
 use generate::Case;
 use reference::Outcome;
-use report::{hex, matches, report};
+use report::{hex, matches, report, report_blocks};
 use rng::Rng;
 use std::process::ExitCode;
 use std::time::{Duration, Instant};
 use tally::Tally;
 
 const SEED: u64 = 20_240_229;
-const COUNT: usize = 24_000;
+const COUNT: usize = 30_000;
 /// Each case of this stride is asked twice and, with no more room than this, kept for the threads.
 const STRIDE: usize = 50;
 const MOST_ROOM_KEPT: usize = 1_000;
@@ -150,6 +151,9 @@ fn one(run: &mut Run, case: &Case, turn: usize) -> bool {
     }
     run.passed += 1;
     run.tally.add(&case.job, &expected);
+    if !as_by_rows(run, case, &before, &expected) {
+        return false;
+    }
     if expected.number == 0 && !accepted(run, &case.job) {
         return false;
     }
@@ -161,6 +165,21 @@ fn one(run: &mut Run, case: &Case, turn: usize) -> bool {
                 ..expected
             },
         ));
+    }
+    true
+}
+
+/// False when the engine does not keep what K3 promises of a job with B.
+fn as_by_rows(run: &mut Run, case: &Case, before: &[u8], expected: &Outcome) -> bool {
+    match expanded::check(case, before, expected) {
+        Ok(held) => held
+            .iter()
+            .for_each(|held| run.tally.add_blocks(held, expected.number)),
+        Err(wrong) => {
+            println!("MISMATCH: {wrong}");
+            report_blocks(case, before);
+            return false;
+        }
     }
     true
 }

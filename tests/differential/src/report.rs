@@ -1,6 +1,7 @@
 //! Compares two outcomes, and prints what differs, also of a shrunk job.
 
 use crate::engine;
+use crate::expanded;
 use crate::generate::Case;
 use crate::reference::{self, Outcome};
 
@@ -21,15 +22,21 @@ fn differs(case: &Case, before: &[u8]) -> bool {
     expected.is_some_and(|expected| !matches(&expected, &engine::call(case, before)))
 }
 
-/// Takes bytes out of the job, large pieces first, as long as the two still differ.
-fn shrink(case: &Case, before: &[u8]) -> Case {
+/// True when a job does not come out as the one with R for B.
+fn breaks_blocks(case: &Case, before: &[u8]) -> bool {
+    let expected = reference::run(&case.job, before);
+    expected.is_some_and(|expected| expanded::check(case, before, &expected).is_err())
+}
+
+/// Takes bytes out of the job, large pieces first, as long as it is still wrong.
+fn shrink(case: &Case, wrong: impl Fn(&Case) -> bool) -> Case {
     let mut small = case.clone();
     for piece in [4_096, 512, 64, 10, 4, 1] {
         let mut at = 0;
         while at + piece <= small.job.len() {
             let mut tried = small.clone();
             tried.job.drain(at..at + piece);
-            if differs(&tried, before) {
+            if wrong(&tried) {
                 small = tried;
             } else {
                 at += piece;
@@ -42,9 +49,23 @@ fn shrink(case: &Case, before: &[u8]) -> Case {
 pub fn report(case: &Case, before: &[u8]) {
     describe("MISMATCH", case, before);
     if differs(case, before) {
-        describe("the same, shrunk", &shrink(case, before), before);
+        let small = shrink(case, |case| differs(case, before));
+        describe("the same, shrunk", &small, before);
     } else {
         println!("the first call and the second one differ");
+    }
+}
+
+/// K3's promise is broken: the job, the one with R for B, and both shrunk.
+pub fn report_blocks(case: &Case, before: &[u8]) {
+    let small = shrink(case, |case| breaks_blocks(case, before));
+    for (title, case) in [("MISMATCH", case), ("the same, shrunk", &small)] {
+        let by_rows = Case {
+            job: expanded::expand(&case.job).job,
+            ..case.clone()
+        };
+        describe(&format!("{title}, B"), case, before);
+        describe(&format!("{title}, R for B"), &by_rows, before);
     }
 }
 

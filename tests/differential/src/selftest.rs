@@ -1,7 +1,9 @@
 //! The paper's example and marked cases, held against the reference before any engine is asked.
 
+mod blocks;
 mod changes;
 
+pub use blocks::{mixed, ring};
 pub use changes::{first_term_gone, prime_gone, seventh_term};
 
 use crate::exact::Search;
@@ -160,6 +162,7 @@ pub fn run(rng: &mut Rng) -> Checks {
     marked_cases(&mut checks);
     marked_rivals(&mut checks);
     changes::run(&mut checks);
+    blocks::run(&mut checks);
     parity(&mut checks);
     lengths(&mut checks);
     orders(&mut checks);

@@ -3,14 +3,18 @@
 //! Every answer is held to the definitions as far as that can be done without a search: each set
 //! is an irredundant cover, sets rise from the start, the cost is that of the set. That no set
 //! is left out and none is cheaper needs a search; where it is given up the job is checked in part.
-//! A job that is checked fully is asked again with each candidate taken out and put in again. Where
-//! candidates come and go between its queries, those that follow each other are checked by themselves.
+//! A job that is checked fully is asked again with each candidate taken out and put in again, with
+//! its rows by R alone, and by B alone. Where candidates come and go between its queries, those
+//! that follow each other are checked by themselves.
+
+mod heads;
 
 use crate::engine;
 use crate::exact::{GivenUp, Search};
 use crate::format::{self, number, sets};
-use crate::generate::{come, go, page};
+use crate::generate::page;
 use crate::reference::{self, Table, Term, LONGEST};
+use heads::{by_blocks, by_rows, turned};
 use std::fs;
 use std::path::{Path, PathBuf};
 use std::sync::atomic::{AtomicUsize, Ordering};
@@ -52,6 +56,9 @@ struct Query {
 /// What stands before queries, and what the paper makes of it.
 struct Problem {
     head: Vec<u8>,
+    table: Table,
+    /// The commands of the head that set the candidates.
+    setting: Vec<u8>,
     candidates: Vec<Term>,
     sums: Vec<u64>,
     costs: Vec<u64>,
@@ -157,8 +164,16 @@ fn check_asked(problem: &Problem, asked: &[&[u8]], answered: &[Query]) -> Result
     for query in answered {
         depth = depth.min(check_query(problem, &mut search, query)?);
     }
-    if depth == Depth::Full && ask(&turned(problem), asked)? != answered {
+    if depth < Depth::Full {
+        return Ok(depth);
+    }
+    if ask(&turned(problem), asked)? != answered {
         return Err("candidates that go and come again change the answers".into());
+    }
+    for head in [by_rows(problem), by_blocks(problem)] {
+        if ask(&head, asked)? != answered {
+            return Err("rows by R alone or by B alone change the answers".into());
+        }
     }
     Ok(depth)
 }
@@ -172,10 +187,7 @@ fn problem(head: &[&[u8]]) -> Result<Problem, String> {
     let mut candidates = Vec::new();
     for command in &head[1..] {
         match **command {
-            [b'R', v, on, dc] => {
-                table.on[usize::from(v)] = on;
-                table.dc[usize::from(v)] = dc;
-            }
+            [b'R' | b'B', first, ref rows @ ..] => set_rows(&mut table, first, rows)?,
             [b'T' | b'A', care, value, outputs] => candidates.push(Term {
                 care,
                 value,
@@ -188,20 +200,28 @@ fn problem(head: &[&[u8]]) -> Result<Problem, String> {
             _ => return Err("a command before the queries has no meaning here".into()),
         }
     }
+    let setting = head.iter().filter(|command| !b"IRB".contains(&command[0]));
     Ok(Problem {
         head: head.concat(),
+        setting: setting.copied().collect::<Vec<_>>().concat(),
         sums: reference::sums(&table, &candidates),
         costs: candidates.iter().map(|t| t.cost()).collect(),
         candidates,
+        table,
     })
 }
 
-/// The head, and the first candidate taken out and put in behind the others until each has had its
-/// turn: the same stand again, in the same order.
-fn turned(problem: &Problem) -> Vec<u8> {
-    let turn = |t: &Term| [go(0), come(t.care, t.value, t.outputs)].concat();
-    let turns = problem.candidates.iter().flat_map(turn).collect();
-    [problem.head.clone(), turns].concat()
+/// The rows of an R or B, which must be vertices of the table.
+fn set_rows(table: &mut Table, first: u8, rows: &[u8]) -> Result<(), String> {
+    for (i, pair) in rows.chunks(2).enumerate() {
+        let v = usize::from(first) + i;
+        if v >= table.vertices() {
+            return Err(format!("it has a row for {v}"));
+        }
+        table.on[v] = pair[0];
+        table.dc[v] = pair[1];
+    }
+    Ok(())
 }
 
 /// Runs the queries in one job and cuts the answers apart. The answers before the queries are

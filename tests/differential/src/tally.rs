@@ -1,13 +1,17 @@
 //! What a run has met: how often each number came, what became of each command, what was held to
-//! K2's promise, and, at each C of the drawn jobs, how often K1 changed cost or set of the cheapest
-//! and how often the cost was held to the rival's. A run fails where one of these never came. The
-//! jobs made on purpose do not count for L and C: the marked cases are among them, so that no count
-//! could stay at 0.
+//! the promises of K2 and K3, and, at each C of the drawn jobs, how often K1 changed cost or set of
+//! the cheapest and how often the cost was held to the rival's. A run fails where one of these
+//! never came. The jobs made on purpose do not count for L and C, nor for the rows of B: the marked
+//! cases and each row are among them, so that no count could stay at 0.
 
+mod blocks;
+
+use crate::expanded;
 use crate::format::{self, Command, COMMANDS, LAST_NUMBER};
 use crate::fresh::Held;
 use crate::reference::{self, Asked, Covers, Outcome, Query, Table, Term};
 use crate::report::hex;
+use blocks::Blocks;
 use std::collections::BTreeMap;
 
 pub struct Tally {
@@ -17,6 +21,7 @@ pub struct Tally {
     /// Whether the jobs that are added now are drawn.
     pub drawn: bool,
     changes: Changes,
+    blocks: Blocks,
     cheapest: Cheapest,
 }
 
@@ -50,6 +55,7 @@ impl Tally {
             commands: BTreeMap::new(),
             drawn: false,
             changes: Changes::default(),
+            blocks: Blocks::default(),
             cheapest: Cheapest::default(),
         }
     }
@@ -80,6 +86,10 @@ impl Tally {
         }
         let changed = |two: &[Query]| two[0].candidates != two[1].candidates;
         self.changes.jobs += usize::from(asked.queries.windows(2).any(changed));
+        let behind_block = !asked.queries.is_empty() && format::has(job, b"B");
+        let and_changes = behind_block && format::come_and_go(job);
+        self.blocks.asked += usize::from(behind_block);
+        self.blocks.asked_with_changes += usize::from(and_changes);
         let mut cheapest: Vec<&Query> = asked.queries.iter().collect();
         cheapest.retain(|query| query.command == b"C");
         cheapest.dedup_by(|later, first| later.candidates == first.candidates);
@@ -95,6 +105,13 @@ impl Tally {
         }
     }
 
+    /// A job that was held to the one with R for B.
+    pub fn add_blocks(&mut self, held: &expanded::Held, number: u64) {
+        if self.drawn {
+            self.blocks.add(held, number);
+        }
+    }
+
     /// How often each number came, and the pair of command and number that came least.
     pub fn print(&self) {
         let times = self.numbers.iter().enumerate();
@@ -105,6 +122,7 @@ impl Tally {
             println!("least often: {command} with number {number}, {times} times");
         }
         self.changes.print();
+        self.blocks.print();
         self.cheapest.print();
     }
 
@@ -129,6 +147,7 @@ impl Tally {
             ));
         }
         list.extend(self.changes.complaints());
+        list.extend(self.blocks.complaints());
         list.extend(self.cheapest.complaints());
         list
     }

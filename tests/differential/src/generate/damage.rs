@@ -1,11 +1,12 @@
-//! Damaged jobs: commands moved, doubled, dropped or spoilt, bytes changed, put in or cut off.
+//! Damaged jobs: commands moved, doubled, dropped or spoilt, vertices taken before their row, bytes
+//! changed, put in or cut off.
 
 use super::bytes::{full, likely_byte, likely_bytes};
-use super::draft::{case, plain_case, Draft};
+use super::draft::{case, plain_case, row, Draft};
 use super::sound::sound;
 use super::tables::{sizes, MOST_TERMS};
 use super::Case;
-use crate::format::{find, Command, Operand, Part, COMMANDS};
+use crate::format::{find, Command, Operand, Part, BLOCK, COMMANDS};
 use crate::rng::Rng;
 
 /// Bytes for an operand: mostly in range, so that the later refusals are reached too.
@@ -27,13 +28,35 @@ fn wild_operand(rng: &mut Rng, operand: Operand, (n, m): (usize, usize)) -> Vec<
     }
 }
 
-/// The command with nearly any operands.
+/// The command with nearly any operands. Most of many stay 0: one row of eight would nearly always
+/// be bad.
 fn with_wild_operands(rng: &mut Rng, draft: &Draft, command: &Command) -> Vec<u8> {
     let mut bytes = vec![command.byte];
+    let many = command.operands.len() > BLOCK;
     for &operand in command.operands {
-        bytes.extend(wild_operand(rng, operand, draft.sizes()));
+        if many && rng.chance(3, 4) {
+            bytes.extend(vec![0; operand.bytes()]);
+        } else {
+            bytes.extend(wild_operand(rng, operand, draft.sizes()));
+        }
     }
     bytes
+}
+
+/// The same command with one operand changed, if it has any.
+fn with_one_wild_operand(rng: &mut Rng, draft: &Draft, bytes: &[u8]) -> Vec<u8> {
+    let command = find(bytes[0]).expect("it has a part");
+    let spoilt = rng.below(command.operands.len().max(1));
+    let mut changed = vec![command.byte];
+    for (i, &operand) in command.operands.iter().enumerate() {
+        let at = changed.len();
+        if i == spoilt {
+            changed.extend(wild_operand(rng, operand, draft.sizes()));
+        } else {
+            changed.extend(&bytes[at..at + operand.bytes()]);
+        }
+    }
+    changed
 }
 
 fn wild_command(rng: &mut Rng, draft: &Draft) -> Vec<u8> {
@@ -41,13 +64,32 @@ fn wild_command(rng: &mut Rng, draft: &Draft) -> Vec<u8> {
     with_wild_operands(rng, draft, command)
 }
 
-/// Replaces the operands of one command of this part, if there is one.
+/// Replaces the operands of one command of this part, all or one, if there is such a command.
 fn spoil(rng: &mut Rng, draft: &mut Draft, part: Part) {
     let places = draft.places(part);
     if !places.is_empty() {
         let place = rng.pick(&places);
-        let command = find(draft.commands[place][0]).expect("it has a part");
-        draft.commands[place] = with_wild_operands(rng, draft, command);
+        let bytes = &draft.commands[place];
+        draft.commands[place] = if rng.chance(1, 2) {
+            with_one_wild_operand(rng, draft, bytes)
+        } else {
+            with_wild_operands(rng, draft, find(bytes[0]).expect("it has a part"))
+        };
+    }
+}
+
+/// A row for a vertex of an R or B comes before it: within a B any of the eight is met.
+fn take_vertex(rng: &mut Rng, draft: &mut Draft) {
+    let mut places = draft.places(Part::Rows);
+    if rng.chance(3, 4) {
+        places.retain(|&place| draft.commands[place][0] == b'B');
+    }
+    if !places.is_empty() {
+        let place = rng.pick(&places);
+        let command = &draft.commands[place];
+        let rows = (command.len() - 2) / 2;
+        let vertex = command[1].wrapping_add(rng.below(rows) as u8);
+        draft.commands.insert(place, row(vertex, 0, 0));
     }
 }
 
@@ -58,7 +100,7 @@ fn damage_commands(rng: &mut Rng, draft: &mut Draft) {
         return;
     }
     let place = rng.below(count);
-    match rng.below(9) {
+    match rng.below(10) {
         0 => {
             draft.commands.remove(place);
         }
@@ -78,6 +120,7 @@ fn damage_commands(rng: &mut Rng, draft: &mut Draft) {
         5 => spoil(rng, draft, Part::Rows),
         6 => spoil(rng, draft, Part::Candidates),
         7 => spoil(rng, draft, Part::Other),
+        8 => take_vertex(rng, draft),
         _ => rng.shuffle(&mut draft.commands),
     }
 }

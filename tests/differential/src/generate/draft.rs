@@ -2,7 +2,7 @@
 
 use super::bytes::likely_bytes;
 use super::Case;
-use crate::format::{find, Part};
+use crate::format::{find, Part, BLOCK};
 use crate::reference::{self, LONGEST};
 use crate::rng::Rng;
 
@@ -44,6 +44,14 @@ pub fn need(job: &[u8]) -> Option<usize> {
 
 pub fn row(v: u8, on: u8, dc: u8) -> Vec<u8> {
     vec![b'R', v, on, dc]
+}
+
+/// On and dc of the rows of a B.
+pub type Pairs = [[u8; 2]; BLOCK];
+
+/// B: rows for the first vertex and the seven above.
+pub fn block(first: u8, pairs: Pairs) -> Vec<u8> {
+    [vec![b'B', first], pairs.concat()].concat()
 }
 
 pub fn term(care: u8, value: u8, outputs: u8) -> Vec<u8> {

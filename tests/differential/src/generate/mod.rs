@@ -7,15 +7,16 @@ mod changes;
 mod damage;
 mod draft;
 mod purpose;
+mod purpose_blocks;
 mod purpose_changes;
 mod queries;
 mod sound;
 mod sweeps;
 mod tables;
 
-pub use draft::{come, draft, go, page, row, term, Draft};
+pub use draft::{block, come, draft, go, page, row, term, Draft, Pairs};
 pub use purpose::on_purpose;
-pub use tables::{random_table, terms_for};
+pub use tables::{pairs, random_table, terms_for};
 
 use crate::rng::Rng;
 use draft::need;

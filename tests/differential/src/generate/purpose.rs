@@ -2,6 +2,7 @@
 
 use super::bytes::full;
 use super::draft::{draft, page, row, term, Draft};
+use super::purpose_blocks;
 use super::purpose_changes;
 use super::sweeps::{every_byte, every_cut, every_room};
 use super::tables::{random_table, rows};
@@ -23,6 +24,7 @@ pub fn on_purpose(rng: &mut Rng) -> Vec<Case> {
     of_many_sets(&mut list);
     of_places(&mut list);
     purpose_changes::of_changes(rng, &mut list);
+    purpose_blocks::of_blocks(rng, &mut list);
     list
 }
 
@@ -57,12 +59,12 @@ fn of_sizes(list: &mut Vec<Case>) {
     }
 }
 
-/// A sound job of just this many bytes: count-0 pages, then C for what is left.
-fn long_job(length: usize) -> Draft {
-    let left = length - draft(1, 1, []).job().len();
+/// A sound job of just this many bytes: this head, count-0 pages, then C for what is left.
+pub fn long_job(n: u8, head: Vec<Vec<u8>>, length: usize) -> Draft {
+    let left = length - draft(n, 1, [head.clone()]).job().len();
     let mut asked = vec![page(0, 0); left / 10];
     asked.extend(vec![vec![b'C']; left % 10]);
-    draft(1, 1, [asked])
+    draft(n, 1, [head, asked])
 }
 
 /// A sound job whose answers are just 32,768 bytes: 2,978 of 11 bytes, 3 of 3, and E's.
@@ -75,11 +77,11 @@ fn long_answers() -> Draft {
 /// Refusal 1 and its borders, and refusal 14 at the last byte of the longest buffer.
 fn of_lengths(list: &mut Vec<Case>) {
     for length in [LONGEST - 1, LONGEST, LONGEST + 1, LONGEST + 2] {
-        add(list, &long_job(length), LONGEST);
-        add(list, &long_job(length), 9_000);
+        add(list, &long_job(1, vec![], length), LONGEST);
+        add(list, &long_job(1, vec![], length), 9_000);
     }
-    add(list, &long_job(LONGEST), LONGEST + 1);
-    let mut endless = long_job(LONGEST).job();
+    add(list, &long_job(1, vec![], LONGEST), LONGEST + 1);
+    let mut endless = long_job(1, vec![], LONGEST).job();
     for last in [b'C', b'L', 0] {
         endless[LONGEST - 1] = last;
         add_bytes(list, endless.clone(), LONGEST);

@@ -222,7 +222,7 @@ fn of_sweeps(rng: &mut Rng, list: &mut Vec<Case>) {
 /// buffer, from C behind each pair.
 fn of_long_jobs(list: &mut Vec<Case>) {
     let rows = [row(0, 0, 1), row(1, 1, 0)].concat();
-    let head = [spelled("I"), rows, come(0, 0, 1)].concat();
+    let head = [vec![b'I', 1, 1], rows, come(0, 0, 1)].concat();
     let pair = [come(0, 0, 1), go(0)].concat();
     for length in [LONGEST, LONGEST + 6] {
         let pairs = (length - head.len() - 1) / pair.len();

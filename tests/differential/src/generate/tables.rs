@@ -1,17 +1,19 @@
 //! Tables, and legal terms for them.
 
 use super::bytes::full;
-use super::draft::row;
+use super::draft::{block, row, Pairs};
+use crate::format::BLOCK;
 use crate::reference::{Table, Term};
 use crate::rng::Rng;
 
 /// A sound job has at most this many terms; the cases on purpose go up to 66.
 pub const MOST_TERMS: usize = 12;
 
+/// Mostly three inputs or more, as a B needs eight vertices.
 pub fn sizes(rng: &mut Rng) -> (usize, usize) {
     match rng.below(10) {
         0..=4 => (rng.between(1, 3), rng.between(1, 3)),
-        5..=8 => (rng.between(1, 4), rng.between(1, 4)),
+        5..=8 => (rng.between(3, 4), rng.between(1, 4)),
         _ => (rng.between(1, 8), rng.between(1, 8)),
     }
 }
@@ -124,14 +126,29 @@ pub fn table_of_terms(rng: &mut Rng, n: usize, m: usize) -> (Table, Vec<Term>) {
     (table, list)
 }
 
+/// What a B for this first vertex has of the table.
+pub fn pairs(table: &Table, first: usize) -> Pairs {
+    std::array::from_fn(|i| [table.on[first + i], table.dc[first + i]])
+}
+
+/// The rows by R and B. A B stands at each multiple of eight or anywhere, so many times out of 4
+/// where it has room.
 pub fn rows(rng: &mut Rng, table: &Table) -> Vec<Vec<u8>> {
     let mut list = Vec::new();
     let empty_ones = rng.chance(1, 3);
-    for v in 0..table.vertices() {
+    let (line, times) = rng.pick(&[(1, 0), (BLOCK, 4), (BLOCK, 2), (1, 3), (1, 1)]);
+    let mut v = 0;
+    while v < table.vertices() {
         let (on, dc) = (table.on[v], table.dc[v]);
+        if v % line == 0 && v + BLOCK <= table.vertices() && rng.chance(times, 4) {
+            list.push(block(v as u8, pairs(table, v)));
+            v += BLOCK;
+            continue;
+        }
         if on | dc != 0 || (empty_ones && rng.chance(1, 3)) {
             list.push(row(v as u8, on, dc));
         }
+        v += 1;
     }
     if rng.chance(1, 2) {
         rng.shuffle(&mut list);

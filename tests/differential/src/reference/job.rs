@@ -145,7 +145,7 @@ impl Problem {
         };
         let answer = match byte {
             b'I' => self.sizes(ops)?,
-            b'R' => self.row(ops)?,
+            b'R' | b'B' => self.rows(ops)?,
             b'T' | b'A' => self.term(ops)?,
             b'D' => self.take_out(ops)?,
             b'P' => self.primes()?,
@@ -165,7 +165,7 @@ impl Problem {
         let candidates_open = !self.primes_came && !self.queries_came;
         match command {
             b'I' => self.table.is_none(),
-            b'R' | b'P' => self.table.is_some() && candidates_open && !self.terms_came,
+            b'R' | b'B' | b'P' => self.table.is_some() && candidates_open && !self.terms_came,
             b'T' => self.table.is_some() && candidates_open,
             b'A' | b'D' | b'L' | b'C' | b'E' => self.table.is_some(),
             _ => unreachable!("format.rs has a command that has no place here"),
@@ -183,16 +183,26 @@ impl Problem {
         Ok(Vec::new())
     }
 
-    fn row(&mut self, ops: &[u8]) -> Result<Vec<u8>, Stop> {
-        let (v, on, dc) = (usize::from(ops[0]), ops[1], ops[2]);
-        let has_row = self.has_row[v];
+    /// R with one pair of on and dc, B with eight: one by one, for rising vertices. The first row
+    /// that is refused ends it.
+    fn rows(&mut self, ops: &[u8]) -> Result<Vec<u8>, Stop> {
+        let first = usize::from(ops[0]);
+        for (i, pair) in ops[1..].chunks(2).enumerate() {
+            self.row(first + i, pair[0], pair[1])?;
+        }
+        Ok(Vec::new())
+    }
+
+    /// A vertex above 255 is one of 2^n or more.
+    fn row(&mut self, v: usize, on: u8, dc: u8) -> Result<(), Stop> {
+        let vertices = self.table().vertices();
+        refuse_if(v >= vertices || self.has_row[v], 7)?;
         let table = self.table();
-        refuse_if(v >= table.vertices() || has_row, 7)?;
         refuse_if(on & dc != 0 || !fits(on, table.m) || !fits(dc, table.m), 8)?;
         table.on[v] = on;
         table.dc[v] = dc;
         self.has_row[v] = true;
-        Ok(Vec::new())
+        Ok(())
     }
 
     fn term(&mut self, ops: &[u8]) -> Result<Vec<u8>, Stop> {

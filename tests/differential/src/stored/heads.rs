@@ -1,0 +1,37 @@
+//! Other ways to the same table and candidates: the answers behind them must stay.
+
+use super::Problem;
+use crate::format::BLOCK;
+use crate::generate::{block, come, go, pairs, row};
+use crate::reference::Term;
+
+/// The head, and the first candidate taken out and put in behind the others until each has had its
+/// turn: the same stand again, in the same order.
+pub fn turned(problem: &Problem) -> Vec<u8> {
+    let turn = |t: &Term| [go(0), come(t.care, t.value, t.outputs)].concat();
+    let turns = problem.candidates.iter().flat_map(turn).collect();
+    [problem.head.clone(), turns].concat()
+}
+
+/// The head with an R for each vertex.
+pub fn by_rows(problem: &Problem) -> Vec<u8> {
+    let table = &problem.table;
+    let by_row = |v: usize| row(v as u8, table.on[v], table.dc[v]);
+    with_rows(problem, (0..table.vertices()).flat_map(by_row).collect())
+}
+
+/// The head with a B for each eight vertices, where there are as many.
+pub fn by_blocks(problem: &Problem) -> Vec<u8> {
+    let table = &problem.table;
+    if table.vertices() < BLOCK {
+        return by_rows(problem);
+    }
+    let starts = (0..table.vertices()).step_by(BLOCK);
+    let rows = starts.flat_map(|v| block(v as u8, pairs(table, v)));
+    with_rows(problem, rows.collect())
+}
+
+fn with_rows(problem: &Problem, rows: Vec<u8>) -> Vec<u8> {
+    let sizes = vec![b'I', problem.table.n as u8, problem.table.m as u8];
+    [sizes, rows, problem.setting.clone()].concat()
+}
