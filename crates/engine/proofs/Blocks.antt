@@ -1,10 +1,11 @@
 -- The laws behind a block of R and B commands: an accepted one, the run behind it, and the job's loop behind the block.
 use Prim.Native.Nat.{ℕ, suc, _+_, _-_, _≤_, _<_}
 use native.Mathlib.Omega.{arith}
+use native.Mathlib.Decide.{decLt}
 use mathlib.Core.Path.{_≡_, refl, sym, ap, _∙_, subst, subst⁻¹}
 use mathlib.Core.Bool.{Bool, true, false, not}
 use mathlib.Core.List.{List, [], _++_}
-use borrow.Author.Tests.{le-leb, le-ltb}
+use borrow.Author.Tests.{lt-ltb, le-leb, le-ltb}
 use lib.Dec.{T, T-not, eqb, eqb→eq}
 use lib.ListN.{getD, length, drop, set, replicate, length-replicate}
 use lib.Seq.{drop-drop}
@@ -32,7 +33,7 @@ use Rattle.commands.specs.Effects.{HandlesR}
 use Rattle.commands.proofs.Handling.{row-kept}
 use Rattle.commands.proofs.EightRows.{block-kept}
 use Rattle.engine.specs.Steps.{Stepped, Steps, contextAt}
-use Rattle.engine.specs.Blocks.{RowAt, BlockAt, AcceptedAt, rowsOf, restOf, GoesOn, ReadsRows}
+use Rattle.engine.specs.Blocks.{RowAt, BlockAt, restOf, GoesOn, ReadsRows, Reading, placeBehind, recordOf, ReadsInto}
 use Rattle.engine.proofs.Dispatching.{Read, step-R, step-B}
 use Rattle.engine.proofs.Running.{one-left, x, rest, run-next, Going, not-ready}
 
@@ -46,15 +47,6 @@ row-at {s} {given} {job} {at} {v} {r} l b f e t = record {
   kind = ap kindOf b;
   accepted = sym (eqb→eq r 0 t) ∙ e ∙ ap (λ (u : ℕ). firstOf (rowRefusals (s .n) (s .m) given u (getD job (at + 2) 0) (getD job (at + 3) 0))) f;
 }
-
-pub accepted-one : {s : Settings} {given job : List ℕ} {at : ℕ} {b : Bool} → b ≡ true → (T b → RowAt s given job at) → AcceptedAt s given job at 4
-accepted-one e f = record { one = λ q. f (subst⁻¹ (λ (b : Bool). T b) e tt); eight = λ l n. absurd (n refl) }
-
-pub accepted-eight : {s : Settings} {given job : List ℕ} {at : ℕ} {b : Bool} → b ≡ true → (T b → BlockAt s given job at) → AcceptedAt s given job at 18
-accepted-eight e f = record { one = λ q. absurd (omega (arith, q)); eight = λ l n. (refl, f (subst⁻¹ (λ (b : Bool). T b) e tt)) }
-
-pub accepted-none : {s : Settings} {given job : List ℕ} {at : ℕ} → AcceptedAt s given job at 0
-accepted-none = record { one = λ q. absurd (omega (arith, q)); eight = λ l n. absurd (omega (arith, l)) }
 
 -- ---- what a step would do with it
 
@@ -178,36 +170,46 @@ module _ {p next : Problem} {job : List ℕ} {at bytes : ℕ} (a : Sets p job at
 
 -- ---- the block
 
-abbrev pub recordOf : ℕ → Settings → TableRows → Candidates → Problem
-recordOf place settings rows candidates = record { place = place; settings = settings; rows = rows; candidates = candidates }
-
--- the loop's invariant: from p on the block is read up to i, and the next R or B is at its place
-pub record Reading (p : Problem) (job : List ℕ) (at : ℕ) (now : Problem) (i : ℕ) : Type 0 where
-  pub reads : ReadsRows p job at now i
-  pub behind-I : model.begun ≤ now .place
-  pub in-rows : now .place ≤ model.inRows
-
-pub reading-none : {p : Problem} {job : List ℕ} {at : ℕ} → p .place ≡ model.begun → at ≤ length job → Reading p job at p at
-reading-none {p} {job} {at} e l = record {
+pub reading-none : {p : Problem} {job : List ℕ} {at : ℕ} → model.begun ≤ p .place → p .place ≤ model.inRows → at ≤ length job → Reading p job at p at
+reading-none {p} {job} {at} b m l = record {
   reads = record {
     forward = omega arith;
     within = l;
     in-problem = λ q h v most free e. record { problem = q; most = most; enough = e; holds = h; valid = v; number = refl; offset = refl; written = refl };
   };
-  behind-I = omega (arith, e);
-  in-rows = omega (arith, e);
+  behind-I = b;
+  in-rows = m;
 }
-
--- what stands at this place of the loop: the R or B that comes next, if one does
-pub record Standing (p : Problem) (job : List ℕ) (at : ℕ) (now : Problem) (i bytes : ℕ) : Type 0 where
-  pub reading : Reading p job at now i
-  pub next : AcceptedAt (now .settings) (now .rows .given) job i bytes
 
 -- the record at this place
 pub reading-reached : {p now : Problem} {job : List ℕ} {at i : ℕ} → Reached p → Reading p job at now i → Reached now
 reading-reached {job = job} {at} r b =
     let g = b .reads .in-problem (r .problem) (r .holds) (r .valid) (suc (length job)) 0 (omega arith) in
     record { problem = g .problem; holds = g .holds; valid = g .valid }
+
+-- one block behind another
+pub reading-then : {p q r : Problem} {job : List ℕ} {at mid end : ℕ} → Reading p job at q mid → Reading q job mid r end → Reading p job at r end
+reading-then {job = job} b d = record {
+  reads = record {
+    forward = omega (arith, b .reads .forward, d .reads .forward);
+    within = d .reads .within;
+    in-problem = λ o h v most free l.
+        let g = b .reads .in-problem o h v most free l in
+        let f = d .reads .in-problem (g .problem) (g .holds) (g .valid) (g .most) free (g .enough) in
+        record {
+          problem = f .problem;
+          most = f .most;
+          enough = f .enough;
+          holds = f .holds;
+          valid = f .valid;
+          number = g .number ∙ f .number;
+          offset = g .offset ∙ f .offset;
+          written = g .written ∙ f .written;
+        };
+  };
+  behind-I = d .behind-I;
+  in-rows = d .in-rows;
+}
 
 pub reading-next : {p now next : Problem} {job : List ℕ} {at i bytes : ℕ} → Reading p job at now i → Sets now job i next bytes → next .place ≡ model.inRows → Reading p job at next (i + bytes)
 reading-next b a e = record {
@@ -220,27 +222,67 @@ reading-next b a e = record {
   in-rows = omega (arith, e);
 }
 
--- ---- its rows as the loop puts them
+-- ---- the rows alone
 
-module _ {p : Problem} (r : Reached p) {job : List ℕ} {at place i bytes : ℕ} {settings : Settings} {candidates : Candidates} {on dc given : List ℕ}
-    (w : Standing p job at (recordOf place settings (rowsOf on dc given) candidates) i bytes) where
-  abbrev now : Problem
-  now = recordOf place settings (rowsOf on dc given) candidates
+behind-none : (at place : ℕ) → placeBehind at at place ≡ place
+behind-none at place = rw (le-ltb at at (omega arith))
 
-  abbrev next : List ℕ → List ℕ → List ℕ → Problem
-  next on dc given = recordOf model.inRows settings (rowsOf on dc given) candidates
+behind-some : (at behind place : ℕ) → at < behind → placeBehind at behind place ≡ model.inRows
+behind-some at behind place l = rw (lt-ltb at behind l)
 
-  pub sets-one : {on′ dc′ given′ : List ℕ} {v : ℕ} → bytes ≡ 4 → v ≡ getD job (i + 1) 0 → on′ ≡ set on v (getD job (i + 2) 0) → dc′ ≡ set dc v (getD job (i + 3) 0) → given′ ≡ set given v 1
-      → Sets now job i (next on′ dc′ given′) bytes
-  unfolding rowPut
-  sets-one b e f g h = rw (b, f, g, h) (row-sets now (reading-reached r (w .reading)) (w .reading .behind-I) (w .reading .in-rows) e (w .next .one b))
+behind-then : (at mid end place : ℕ) → at ≤ mid → mid ≤ end → placeBehind mid end (placeBehind at mid place) ≡ placeBehind at end place
+behind-then at mid end place l m = go (decLt at mid) (decLt mid end)
+  where
+    go : Dec (at < mid) → Dec (mid < end) → placeBehind mid end (placeBehind at mid place) ≡ placeBehind at end place
+    go d (yes y) = rw (lt-ltb mid end y, lt-ltb at end (omega arith))
+    go (yes x) (no y) = rw (le-ltb mid end (omega arith), lt-ltb at mid x, lt-ltb at end (omega arith))
+    go (no x) (no y) = rw (le-ltb mid end (omega arith), le-ltb at mid (omega arith), le-ltb at end (omega arith))
 
-  pub sets-eight : {on′ dc′ given′ a b c : List ℕ} → 0 < bytes → (bytes ≡ 4 → ⊥) → on′ ≡ a → dc′ ≡ b → given′ ≡ c → rowsOf a b c ≡ rowsPut (rowsOf on dc given) (rowsOfB (drop (i + 1) job))
-      → Sets now job i (next on′ dc′ given′) bytes
-  sets-eight l n f g h e =
-      let block = w .next .eight l n in
-      rw (block .0, f, g, h) (subst⁻¹ (λ (rows : TableRows). Sets now job i (recordOf model.inRows settings rows candidates) 18) e
-      (block-sets now (reading-reached r (w .reading)) (w .reading .behind-I) (w .reading .in-rows) (block .1)))
+pub reads-none : {s : Settings} {job : List ℕ} {at : ℕ} {rows : TableRows} → at ≤ length job → ReadsInto s job at rows at rows
+reads-none {s} {job} {at} {rows} l = record {
+  forward = omega arith;
+  within = l;
+  reading = λ place cs r b m. subst⁻¹ (λ (k : ℕ). Reading (recordOf place s rows cs) job at (recordOf k s rows cs) at) (behind-none at place) (reading-none b m l);
+}
+
+module _ {s : Settings} {job : List ℕ} {at i : ℕ} {rows now : TableRows} (d : ReadsInto s job at rows i now) where
+  -- one command more
+  reads-next : {after : TableRows} {bytes : ℕ} → 0 < bytes → i + bytes ≤ length job
+      → ((place : ℕ) (cs : Candidates) → let p = recordOf place s now cs in Reached p → model.begun ≤ place → place ≤ model.inRows → Sets p job i (recordOf model.inRows s after cs) bytes)
+      → ReadsInto s job at rows (i + bytes) after
+  reads-next {after} {bytes} l room f = record {
+    forward = omega (arith, d .forward);
+    within = room;
+    reading = λ place cs r b m.
+        let g = d .reading place cs r b m in
+        subst⁻¹ (λ (k : ℕ). Reading (recordOf place s rows cs) job at (recordOf k s after cs) (i + bytes)) (behind-some at (i + bytes) place (omega (arith, d .forward)))
+        (reading-next g (f (placeBehind at i place) cs (reading-reached r g) (g .behind-I) (g .in-rows)) refl);
+  }
+
+  pub reads-one : {v : ℕ} → RowAt s (now .given) job i → v ≡ getD job (i + 1) 0 → ReadsInto s job at rows (i + 4) (rowPut now v (getD job (i + 2) 0) (getD job (i + 3) 0))
+  reads-one a e = reads-next (omega arith) (a .room) (λ place cs r b m. row-sets (recordOf place s now cs) r b m e a)
+
+  pub reads-eight : {after : TableRows} → BlockAt s (now .given) job i → after ≡ rowsPut now (rowsOfB (drop (i + 1) job)) → ReadsInto s job at rows (i + 18) after
+  reads-eight a e = subst⁻¹ (λ (after : TableRows). ReadsInto s job at rows (i + 18) after) e
+      (reads-next (omega arith) (a .room) (λ place cs r b m. block-sets (recordOf place s now cs) r b m a))
+
+  -- and those behind them
+  pub reads-then : {after : TableRows} {end : ℕ} → ReadsInto s job i now end after → ReadsInto s job at rows end after
+  reads-then {after} {end} f = record {
+    forward = omega (arith, d .forward, f .forward);
+    within = f .within;
+    reading = λ place cs r b m.
+        let g = d .reading place cs r b m in
+        subst (λ (k : ℕ). Reading (recordOf place s rows cs) job at (recordOf k s after cs) end) (behind-then at i end place (d .forward) (f .forward))
+        (reading-then g (f .reading (placeBehind at i place) cs (reading-reached r g) (g .behind-I) (g .in-rows)));
+  }
+
+-- in the record, right behind I
+pub reads-record : {p : Problem} {job : List ℕ} {at end : ℕ} {after : TableRows} {place : ℕ} → Reached p → p .place ≡ model.begun → ReadsInto (p .settings) job at (p .rows) end after
+    → place ≡ placeBehind at end model.begun → ReadsRows p job at (recordOf place (p .settings) after (p .candidates)) end
+reads-record {p} {job} {at} {end} {after} {place} r b d e =
+    let g = d .reading (p .place) (p .candidates) r (omega (arith, b)) (omega (arith, b)) in
+    subst⁻¹ (λ (k : ℕ). ReadsRows p job at (recordOf k (p .settings) after (p .candidates)) end) (e ∙ ap (placeBehind at end) (sym b)) (g .reads)
 
 -- ---- the job's loop behind the block
 

@@ -1,7 +1,9 @@
 -- What the contracts of a block of R and B commands cite.
 use Prim.Native.Nat.{ℕ, _+_, _≤_, _<_}
 use mathlib.Core.Path.{_≡_}
+use mathlib.Core.Bool.{cond}
 use mathlib.Core.List.{List}
+use lib.Dec.{ltb}
 use lib.ListN.{getD, length, drop}
 use Rattle.model.specs.Commands as model
 use Rattle.model.specs.Base.{All}
@@ -12,8 +14,9 @@ use Rattle.model.specs.Job.{Run, commands, written}
 use Rattle.model.specs.Invariants.{Valid}
 use Rattle.problem.specs.declared.Settings.{Settings}
 use Rattle.problem.specs.declared.TableRows.{TableRows}
+use Rattle.problem.specs.declared.Candidates.{Candidates}
 use Rattle.problem.specs.declared.Problem.{Problem}
-use Rattle.problem.specs.Problems.{Holds}
+use Rattle.problem.specs.Problems.{Holds, Reached}
 use Rattle.problem.specs.Refusing.{rowRefusals}
 
 -- an R with its operands stands at `at`, and neither 7 nor 8 applies
@@ -28,11 +31,6 @@ pub record BlockAt (s : Settings) (given job : List ℕ) (at : ℕ) : Type 0 whe
   pub kind : kindOf (getD job at 0) ≡ model.Kind.B
   pub bytes : getD job (at + 1) 0 + 8 ≤ 256
   pub accepted : All (λ w. 0 ≡ firstOf (rowRefusals (s .n) (s .m) given (w .vertex) (w .on) (w .dc))) (rowsOfB (drop (at + 1) job))
-
--- r are the bytes of an R or B at `at` that is accepted; 0 leaves the command to `step`
-pub record AcceptedAt (s : Settings) (given job : List ℕ) (at r : ℕ) : Type 0 where
-  pub one : r ≡ 4 → RowAt s given job at
-  pub eight : 0 < r → (r ≡ 4 → ⊥) → (r ≡ 18) × BlockAt s given job at
 
 -- the rows of three arrays
 abbrev pub rowsOf : List ℕ → List ℕ → List ℕ → TableRows
@@ -58,3 +56,24 @@ pub record ReadsRows (p : Problem) (job : List ℕ) (at : ℕ) (next : Problem) 
   pub forward : at ≤ behind
   pub within : behind ≤ length job
   pub in-problem : (q : model.Problem) → Holds p q → Valid q → (most free : ℕ) → length job < at + most → GoesOn job (restOf job most q free at) free next behind
+
+-- and behind it a row may come
+pub record Reading (p : Problem) (job : List ℕ) (at : ℕ) (next : Problem) (behind : ℕ) : Type 0 where
+  pub reads : ReadsRows p job at next behind
+  pub behind-I : model.begun ≤ next .place
+  pub in-rows : next .place ≤ model.inRows
+
+-- the place behind such commands from `at` to `behind`: that of a row, where there is one
+abbrev pub placeBehind : ℕ → ℕ → ℕ → ℕ
+placeBehind at behind place = cond (ltb at behind) model.inRows place
+
+-- a record of parts
+abbrev pub recordOf : ℕ → Settings → TableRows → Candidates → Problem
+recordOf place settings rows candidates = record { place = place; settings = settings; rows = rows; candidates = candidates }
+
+-- the same of the rows alone, whatever else the record has
+pub record ReadsInto (s : Settings) (job : List ℕ) (at : ℕ) (rows : TableRows) (behind : ℕ) (after : TableRows) : Type 0 where
+  pub forward : at ≤ behind
+  pub within : behind ≤ length job
+  pub reading : (place : ℕ) (cs : Candidates) → Reached (recordOf place s rows cs) → model.begun ≤ place → place ≤ model.inRows
+      → Reading (recordOf place s rows cs) job at (recordOf (placeBehind at behind place) s after cs) behind

@@ -3,12 +3,12 @@
 // `step` takes any command, and copies the whole record for it. Here the record is copied once for all the rows that are accepted; the
 // command behind them, a refused R or B too, is left to `step`.
 ghost use mathlib.Core.Path.{_≡_};
-ghost use Prim.Native.Nat.{_≤_};
+ghost use Prim.Native.Nat.{_≤_, _<_};
 ghost use lib.Dec.{T};
-ghost use lib.ListN.{length};
+ghost use lib.ListN.{getD, length};
 ghost use Rattle.model.specs.Commands as model;
 ghost use Rattle.problem.specs.Problems.{Reached};
-ghost use Rattle.engine.specs.Blocks.{RowAt, AcceptedAt, ReadsRows};
+ghost use Rattle.engine.specs.Blocks.{RowAt, rowsOf, placeBehind, ReadsInto, ReadsRows};
 use crate::eight_rows;
 use bits::byte;
 use problem::Problem;
@@ -22,18 +22,35 @@ pub struct Block {
     pub at: usize,
 }
 
+// Whether byte b stands at `at`.
+fn is_byte(job: &[u8], at: usize, b: u8) -> bool
+    ensures { λ r. ⌜ (T r → (at < length (now (job .entry))) × (getD (now (job .entry)) at 0 ≡ b)) ⌝ }
+{
+    if at < job.len() {
+        return job[at] == b;
+    }
+    false
+}
+
 // Whether a block starts at `at`: I came last, and the byte is that of an R or a B. Only a yes is promised to mean something: a no leaves
 // the command to `step`.
 pub fn starts(place: u8, job: &[u8], at: usize) -> bool
     ensures { λ r. ⌜ (T r → place ≡ model.begun) ⌝ }
 {
     if place == 1 {
-        if at < job.len() {
-            let b = job[at];
-            return b == 0x52 || b == 0x42;
-        }
+        return is_byte(job, at, 0x52) || is_byte(job, at, 0x42);
     }
     false
+}
+
+// The place behind a block from `at` to `end`: where it has no row, that behind I.
+fn place_behind(at: usize, end: usize) -> u8
+    ensures { λ r. ⌜ r ≡ placeBehind at end model.begun ⌝ }
+{
+    if at < end {
+        return 2;
+    }
+    1
 }
 
 // Whether an R stands at `at` that is accepted. Here too a no only leaves the command to `step`.
@@ -52,47 +69,67 @@ fn is_accepted(s: Settings, given: &[u8; 256], job: &[u8], at: usize) -> bool
     false
 }
 
-// The bytes of the R or B that stands at `at` and is accepted, 0 where there is none.
-fn accepted_bytes(s: Settings, given: &[u8; 256], job: &[u8], at: usize) -> usize
+// Reads the accepted R commands from `at` on into the rows, and returns where they end.
+fn read_ones(
+    s: Settings,
+    on: &mut [u8; 256],
+    dc: &mut [u8; 256],
+    given: &mut [u8; 256],
+    job: &[u8],
+    at: usize,
+) -> usize
     requires { ⌜ (s .n ≤ 8) × (s .m ≤ 8) ⌝ }
     requires { ⌜ at ≤ length (now job) ⌝ }
-    ensures { λ r. ⌜ AcceptedAt s (now (given .entry)) (now (job .entry)) at r ⌝ }
+    ensures { λ r. ⌜ ReadsInto s (now (job .entry)) at (rowsOf (now (on .entry)) (now (dc .entry)) (now (given .entry))) r (rowsOf (now (on .exit)) (now (dc .exit)) (now (given .exit))) ⌝ }
 {
-    if is_accepted(s, given, job, at) {
-        return 4;
+    let mut i = at;
+    while is_accepted(s, given, job, i) {
+        let v = byte::wide(job[i + 1]);
+        on[v] = job[i + 2];
+        dc[v] = job[i + 3];
+        given[v] = 1;
+        i = i + 4;
     }
-    if eight_rows::is_accepted(s, given, job, at) {
-        return 18;
-    }
-    0
+    i
 }
 
-// The accepted R and B commands from `at` on.
+// The same for B commands.
+fn read_eights(
+    s: Settings,
+    on: &mut [u8; 256],
+    dc: &mut [u8; 256],
+    given: &mut [u8; 256],
+    job: &[u8],
+    at: usize,
+) -> usize
+    requires { ⌜ (s .n ≤ 8) × (s .m ≤ 8) ⌝ }
+    requires { ⌜ at ≤ length (now job) ⌝ }
+    ensures { λ r. ⌜ ReadsInto s (now (job .entry)) at (rowsOf (now (on .entry)) (now (dc .entry)) (now (given .entry))) r (rowsOf (now (on .exit)) (now (dc .exit)) (now (given .exit))) ⌝ }
+{
+    let mut i = at;
+    while eight_rows::is_accepted(s, given, job, i) {
+        eight_rows::put(on, dc, given, job, i + 1);
+        i = i + 18;
+    }
+    i
+}
+
+// The accepted R and B commands from `at` on, in turn, until neither is accepted.
 pub fn read_rows(p: Problem, job: &[u8], at: usize) -> Block
     requires { ⌜ Reached p ⌝ }
     requires { ⌜ (p .place ≡ model.begun) × (at ≤ length (now job)) ⌝ }
     ensures { λ r. ⌜ ReadsRows p (now (job .entry)) at (r .problem) (r .at) ⌝ }
 {
-    let settings = p.settings;
+    let s = p.settings;
     let candidates = p.candidates;
     let mut on = p.rows.on;
     let mut dc = p.rows.dc;
     let mut given = p.rows.given;
-    let mut place = p.place;
-    let mut i = at;
-    let mut bytes = accepted_bytes(settings, &given, job, i);
-    while 0 < bytes {
-        if bytes == 4 {
-            let v = byte::wide(job[i + 1]);
-            on[v] = job[i + 2];
-            dc[v] = job[i + 3];
-            given[v] = 1;
-        } else {
-            eight_rows::put(&mut on, &mut dc, &mut given, job, i + 1);
-        }
-        place = 2;
-        i = i + bytes;
-        bytes = accepted_bytes(settings, &given, job, i);
+    let mut i = read_ones(s, &mut on, &mut dc, &mut given, job, at);
+    let mut end = read_eights(s, &mut on, &mut dc, &mut given, job, i);
+    while i < end {
+        i = read_ones(s, &mut on, &mut dc, &mut given, job, end);
+        end = read_eights(s, &mut on, &mut dc, &mut given, job, i);
     }
     let rows = TableRows {
         on: on,
@@ -100,13 +137,13 @@ pub fn read_rows(p: Problem, job: &[u8], at: usize) -> Block
         given: given,
     };
     let problem = Problem {
-        place: place,
-        settings: settings,
+        place: place_behind(at, end),
+        settings: s,
         rows: rows,
         candidates: candidates,
     };
     Block {
         problem: problem,
-        at: i,
+        at: end,
     }
 }
