@@ -1,21 +1,22 @@
 -- K3: a job with B and the job with the R commands run alike, by induction over the commands of the job with B.
-use Prim.Native.Nat.{ℕ, zero, suc, _+_, _-_, _≤_}
+use Prim.Native.Nat.{ℕ, zero, suc, _+_, _-_, _≤_, _<_}
 use native.Mathlib.Omega.{arith}
 use native.Mathlib.Nat.{le-refl}
+use native.Mathlib.Decide.{decLt}
 use mathlib.Core.Path.{_≡_, refl, ap, _∙_}
 use mathlib.Core.Logic.{_⊎_, inl, inr}
 use mathlib.Core.Bool.{not, _||_}
 use mathlib.Core.List.{List, [], _∷_}
-use lib.Dec.{T, ltb, eqb, ltb→lt}
+use lib.Dec.{T, ltb, eqb, ltb→lt, lt→ltb}
 use lib.ListN.{length, drop}
 use Rattle.model.specs.Base.{Bytes}
 use Rattle.model.specs.Commands.{Kind, is, kindOf, width, problemAfter}
 use Rattle.model.specs.Answers.{bytesOf, answerFor, answer}
 use Rattle.model.specs.Rules.{engine, refusal}
-use Rattle.model.specs.Job.{stop, answerThen, run}
+use Rattle.model.specs.Job.{Run, stop, answerThen, run}
 use Rattle.model.specs.Pieces.{pieces}
-use Rattle.model.specs.Expanded.{expanded, origin, EightRows}
-use Rattle.model.proofs.Lists.{or-cases, or-r}
+use Rattle.model.specs.Expanded.{expanded, origin, SameRun, EightRows}
+use Rattle.model.proofs.Lists.{or-cases, or-l, or-r}
 use Rattle.model.proofs.Runs.{Passed, context, IfShort, IfRefused, IfEnds, IfGoes, run-ind, run-is, run-long}
 use Rattle.model.proofs.Sound.{engine-lawful}
 use Rattle.model.proofs.Valid.{valid-empty}
@@ -90,3 +91,11 @@ same-run job room y l =
       bytes = ap (λ (s : Result). s .bytes) e;
       asked = ap (λ (s : Result). s .asked) e;
     }
+
+-- K3's own words: "where that job isn't too long under 1"
+pub same-unless-1 : (job : List ℕ) (room : ℕ) → Bytes job → (run (expanded job) room .number ≡ 1 → ⊥) → SameRun job room
+same-unless-1 job room y n = same-run job room y (go (decLt 32768 (length (expanded job))))
+  where
+    go : Dec (32768 < length (expanded job)) → length (expanded job) ≤ 32768
+    go (no l) = omega arith
+    go (yes l) = absurd (n (ap (λ (r : Run). r .number) (run-long engine (expanded job) room (or-l (ltb 32768 (length (expanded job))) (ltb 32768 room) (lt→ltb 32768 (length (expanded job)) l)))))

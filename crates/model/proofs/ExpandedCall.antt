@@ -1,17 +1,25 @@
 -- K3: what a caller reads from two calls that meet their contract, the second with the R commands.
 use Prim.Native.Nat.{ℕ, _≤_}
-use mathlib.Core.Path.{_≡_, refl, sym, ap, ap₂, _∙_, subst}
-use mathlib.Core.List.{List, [], _∷_, map}
-use lib.ListN.{length, take}
+use native.Mathlib.Omega.{arith}
+use mathlib.Core.Path.{_≡_, refl, sym, ap, ap₂, _∙_, subst, subst⁻¹}
+use mathlib.Core.Logic.{_⊎_, inl, inr}
+use mathlib.Core.Bool.{not, cond}
+use mathlib.Core.List.{List, [], _∷_, _++_, map}
+use lib.Dec.{T}
+use lib.Seq.{getD-take, take-take}
+use lib.ListN.{getD, length, take}
 use Rattle.model.specs.Base.{filter, Bytes}
-use Rattle.model.specs.Commands.{Problem, Context}
+use Rattle.model.specs.Pages.{Page}
+use Rattle.model.specs.Commands.{Kind, is, number, Problem, Context}
 use Rattle.model.specs.Answers.{Answer}
 use Rattle.model.specs.Rules.{engine}
 use Rattle.model.specs.Job.{Run, run, written, bufferAfter}
 use Rattle.model.specs.Calls.{Call, ran, Met, read, replies, writtenOf, Reads}
-use Rattle.model.specs.Exchanges.{answers, pair, readIn}
+use Rattle.model.specs.Exchanges.{Exchange, answers, pair, readIn, pageIn, pagesOf}
 use Rattle.model.specs.Standing.{Command, commandOf}
 use Rattle.model.specs.Expanded.{expanded, origin, asked, told, SameRun, SameCall, EightRowsRead}
+use Rattle.model.proofs.Lists.{yes-or-no, T-false}
+use Rattle.model.proofs.Codes.{is-kind}
 use Rattle.model.proofs.Sound.{engine-lawful}
 use Rattle.model.proofs.Caller.{written-is, caller}
 use Rattle.model.proofs.Expanded.{same-run}
@@ -30,6 +38,39 @@ told-pair (x ∷ xs) (r ∷ rs) = ap (λ (es : List (Command × Problem × Answe
 told-read : (c : Call) → map told (readIn engine c) ≡ tell (asked (ran c)) (replies c)
 unfolding readIn
 told-read c = told-pair (filter (answers engine) (ran c .contexts)) (replies c)
+
+-- the page of a command that is told
+abbrev pageTold : Command → Answer → List Page
+pageTold c Answer.nothing = []
+pageTold c (Answer.primesAre ts) = []
+pageTold c (Answer.paged ss m) = record { start = number (take 8 (c .operands)); count = getD (c .operands) 8 0; sets = ss; above = m } ∷ []
+pageTold c (Answer.cheapestIs k s) = []
+pageTold c Answer.ended = []
+
+page-of-L : (q : Problem) (bs : List ℕ) (free : ℕ) (a : Answer) → let x : Context = record { problem = q; kind = Kind.L; rest = bs; free = free } in pageIn x a ≡ pageTold (commandOf x) a
+page-of-L q bs free Answer.nothing = refl
+page-of-L q bs free (Answer.primesAre ts) = refl
+page-of-L q bs free (Answer.paged ss m) = rw (take-take 8 9 bs (omega arith), getD-take 9 bs 8 0 (omega arith))
+page-of-L q bs free (Answer.cheapestIs k s) = refl
+page-of-L q bs free Answer.ended = refl
+
+page-told : (x : Context) (a : Answer) → cond (is (x .kind) Kind.L) (pageIn x a) [] ≡ cond (is (x .kind) Kind.L) (pageTold (commandOf x) a) []
+page-told x a = go (yes-or-no (is (x .kind) Kind.L))
+  where
+    at : Kind → Context
+    at k = record { problem = x .problem; kind = k; rest = x .rest; free = x .free }
+
+    go : T (is (x .kind) Kind.L) ⊎ T (not (is (x .kind) Kind.L)) → cond (is (x .kind) Kind.L) (pageIn x a) [] ≡ cond (is (x .kind) Kind.L) (pageTold (commandOf x) a) []
+    go (inl t) = subst⁻¹ (λ (k : Kind). cond (is k Kind.L) (pageIn (at k) a) [] ≡ cond (is k Kind.L) (pageTold (commandOf (at k)) a) []) (is-kind (x .kind) Kind.L t) (page-of-L (x .problem) (x .rest) (x .free) a)
+    go (inr n) = rw (T-false {b = is (x .kind) Kind.L} n)
+
+abbrev pagesTold : List (Command × Problem × Answer) → List Page
+pagesTold [] = []
+pagesTold (t ∷ ts) = cond (is (t .0 .kind) Kind.L) (pageTold (t .0) (t .2)) [] ++ pagesTold ts
+
+pages-told : (es : List Exchange) → pagesOf Kind.L es ≡ pagesTold (map told es)
+pages-told [] = refl
+pages-told (e ∷ es) = let x = e .context in ap₂ (λ (a b : List Page). a ++ b) (page-told x (e .reply)) (pages-told es)
 
 module _ (c d : Call) (mc : Met c) (md : Met d) (job : d .job ≡ expanded (c .job)) (room : length (d .before) ≡ length (c .before)) (y : Bytes (c .job)) (l : length (d .job) ≤ 32768) where
   with-rows : run (expanded (c .job)) (length (c .before)) ≡ ran d
@@ -50,6 +91,9 @@ module _ (c d : Call) (mc : Met c) (md : Met d) (job : d .job ≡ expanded (c .j
   same-bytes : take (writtenOf c) (c .after) ≡ take (writtenOf d) (d .after)
   same-bytes = first .bytes ∙ same-written ∙ sym (second .bytes)
 
+  same-told : map told (readIn engine c) ≡ map told (readIn engine d)
+  same-told = told-read c ∙ ap₂ tell (runs .asked ∙ ap asked with-rows) (ap read same-bytes) ∙ sym (told-read d)
+
   calls-alike : SameCall c d
   unfolding bufferAfter
   calls-alike = record {
@@ -58,7 +102,8 @@ module _ (c d : Call) (mc : Met c) (md : Met d) (job : d .job ≡ expanded (c .j
     written = written-is engine engine-lawful c mc ∙ ap length same-written ∙ sym (written-is engine engine-lawful d md);
     bytes = same-bytes;
     replies = ap read same-bytes;
-    told = told-read c ∙ ap₂ tell (runs .asked ∙ ap asked with-rows) (ap read same-bytes) ∙ sym (told-read d);
+    told = same-told;
+    pages = pages-told (readIn engine c) ∙ ap pagesTold same-told ∙ sym (pages-told (readIn engine d));
     after = λ e. mc .after ∙ (rw (same-written, e)) ∙ sym (md .after);
   }
 

@@ -100,6 +100,12 @@ row-misplaced w q n more k free at =
     let e = place-first engine x tt n in
     ap result (step-refused engine k q (formOf Kind.R .code) (x .rest) free at (rw e tt)) ∙ silent-stops x (refusal x) at (row-silent q w more free) ∙ ap (λ (m : ℕ). stopped m at []) e
 
+-- "a vertex above 255 counts as one of 2^n or more and does not wrap"
+pub above-255 : (q : Problem) (w : Row) → q .settings .n ≤ 8 → 255 < w .vertex → firstOf (rowRefusals q w) ≡ 7
+above-255 q w size l =
+    let most : 2 ^ q .settings .n ≤ 256 = pow-mono size in
+    rw (T-true {b = leb (2 ^ q .settings .n) (w .vertex)} (le→leb (2 ^ q .settings .n) (w .vertex) (omega (arith, most, l))))
+
 -- ---- rows for rising vertices
 
 near-next : (q : Problem) (w : Row) (v : ℕ) → w .vertex ≡ v → w .vertex < 256 → Near (addRow q w) (suc v)

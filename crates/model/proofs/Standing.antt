@@ -103,6 +103,13 @@ at-next y h ys x e = omega (arith, raised y (y .kind) (h .place))
 pub placed : Placed
 placed job room before x g = omega (arith, behind-ind engine engine-lawful At (λ x. omega arith) at-next job room before x g)
 
+-- K3: B "stands where R may stand", at every place, and the others stand behind it as behind an R
+pub where-R-may : (place : ℕ) → allowed Kind.B place ≡ allowed Kind.R place
+where-R-may place = refl
+
+pub raises-as-R : raises Kind.B ≡ raises Kind.R
+raises-as-R = refl
+
 -- in the paper's words: which kinds raise the place beyond that of a row, and of a term
 
 beyond-rows : (k : Kind) → leb (raises k) inRows ≡ not (some (is k) (Kind.T ∷ Kind.A ∷ Kind.P ∷ Kind.L ∷ Kind.C ∷ []))

@@ -335,7 +335,7 @@ writtenAs job rows = record { job = job; rows = rows }
 abbrev i32 : List ℕ → List ℕ
 i32 bs = 0x49 ∷ 3 ∷ 2 ∷ bs
 
--- no vertex has the same on and dc
+-- no two pairs are alike, and none has on equal to dc
 abbrev eightPairs : List ℕ
 eightPairs = 1 ∷ 2 ∷ 3 ∷ 0 ∷ 0 ∷ 1 ∷ 0 ∷ 2 ∷ 2 ∷ 1 ∷ 0 ∷ 3 ∷ 1 ∷ 0 ∷ 2 ∷ 0 ∷ []
 
@@ -371,16 +371,16 @@ writtenOut =
     ∷ writtenAs (i32 (0 ∷ b 0 eightPairs [])) (i32 (0 ∷ b 0 eightPairs []))
     ∷ []
 
--- vertex 5 has a row: the sixth R is refused, at 27 behind 7 bytes and five R; the B from which it came stands at 7
-abbrev pub fifthTwice : List ℕ
-fifthTwice = i32 (row 5 0 0 (b 0 eightPairs (0x45 ∷ [])))
+-- vertex 5 has a row: of the R in B's place the sixth is refused, at 27; the B from which it came stands at 7
+abbrev pub vertexFiveTwice : List ℕ
+vertexFiveTwice = i32 (row 5 0 0 (b 0 eightPairs (0x45 ∷ [])))
 
 -- offsets in the job with the R commands, and in the job
 abbrev pub offsetsWithRows : List ℕ
-offsetsWithRows = 0 ∷ 2 ∷ 3 ∷ 6 ∷ 7 ∷ 10 ∷ 27 ∷ 38 ∷ 39 ∷ 40 ∷ []
+offsetsWithRows = 0 ∷ 2 ∷ 3 ∷ 6 ∷ 7 ∷ 10 ∷ 27 ∷ 38 ∷ 39 ∷ 40 ∷ 41 ∷ []
 
 abbrev pub origins : List ℕ
-origins = 0 ∷ 0 ∷ 3 ∷ 3 ∷ 7 ∷ 7 ∷ 7 ∷ 7 ∷ 25 ∷ 26 ∷ []
+origins = 0 ∷ 0 ∷ 3 ∷ 3 ∷ 7 ∷ 7 ∷ 7 ∷ 7 ∷ 25 ∷ 26 ∷ 26 ∷ []
 
 -- ---- library calls that are refused, each with its number. Where two refusals apply, the first in the paper's order is given
 

@@ -11,12 +11,12 @@ use Rattle.model.specs.Answers.{Answer}
 use Rattle.model.specs.Rules.{engine}
 use Rattle.model.specs.Job.{Run, run, written}
 use Rattle.model.specs.Calls.{Call, Met, numberOf, offsetOf, writtenOf, replies}
-use Rattle.model.specs.Exchanges.{Exchange, answers, readIn}
+use Rattle.model.specs.Exchanges.{Exchange, answers, readIn, pagesOf}
 use Rattle.model.specs.Standing.{Command, commandOf}
 use Rattle.model.specs.Pieces.{Piece, pieceKind, pieceBytes, pieces}
 
--- the R command of a row. No byte is "a vertex above 255": 255 stands for it. At vertex 256 of a B that has a row by then, so that R meets 7
--- too
+-- the R command of a row. No byte is "a vertex above 255": 255 stands for it. With 8 inputs vertex 255 has a row by then, of the same B, so
+-- that R meets 7 too; with fewer an earlier row meets 7
 abbrev pub rowCommand : Row → List ℕ
 rowCommand w = formOf Kind.R .code ∷ min (w .vertex) 255 ∷ w .on ∷ w .dc ∷ []
 
@@ -53,7 +53,7 @@ pub record SameRun (job : List ℕ) (room : ℕ) : Type 0 where
   pub bytes : written (run job room) ≡ written (run (expanded job) room)
   pub asked : asked (run job room) ≡ asked (run (expanded job) room)
 
--- of every job, damaged ones too, "where that job isn't too long under 1" (law `same-run`)
+-- of every job, damaged ones too, "where that job isn't too long under 1" (laws `same-run`, `same-unless-1`)
 abbrev pub EightRows : Type 0
 EightRows = (job : List ℕ) (room : ℕ) → Bytes job → length (expanded job) ≤ 32768 → SameRun job room
 
@@ -69,6 +69,7 @@ pub record SameCall (c d : Call) : Type 0 where
   pub bytes : take (writtenOf c) (c .after) ≡ take (writtenOf d) (d .after)
   pub replies : replies c ≡ replies d
   pub told : map told (readIn engine c) ≡ map told (readIn engine d)
+  pub pages : pagesOf Kind.L (readIn engine c) ≡ pagesOf Kind.L (readIn engine d)
   -- where the buffers begin alike they end alike
   pub after : d .before ≡ c .before → c .after ≡ d .after
 

@@ -58,7 +58,7 @@ candidateRefusals x =
 
 -- 6 to 13 and 15, by command:
 -- 6 "I has n or m outside 1 to 8"
--- 7 and 8 of R's row, and of B's eight
+-- 7 and 8 of R's row, and of B's eight; "missing operands of B itself give 5 before any of these" (`Rules`)
 -- 11 ".. or there are more than 64 primes"; 15 "after 5, D names a number that is not standing"
 -- 12 "at L or C a wanted cell is held by no candidate"; 13 "bytes follow E"
 unfoldable pub refusalsOf : Context → Kind → List Refusal

@@ -1,4 +1,4 @@
--- Paper 02, K2: the standing candidates, the place behind an A, pages behind the same commands, and the fresh job of a query.
+-- Paper 02, K2, with K3's B: the standing candidates, the place behind an A, pages behind the same commands, and the fresh job of a query.
 use Prim.Native.Nat.{ℕ, suc, _^_, _≤_, _<_, max}
 use mathlib.Core.Path.{_≡_}
 use mathlib.Core.Logic.{_↔_}
