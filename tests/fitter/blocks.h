@@ -1,6 +1,6 @@
 /*
  * One B against the eight R commands that it equals: every first vertex, every row spoilt or of a vertex that has one,
- * both in either order, missing operands, vertices above 255, and drawn tables of B and R in turn.
+ * both in either order, missing operands, vertices above 255.
  */
 #ifndef BLOCKS_H
 #define BLOCKS_H

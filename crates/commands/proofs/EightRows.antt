@@ -22,7 +22,7 @@ use Rattle.problem.specs.Refusing as record·refusals
 use Rattle.problem.proofs.Refusing.{row-refusal}
 use Rattle.problem.proofs.Keeping.{reached-sized, allRows, after-rows}
 use Rattle.commands.specs.declared.Effect.{Effect}
-use Rattle.commands.specs.Effects.{refusedAs, Handled, Found, HandlesR, HandlesB}
+use Rattle.commands.specs.Effects.{refusedAs, Handled, HandlesR, HandlesB}
 use Rattle.commands.proofs.Handling.{late-own, late-silent, handled-refused, handled-silent}
 
 -- ---- one row

@@ -3,11 +3,11 @@ use Prim.Native.Nat.{ℕ, suc, _+_, _-_, _≤_, _<_}
 use native.Mathlib.Omega.{arith}
 use native.Mathlib.Decide.{decLt}
 use mathlib.Core.Path.{_≡_, refl, sym, ap, _∙_, subst, subst⁻¹}
-use mathlib.Core.Bool.{Bool, true, false, not}
+use mathlib.Core.Bool.{Bool, false, not}
 use mathlib.Core.List.{List, [], _++_}
 use borrow.Author.Tests.{lt-ltb, le-leb, le-ltb}
 use lib.Dec.{T, T-not, eqb, eqb→eq}
-use lib.ListN.{getD, length, drop, set, replicate, length-replicate}
+use lib.ListN.{getD, length, drop, replicate, length-replicate}
 use lib.Seq.{drop-drop}
 use Rattle.model.specs.Commands as model
 use Rattle.model.specs.Commands.{Context, kindOf, is, isQueryKind, width, rowsOfB, problemAfter}

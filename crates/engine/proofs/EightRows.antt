@@ -3,7 +3,7 @@ use Prim.Native.Nat.{ℕ, suc, _+_, _-_, _*_, _^_, _≤_, _<_}
 use native.Mathlib.Omega.{arith}
 use native.Mathlib.Decide.{decLt}
 use mathlib.Core.Path.{_≡_, refl, sym, ap, _∙_, subst}
-use mathlib.Core.List.{List, [], _∷_}
+use mathlib.Core.List.{List}
 use borrow.Author.Tests.{le-ltb, lt-leb}
 use lib.Bits.{bitAnd, bitOr, and-le-l, and-le-r, or-add-and}
 use lib.Pow.{pow-mono}
@@ -76,7 +76,8 @@ module _ (s : Settings) (given job : List ℕ) (at : ℕ) {v top bound g h u : �
     room = omega (arith, room);
     kind = ap kindOf byte;
     bytes = omega (arith, first, inputs, below-top, pow-mono few);
-    accepted = all-map (λ (w : Row). 0 ≡ firstOf (rowRefusals (s .n) (s .m) given (w .vertex) (w .on) (w .dc))) (rowOfB (drop (at + 1) job)) (below 8) (all-of _ (below 8) (λ i m. row-passes i (below-e 8 m)));
+    accepted = all-map (λ (w : Row). 0 ≡ firstOf (rowRefusals (s .n) (s .m) given (w .vertex) (w .on) (w .dc))) (rowOfB (drop (at + 1) job))
+        (below 8) (all-of _ (below 8) (λ i m. row-passes i (below-e 8 m)));
   }
 
 -- ---- its rows put

@@ -1,7 +1,8 @@
 // The engine: jobs of commands over a problem, and their answers.
 //
 // `cover_job` is what a C program links to; its contract cites only definitions of crate `model`. `step` is any command of a
-// job, `row_block` the R and B commands in one go, with `eight_rows` for a B, `job` goes through them. The call for Rattle is `library::list_covers`, in a crate of its own.
+// job, `row_block` the R and B commands in one go, with `eight_rows` for a B, `job` goes through them. The call for Rattle is
+// `library::list_covers`, in a crate of its own.
 ghost use Rattle.model.specs.Calls.{Met};
 ghost use Rattle.engine.specs.Jobs.{called};
 

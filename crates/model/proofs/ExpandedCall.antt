@@ -61,7 +61,8 @@ page-told x a = go (yes-or-no (is (x .kind) Kind.L))
     at k = record { problem = x .problem; kind = k; rest = x .rest; free = x .free }
 
     go : T (is (x .kind) Kind.L) ⊎ T (not (is (x .kind) Kind.L)) → cond (is (x .kind) Kind.L) (pageIn x a) [] ≡ cond (is (x .kind) Kind.L) (pageTold (commandOf x) a) []
-    go (inl t) = subst⁻¹ (λ (k : Kind). cond (is k Kind.L) (pageIn (at k) a) [] ≡ cond (is k Kind.L) (pageTold (commandOf (at k)) a) []) (is-kind (x .kind) Kind.L t) (page-of-L (x .problem) (x .rest) (x .free) a)
+    go (inl t) = subst⁻¹ (λ (k : Kind). cond (is k Kind.L) (pageIn (at k) a) [] ≡ cond (is k Kind.L) (pageTold (commandOf (at k)) a) []) (is-kind (x .kind) Kind.L t)
+        (page-of-L (x .problem) (x .rest) (x .free) a)
     go (inr n) = rw (T-false {b = is (x .kind) Kind.L} n)
 
 abbrev pagesTold : List (Command × Problem × Answer) → List Page

@@ -4,7 +4,7 @@ use native.Mathlib.Omega.{arith}
 use mathlib.Core.Path.{_≡_, refl, ap, _∙_, subst, subst⁻¹}
 use mathlib.Core.Logic.{_⊎_, inl, inr}
 use mathlib.Core.Bool.{not, _||_}
-use mathlib.Core.List.{List, [], _∷_, _++_, map, append-assoc, List·Memᴰ}
+use mathlib.Core.List.{List, _∷_, _++_, map, append-assoc, List·Memᴰ}
 use lib.Dec.{T, leb, eqb, nleb→lt}
 use lib.Pow.{pow-mono}
 use lib.Seq.{take-at}
@@ -191,7 +191,13 @@ row-taken x Kind.R t a = omega (arith, from-I (x .problem .place) (length (x .pr
 row-taken x Kind.B t a =
     let ws = rowsOfB (x .rest) in
     let n = length (x .problem .rows .given) in
-    omega (arith, from-I (x .problem .place) n (place-one Kind.B (x .problem .place) tt a), from-I (addRows (x .problem) ws .place) (length (addRows (x .problem) ws .rows .given)) (eight-begun (x .rest) (x .problem)), rows-given ws (x .problem), rows-eight (x .rest))
+    omega (
+      arith,
+      from-I (x .problem .place) n (place-one Kind.B (x .problem .place) tt a),
+      from-I (addRows (x .problem) ws .place) (length (addRows (x .problem) ws .rows .given)) (eight-begun (x .rest) (x .problem)),
+      rows-given ws (x .problem),
+      rows-eight (x .rest),
+    )
 
 other-taken : (x : Context) → Passed engine x → T (not (setsTable (x .kind))) → taken (x .problem) ≡ taken (problemAfter x (x .kind))
 other-taken x h n =

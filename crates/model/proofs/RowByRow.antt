@@ -33,7 +33,8 @@ rows-split w ws q a =
     (all-left Not (rowRefusals q w) later a, all-right Not (rowRefusals q w) later a)
 
 -- what each row keeps that is not refused
-pub rows-keep : (P : Problem → Type 0) → ((q : Problem) (w : Row) → NoneApplies (rowRefusals q w) → P q → P (addRow q w)) → (ws : List Row) (q : Problem) → NoneApplies (rowsRefusals q ws) → P q → P (addRows q ws)
+pub rows-keep : (P : Problem → Type 0) → ((q : Problem) (w : Row) → NoneApplies (rowRefusals q w) → P q → P (addRow q w))
+    → (ws : List Row) (q : Problem) → NoneApplies (rowsRefusals q ws) → P q → P (addRows q ws)
 rows-keep P step [] q a p = p
 rows-keep P step (w ∷ ws) q a p =
     let first = rows-split w ws q a in

@@ -12,11 +12,13 @@ use lib.ListN.{length}
 use Rattle.model.specs.Base.{some, filter, All}
 use Rattle.model.specs.Table.{term}
 use Rattle.model.specs.Candidates.{Basis, basis}
-use Rattle.model.specs.Commands.{atStart, begun, inRows, inTerms, queried, Kind, formOf, is, kinds, width, isQueryKind, allowed, empty, Problem, tableOf, basisOf, Context, operand, operandNumber, Row, rowsOfB, problemAfter}
+use Rattle.model.specs.Commands.{atStart, begun, inRows, inTerms, queried, Kind, formOf, is, kinds, width, isQueryKind, allowed, empty}
+use Rattle.model.specs.Commands.{Problem, tableOf, basisOf, Context, operand, operandNumber, Row, rowsOfB, problemAfter}
 use Rattle.model.specs.Refusals.{refusalsOf}
 use Rattle.model.specs.Rules.{engine}
 use Rattle.model.specs.Demand3.{HasBasis}
-use Rattle.model.specs.Standing.{Command, commandOf, operandOf, rowsSet, setsTo, setFrom, standing, FindsStanding, TakenOut, TakesOut, raises, highest, Placed, noneCame, Places, addsOrRemoves, SameBetween, SetBy, AskedBehind, StandingDemand3}
+use Rattle.model.specs.Standing.{Command, commandOf, operandOf, rowsSet, setsTo, setFrom, standing, FindsStanding, TakenOut, TakesOut, raises}
+use Rattle.model.specs.Standing.{highest, Placed, noneCame, Places, addsOrRemoves, SameBetween, SetBy, AskedBehind, StandingDemand3}
 use Rattle.model.proofs.Lists.{T-true, bool-ext, and-l, and-r, and-i, length-without, getD-before, getD-without, all-e}
 use Rattle.model.proofs.Codes.{is-kind, kind-among, any-query, query-keeps}
 use Rattle.model.proofs.Runs.{NoneApplies, Passed, passed}
@@ -34,7 +36,8 @@ sets-by : (x : Context) (k : Kind) → ((i : ℕ) → i < width k → operandOf 
 unfolding problemAfter setsTo
 sets-by x Kind.I g = rw (g 0 (omega arith), g 1 (omega arith))
 sets-by x Kind.R g = rw (g 0 (omega arith), g 1 (omega arith), g 2 (omega arith))
-sets-by x Kind.B g = rows-set (rowsOfB (x .rest)) (x .problem) ∙ ap (λ (ws : List Row). basis (rowsSet (tableOf (x .problem)) ws) (x .problem .cands)) (sym (same-rows (commandOf x .operands) (x .rest) g))
+sets-by x Kind.B g = rows-set (rowsOfB (x .rest)) (x .problem)
+    ∙ ap (λ (ws : List Row). basis (rowsSet (tableOf (x .problem)) ws) (x .problem .cands)) (sym (same-rows (commandOf x .operands) (x .rest) g))
 sets-by x Kind.T g = rw (g 0 (omega arith), g 1 (omega arith), g 2 (omega arith))
 sets-by x Kind.P g = refl
 sets-by x Kind.A g = rw (g 0 (omega arith), g 1 (omega arith), g 2 (omega arith))

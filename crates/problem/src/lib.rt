@@ -69,7 +69,7 @@ pub fn started(n: u8, m: u8, place: u8) -> Problem
     }
 }
 
-// With these rows: what an R leaves.
+// With these rows: what a row of R or B leaves.
 pub fn with_rows(p: Problem, rows: TableRows) -> Problem
     ensures { λ r. ⌜ r ≡ atPlace model.inRows (withRows rows p) ⌝ }
 {

@@ -53,8 +53,8 @@ fn before_end(rest: &[u8]) -> Option<&[u8]> {
     (command.byte != b'E').then_some(whole)
 }
 
-/// R can't name a vertex above 255. There 255 stands for it: it has a row by then, by this B, so
-/// that it is refused with 7 as well.
+/// R can't name a vertex above 255. There 255 stands for it: with 8 inputs it has a row by then, by
+/// this B, so that it is refused with 7 as well; with fewer an earlier row was.
 fn rows_of(block: &[u8]) -> Vec<Vec<u8>> {
     let by_row = |i: usize| {
         let v = block[1].saturating_add(i as u8);

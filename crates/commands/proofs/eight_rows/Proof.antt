@@ -60,7 +60,8 @@ refused-requires c κs = search needs
 
 returns : tie.Need-returns Inv-loop μ-loop
 returns c = let c6 = c .before .before .before .before .before .before in let a = c6 .before .before .before .before .before .args in
-    row-stops (now (a .job)) (a .at) (c6 .before .loop .inv .1) (c6 .loop-test .taken) (c6 .before .before .wide .ensures) (c .before .before .before .row .ensures) (c .before .if1 .taken) (c .refused .ensures)
+    row-stops (now (a .job)) (a .at) (c6 .before .loop .inv .1) (c6 .loop-test .taken) (c6 .before .before .wide .ensures)
+    (c .before .before .before .row .ensures) (c .before .if1 .taken) (c .refused .ensures)
 
 add-i : tie.Need-add-i Inv-loop μ-loop
 add-i c = search needs
@@ -69,8 +70,11 @@ loop-less : tie.Need-loop-less Inv-loop μ-loop
 loop-less c = omega arith
 
 loop-again : tie.Need-loop-again Inv-loop μ-loop
-loop-again c = let c6 = c .before .before .before .before .before .before in let a = c6 .before .before .before .before .before .args in
-    (omega (arith, c6 .loop-test .taken), row-next (now (a .job)) (a .at) (c6 .before .loop .inv .1) (c6 .loop-test .taken) (c6 .before .before .wide .ensures) (c .before .before .before .row .ensures) (c .before .if1 .left))
+loop-again c = let c6 = c .before .before .before .before .before .before in let a = c6 .before .before .before .before .before .args in (
+  omega (arith, c6 .loop-test .taken),
+  row-next (now (a .job)) (a .at) (c6 .before .loop .inv .1) (c6 .loop-test .taken)
+      (c6 .before .before .wide .ensures) (c .before .before .before .row .ensures) (c .before .if1 .left),
+)
 
 returns-2 : tie.Need-returns-2 Inv-loop μ-loop
 returns-2 c = rows-done _ (c .before .loop .inv .1) (c .loop-test .left)

@@ -148,8 +148,8 @@ fn of_two_refusals(list: &mut Vec<Case>) {
     }
 }
 
-/// 2^n is reached at each place, alone and with a bad row at each place; 256 does not wrap, whether
-/// the lowest vertices have rows or not.
+/// 2^n is reached at each row but the first, and not at all, alone and with a bad row at each place;
+/// 256 does not wrap, whether the lowest vertices have rows or not.
 fn of_vertices_too_large(list: &mut Vec<Case>) {
     let low = |end: u8| (0..end).map(|v| row(v, 1, 2)).collect::<Commands>();
     for n in 1..=8u8 {
@@ -175,7 +175,7 @@ fn of_vertices_too_large(list: &mut Vec<Case>) {
     for first in 249..=255 {
         let asked = asked_cells(8, first, &ROWS);
         add(list, &draft(8, 2, [vec![block(first, ROWS)], asked]), 99);
-        let free = [[0, 0]; BLOCK];
-        add(list, &draft(8, 2, [vec![block(first, free)]]), 1);
+        let off = [[0, 0]; BLOCK];
+        add(list, &draft(8, 2, [vec![block(first, off)]]), 1);
     }
 }

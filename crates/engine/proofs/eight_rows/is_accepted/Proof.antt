@@ -69,9 +69,12 @@ bound-requires-2 c κs = c .before .before .before .before .before .before .befo
 returns-6 : tie.Need-returns-6
 returns-6 c t = let c3 = c .before .before .before in let c7 = c3 .before .before .before .before in let c11 = c7 .before .before .before .before in
     let a = c11 .before .before .before .before .args in
-    block-at (a .s) (now (a .given)) (now (a .job)) (a .at) (c11 .before .before .if1 .left) (c11 .if2 .left) (c7 .before .before .wide .ensures) (c7 .before .bound .ensures) (c11 .before .before .before .before .pre .0 .0) (c7 .if3 .left)
+    block-at (a .s) (now (a .given)) (now (a .job)) (a .at) (c11 .before .before .if1 .left) (c11 .if2 .left) (c7 .before .before .wide .ensures)
+    (c7 .before .bound .ensures) (c11 .before .before .before .before .pre .0 .0) (c7 .if3 .left)
     (c3 .before .before .before .given-from .ensures) (c3 .before .before .if4 .left) (c3 .before .shared .ensures) (c3 .if5 .left) (c .before .before .used .ensures)
     (c .bound2 .ensures) (omega (arith, ltb→lt (c .before .wide2 .result) (c .bound2 .result) t, c .before .wide2 .ensures))
 
 pub is-accepted-spec : {M : Type 1} → statement M
-is-accepted-spec = tie.close (tie.spec sub-if1 returns shared-slice-read-if2 returns-2 add-wide shared-slice-read-wide wide-requires bound-requires add-if3 returns-3 given-from-requires returns-4 add-shared shared-requires returns-5 add-used used-requires wide-requires-2 bound-requires-2 returns-6)
+is-accepted-spec = tie.close (tie.spec sub-if1 returns shared-slice-read-if2 returns-2 add-wide shared-slice-read-wide wide-requires bound-requires
+    add-if3 returns-3 given-from-requires returns-4 add-shared shared-requires returns-5 add-used used-requires wide-requires-2 bound-requires-2
+    returns-6)

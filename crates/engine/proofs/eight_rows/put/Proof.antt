@@ -80,10 +80,13 @@ loop-less c = omega arith
 
 loop-again : tie.Need-loop-again Inv-loop μ-loop
 unfolding rowPut
-loop-again c = let c2 = c .before .before in let a = c2 .before .before .before .before .before .args in putting-next (now (a .job)) (a .at) (c2 .before .loop .inv) (c2 .loop-test .taken) (c2 .before .before .wide .ensures)
+loop-again c = let c2 = c .before .before in let a = c2 .before .before .before .before .before .args in putting-next (now (a .job)) (a .at)
+    (c2 .before .loop .inv) (c2 .loop-test .taken) (c2 .before .before .wide .ensures)
 
 returns : tie.Need-returns Inv-loop μ-loop
 returns c = putting-all _ (c .before .loop .inv) (c .loop-test .left)
 
 pub put-spec : {M : Type 1} → statement M
-put-spec = tie.close (tie.spec Inv-loop μ-loop shared-slice-read-wide wide-requires loop-holds add-on mul-on add-on-2 shared-slice-read-on add-on-3 element-write-on add-dc mul-dc add-dc-2 shared-slice-read-dc add-dc-3 element-write-dc add-given element-write-given add-i loop-less loop-again returns)
+put-spec = tie.close (tie.spec Inv-loop μ-loop shared-slice-read-wide wide-requires loop-holds add-on mul-on add-on-2 shared-slice-read-on add-on-3
+    element-write-on add-dc mul-dc add-dc-2 shared-slice-read-dc add-dc-3 element-write-dc add-given element-write-given add-i loop-less loop-again
+    returns)

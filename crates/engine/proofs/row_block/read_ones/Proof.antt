@@ -77,4 +77,5 @@ returns : tie.Need-returns Inv-loop μ-loop
 returns c = c .before .before .before .loop .inv
 
 pub read-ones-spec : {M : Type 1} → statement M
-read-ones-spec = tie.close (tie.spec Inv-loop μ-loop loop-holds is-accepted-requires add-wide shared-slice-read-wide wide-requires add-on shared-slice-read-on element-write-on add-dc shared-slice-read-dc element-write-dc element-write-given add-i loop-less loop-again returns)
+read-ones-spec = tie.close (tie.spec Inv-loop μ-loop loop-holds is-accepted-requires add-wide shared-slice-read-wide wide-requires add-on
+    shared-slice-read-on element-write-on add-dc shared-slice-read-dc element-write-dc element-write-given add-i loop-less loop-again returns)

@@ -17,19 +17,25 @@ abbrev μ-loop : tie.MeasureT-loop
 μ-loop job at s candidates on₀ dc₀ given₀ i₀ end₀ on dc given i end = length job - i
 
 read-ones-requires : tie.Need-read-ones-requires Inv-loop μ-loop
-read-ones-requires c κs = let start = c .before .before .before .before .before .before .before .before .before in let z = reached-sized _ (start .pre .0) in ((z .inputs, z .outputs), start .pre .1 .1)
+read-ones-requires c κs = let c9 = c .before .before .before .before .before .before .before .before .before in
+    let start = c9 in let z = reached-sized _ (start .pre .0) in ((z .inputs, z .outputs), start .pre .1 .1)
 
 read-eights-requires : tie.Need-read-eights-requires Inv-loop μ-loop
-read-eights-requires c κs = let z = reached-sized _ (c .before .before .before .before .before .before .before .before .before .before .before .before .before .pre .0) in ((z .inputs, z .outputs), c .before .before .before .read-ones .ensures .within)
+read-eights-requires c κs = let c3 = c .before .before .before in
+    let z = reached-sized _ (c3 .before .before .before .before .before .before .before .before .before .before .pre .0) in ((z .inputs, z .outputs), c3 .read-ones .ensures .within)
 
 loop-holds : tie.Need-loop-holds Inv-loop μ-loop
 loop-holds c = (c .read-eights .ensures .forward, reads-none (c .read-eights .ensures .within))
 
 read-ones-requires-2 : tie.Need-read-ones-requires-2 Inv-loop μ-loop
-read-ones-requires-2 c κs = let z = reached-sized _ (c .before .before .before .before .before .before .before .before .before .before .before .before .before .before .before .before .before .before .before .pre .0) in ((z .inputs, z .outputs), c .before .before .before .before .loop .inv .1 .within)
+read-ones-requires-2 c κs = let c4 = c .before .before .before .before in
+    let c19 = c4 .before .before .before .before .before .before .before .before .before .before .before .before .before .before .before in
+    let z = reached-sized _ (c19 .pre .0) in ((z .inputs, z .outputs), c4 .loop .inv .1 .within)
 
 read-eights-requires-2 : tie.Need-read-eights-requires-2 Inv-loop μ-loop
-read-eights-requires-2 c κs = let z = reached-sized _ (c .before .before .before .before .before .before .before .before .before .before .before .before .before .before .before .before .before .before .before .before .before .before .before .pre .0) in ((z .inputs, z .outputs), c .before .before .before .read-ones2 .ensures .within)
+read-eights-requires-2 c κs = let c3 = c .before .before .before in
+    let c23 = c3 .before .before .before .before .before .before .before .before .before .before .before .before .before .before .before .before .before .before .before .before in
+    let z = reached-sized _ (c23 .pre .0) in ((z .inputs, z .outputs), c3 .read-ones2 .ensures .within)
 
 loop-less : tie.Need-loop-less Inv-loop μ-loop
 loop-less c = let c4 = c .before .before .before .before in let c8 = c4 .before .before .before .before in

@@ -94,8 +94,9 @@ add-eight-rows : tie.Need-add-eight-rows
 add-eight-rows c = search needs
 
 eight-rows-requires : tie.Need-eight-rows-requires
-eight-rows-requires c κs = let b = ap kindIs (c .enum-told3 .given .1) in
-    (c .before .before .before .before .before .before .before .before .before .pre .0, (rows-may-come (read (c .before .before .before)) (c .before .before .if1 .left) b, omega (arith, room (c .before .before), ap width b)))
+eight-rows-requires c κs = let c2 = c .before .before in
+    let b = ap kindIs (c .enum-told3 .given .1) in
+    (c2 .before .before .before .before .before .before .before .pre .0, (rows-may-come (read (c2 .before)) (c2 .if1 .left) b, omega (arith, room c2, ap width b)))
 
 add-term-at : tie.Need-add-term-at
 add-term-at c = search needs
@@ -212,4 +213,10 @@ returns-11 : tie.Need-returns-11
 returns-11 c = step-none (read (c .before .before .before .before)) (c .before .before .before .if1 .left) (ap kindIs (c .before .enum-told9 .given .1))
 
 pub step-spec : {M : Type 1} → statement M
-step-spec = tie.close (tie.spec shared-slice-read-kind-of kind-of-requires sub-rest sub-rest-2 early-refusal-requires refused-requires returns enum-told add-init shared-slice-read-init add-init-2 shared-slice-read-init-2 init-requires enum-told-2 add-wide shared-slice-read-wide wide-requires add-row shared-slice-read-row add-row-2 shared-slice-read-row-2 row-requires enum-told-3 add-eight-rows eight-rows-requires add-term-at term-at-requires term-requires enum-told-4 primes-requires enum-told-5 add-remove shared-slice-read-remove remove-requires enum-told-6 add-number-at number-at-requires add-list shared-slice-read-list list-requires enum-told-7 least-cost-requires enum-told-8 end-requires enum-told-9 refused-requires-2 returns-2 returns-3 returns-4 returns-5 same-length returns-6 returns-7 same-length-2 returns-8 same-length-3 returns-9 same-length-4 returns-10 returns-11)
+step-spec = tie.close (tie.spec shared-slice-read-kind-of kind-of-requires sub-rest sub-rest-2 early-refusal-requires refused-requires returns
+    enum-told add-init shared-slice-read-init add-init-2 shared-slice-read-init-2 init-requires enum-told-2 add-wide shared-slice-read-wide wide-requires
+    add-row shared-slice-read-row add-row-2 shared-slice-read-row-2 row-requires enum-told-3 add-eight-rows eight-rows-requires add-term-at
+    term-at-requires term-requires enum-told-4 primes-requires enum-told-5 add-remove shared-slice-read-remove remove-requires enum-told-6 add-number-at
+    number-at-requires add-list shared-slice-read-list list-requires enum-told-7 least-cost-requires enum-told-8 end-requires enum-told-9
+    refused-requires-2 returns-2 returns-3 returns-4 returns-5 same-length returns-6 returns-7 same-length-2 returns-8 same-length-3 returns-9
+    same-length-4 returns-10 returns-11)

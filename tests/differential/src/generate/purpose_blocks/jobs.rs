@@ -89,7 +89,7 @@ fn rows_from(table: &Table, first: usize) -> Commands {
     list
 }
 
-/// Every vertex has a row, mostly by B from any vertex on, in any order; then one B more.
+/// Every vertex has a row, by B from any vertex on where eight are left, in any order; then one B more.
 fn of_whole_tables(rng: &mut Rng, list: &mut Vec<Case>) {
     for n in 3..=8u8 {
         for first in 0..BLOCK {
