@@ -149,9 +149,9 @@ module _ (p : Problem) (sizes : Sized p) (bs : List ℕ)
       (λ w e. first-none (rowRefusals q w) (refusalsOf-no (rowContext q w) model.Kind.R) (sym (e ∙ row-refusal p q w sizes h))) (rowsOfB bs) accepted
 
   -- a B each of whose rows is accepted by itself
-  pub block-kept : HandlesB p (rowsOfB bs) (record { number = 0; written = 0; problem = allRows model.inRows (rowsOfB bs) p })
+  pub eight-kept : HandlesB p (rowsOfB bs) (record { number = 0; written = 0; problem = allRows model.inRows (rowsOfB bs) p })
   unfolding refusalsOf answerFor problemAfter
-  block-kept x free d m g =
+  eight-kept x free d m g =
       let q = x .problem in
       let ws = rowsOfB bs in
       let passes = all-pass ws q (getD bs 0 0) (rows-rise bs) (each-passes q (d .holds)) in

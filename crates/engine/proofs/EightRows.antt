@@ -18,7 +18,7 @@ use Rattle.problem.specs.declared.Settings.{Settings}
 use Rattle.problem.specs.declared.TableRows.{TableRows}
 use Rattle.problem.specs.Problems.{rowPut, rowsPut}
 use Rattle.problem.specs.Refusing.{isTaken, rowRefusals}
-use Rattle.engine.specs.Blocks.{BlockAt, rowsOf}
+use Rattle.engine.specs.Blocks.{EightAt, rowsOf}
 
 -- ---- bits that hold those of each number
 
@@ -70,9 +70,9 @@ module _ (s : Settings) (given job : List ℕ) (at : ℕ) {v top bound g h u : �
         lt-leb (2 ^ s .m) dc (omega (arith, dc-used, outputs, below-bound)),
       ) refl)
 
-  pub block-at : BlockAt s given job at
+  pub eight-at : EightAt s given job at
   unfolding kindOf rowsOfB
-  block-at = record {
+  eight-at = record {
     room = omega (arith, room);
     kind = ap kindOf byte;
     bytes = omega (arith, first, inputs, below-top, pow-mono few);

@@ -1,4 +1,5 @@
 pub mod Dispatching
 pub mod Running
 pub mod EightRows
+pub mod RowCommands
 pub mod Blocks

@@ -26,7 +26,7 @@ pub record RowAt (s : Settings) (given job : List ℕ) (at : ℕ) : Type 0 where
   pub accepted : 0 ≡ firstOf (rowRefusals (s .n) (s .m) given (getD job (at + 1) 0) (getD job (at + 2) 0) (getD job (at + 3) 0))
 
 -- a B with its operands stands at `at`, its vertices are bytes, and neither 7 nor 8 applies to one of its rows
-pub record BlockAt (s : Settings) (given job : List ℕ) (at : ℕ) : Type 0 where
+pub record EightAt (s : Settings) (given job : List ℕ) (at : ℕ) : Type 0 where
   pub room : at + 18 ≤ length job
   pub kind : kindOf (getD job at 0) ≡ model.Kind.B
   pub bytes : getD job (at + 1) 0 + 8 ≤ 256

@@ -9,7 +9,7 @@ ghost use lib.Bits.{bitAnd};
 ghost use lib.ListN.{getD, length, drop};
 ghost use Rattle.model.specs.Commands.{rowsOfB};
 ghost use Rattle.problem.specs.Problems.{rowsPut};
-ghost use Rattle.engine.specs.Blocks.{BlockAt, rowsOf};
+ghost use Rattle.engine.specs.Blocks.{EightAt, rowsOf};
 use bits::byte;
 use problem::Settings;
 
@@ -59,7 +59,7 @@ fn shared(job: &[u8], at: usize) -> u8
 pub fn is_accepted(s: Settings, given: &[u8; 256], job: &[u8], at: usize) -> bool
     requires { ⌜ (s .n ≤ 8) × (s .m ≤ 8) ⌝ }
     requires { ⌜ at ≤ length (now job) ⌝ }
-    ensures { λ r. ⌜ (T r → BlockAt s (now (given .entry)) (now (job .entry)) at) ⌝ }
+    ensures { λ r. ⌜ (T r → EightAt s (now (given .entry)) (now (job .entry)) at) ⌝ }
 {
     if job.len() - at < 18 {
         return false;

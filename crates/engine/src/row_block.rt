@@ -3,9 +3,9 @@
 // `step` takes any command, and copies the whole record for it. Here the record is copied once for all the rows that are accepted; the
 // command behind them, a refused R or B too, is left to `step`.
 ghost use mathlib.Core.Path.{_≡_};
-ghost use Prim.Native.Nat.{_≤_, _<_};
+ghost use Prim.Native.Nat.{_≤_};
 ghost use lib.Dec.{T};
-ghost use lib.ListN.{getD, length};
+ghost use lib.ListN.{length};
 ghost use Rattle.model.specs.Commands as model;
 ghost use Rattle.problem.specs.Problems.{Reached};
 ghost use Rattle.engine.specs.Blocks.{RowAt, rowsOf, placeBehind, ReadsInto, ReadsRows};
@@ -22,23 +22,16 @@ pub struct Block {
     pub at: usize,
 }
 
-// Whether byte b stands at `at`.
-fn is_byte(job: &[u8], at: usize, b: u8) -> bool
-    ensures { λ r. ⌜ (T r → (at < length (now (job .entry))) × (getD (now (job .entry)) at 0 ≡ b)) ⌝ }
-{
-    if at < job.len() {
-        return job[at] == b;
-    }
-    false
-}
-
 // Whether a block starts at `at`: I came last, and the byte is that of an R or a B. Only a yes is promised to mean something: a no leaves
 // the command to `step`.
 pub fn starts(place: u8, job: &[u8], at: usize) -> bool
     ensures { λ r. ⌜ (T r → place ≡ model.begun) ⌝ }
 {
     if place == 1 {
-        return is_byte(job, at, 0x52) || is_byte(job, at, 0x42);
+        if at < job.len() {
+            let b = job[at];
+            return b == 0x52 || b == 0x42;
+        }
     }
     false
 }

@@ -1,4 +1,4 @@
--- The theorems over paper 01, each file behind those that it cites.
+-- The theorems over paper 01 and the requests, each file behind those that it cites.
 pub mod Lists
 pub mod Bits
 pub mod Sets

@@ -4,7 +4,7 @@ use native.Mathlib.Omega.{arith}
 use denote.Ref.{now}
 use lib.Dec.{ltb→lt}
 use lib.Pow.{pow-mono}
-use Rattle.engine.proofs.EightRows.{block-at}
+use Rattle.engine.proofs.EightRows.{eight-at}
 use borrow.Author.Needs.{needs}
 use Rattle.engine.proofs.eight_rows.is_accepted.Statement.{statement}
 use Rattle.engine.proofs.eight_rows.is_accepted.Tie as tie
@@ -69,7 +69,7 @@ bound-requires-2 c κs = c .before .before .before .before .before .before .befo
 returns-6 : tie.Need-returns-6
 returns-6 c t = let c3 = c .before .before .before in let c7 = c3 .before .before .before .before in let c11 = c7 .before .before .before .before in
     let a = c11 .before .before .before .before .args in
-    block-at (a .s) (now (a .given)) (now (a .job)) (a .at) (c11 .before .before .if1 .left) (c11 .if2 .left) (c7 .before .before .wide .ensures)
+    eight-at (a .s) (now (a .given)) (now (a .job)) (a .at) (c11 .before .before .if1 .left) (c11 .if2 .left) (c7 .before .before .wide .ensures)
     (c7 .before .bound .ensures) (c11 .before .before .before .before .pre .0 .0) (c7 .if3 .left)
     (c3 .before .before .before .given-from .ensures) (c3 .before .before .if4 .left) (c3 .before .shared .ensures) (c3 .if5 .left) (c .before .before .used .ensures)
     (c .bound2 .ensures) (omega (arith, ltb→lt (c .before .wide2 .result) (c .bound2 .result) t, c .before .wide2 .ensures))

@@ -1,5 +1,5 @@
 -- `engine::row_block::is_accepted` meets its contract.
-use Rattle.engine.proofs.Blocks.{row-at}
+use Rattle.engine.proofs.RowCommands.{row-at}
 use borrow.Author.Needs.{needs}
 use Rattle.engine.proofs.row_block.is_accepted.Statement.{statement}
 use Rattle.engine.proofs.row_block.is_accepted.Tie as tie

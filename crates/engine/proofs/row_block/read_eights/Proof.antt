@@ -6,7 +6,7 @@ use mathlib.Core.Bool.{Bool}
 use denote.Ref.{now}
 use lib.Dec.{T}
 use lib.ListN.{length}
-use Rattle.engine.specs.Blocks.{BlockAt, rowsOf, ReadsInto}
+use Rattle.engine.specs.Blocks.{EightAt, rowsOf, ReadsInto}
 use Rattle.engine.proofs.Blocks.{reads-none, reads-eight}
 use borrow.Author.Needs.{needs}
 use Rattle.engine.proofs.row_block.read_eights.Statement.{statement}
@@ -19,8 +19,8 @@ abbrev μ-loop : tie.MeasureT-loop
 μ-loop s on₀ dc₀ given₀ job at i₀ on dc given i = length job - i
 
 -- the B at this place
-block : (c : tie.Then1 Inv-loop μ-loop) → let c3 = c .before .before .before in let a = c3 .before .before .args in BlockAt (a .s) (c3 .loop .given) (now (a .job)) (c3 .loop .i)
-block c = c .before .is-accepted .ensures (subst⁻¹ (λ (b : Bool). T b) (c .if1 .taken) tt)
+eight : (c : tie.Then1 Inv-loop μ-loop) → let c3 = c .before .before .before in let a = c3 .before .before .args in EightAt (a .s) (c3 .loop .given) (now (a .job)) (c3 .loop .i)
+eight c = c .before .is-accepted .ensures (subst⁻¹ (λ (b : Bool). T b) (c .if1 .taken) tt)
 
 loop-holds : tie.Need-loop-holds Inv-loop μ-loop
 loop-holds c = reads-none (c .before .pre .1)
@@ -29,19 +29,19 @@ is-accepted-requires : tie.Need-is-accepted-requires Inv-loop μ-loop
 is-accepted-requires c κs = (c .before .before .before .pre .0, c .before .loop .inv .within)
 
 add-put : tie.Need-add-put Inv-loop μ-loop
-add-put c = omega (arith, block (c .before .before .before) .room, c .before .before .before .before .before .before .before .before .good .1 .1 .1 .1 .0 .0)
+add-put c = omega (arith, eight (c .before .before .before) .room, c .before .before .before .before .before .before .before .before .good .1 .1 .1 .1 .0 .0)
 
 put-requires : tie.Need-put-requires Inv-loop μ-loop
-put-requires c κs = (omega (arith, block (c .before .before .before) .room), block (c .before .before .before) .bytes)
+put-requires c κs = (omega (arith, eight (c .before .before .before) .room), eight (c .before .before .before) .bytes)
 
 add-i : tie.Need-add-i Inv-loop μ-loop
 add-i c = search needs
 
 loop-less : tie.Need-loop-less Inv-loop μ-loop
-loop-less c = omega (arith, block (c .before .before .before .before) .room)
+loop-less c = omega (arith, eight (c .before .before .before .before) .room)
 
 loop-again : tie.Need-loop-again Inv-loop μ-loop
-loop-again c = let c4 = c .before .before .before .before in reads-eight (c4 .before .before .before .loop .inv) (block c4) (c .put .ensures)
+loop-again c = let c4 = c .before .before .before .before in reads-eight (c4 .before .before .before .loop .inv) (eight c4) (c .put .ensures)
 
 returns : tie.Need-returns Inv-loop μ-loop
 returns c = c .before .before .before .loop .inv
