@@ -6,7 +6,7 @@ use native.Mathlib.Decide.{ℕ-discrete, decLt}
 use mathlib.Core.Path.{_≡_, refl, sym, ap, _∙_, subst, subst⁻¹}
 use mathlib.Core.Logic.{_≢_, _⊎_, inl, inr}
 use mathlib.Core.Bool.{Bool, true, false, not, cond, _&&_, _||_}
-use mathlib.Core.List.{List, [], _∷_, _++_, map, List·Memᴰ, List·Memᴰ·head, List·Memᴰ·tail}
+use mathlib.Core.List.{List, [], _∷_, map, List·Memᴰ, List·Memᴰ·head, List·Memᴰ·tail}
 use lib.Dec.{T, ltb, eqb, eqb-refl, T-not, not-T, lt→ltb}
 use lib.Bits.{bitAnd, bitOr, or-step}
 use lib.ListN.{getD}
@@ -15,15 +15,12 @@ use Rattle.model.specs.Base.{bit, below, every, fromBits, join}
 use Rattle.model.specs.Table.{Table, Term, Cell, isOn, isDc, isOff, holds, inCube, cells, cell, term, formed, holdsNoOff, legal}
 use Rattle.model.specs.Primes.{drives, contains, prime}
 use Rattle.model.specs.Sets.{Within}
-use Rattle.model.proofs.Lists.{bool-ext, yes-or-no, or-cases, and-l, and-r, and-i, every-e, every-i, below-e, below-i, T-true, T-false}
+use Rattle.model.proofs.Lists.{bool-ext, yes-or-no, or-cases, and-l, and-r, and-i, every-e, every-i, every-append, below-e, below-i, T-true, T-false}
 use Rattle.model.proofs.Bits.{bit0-i, bit-le, bit-lt, within-le, lacks, without-within, within-without}
-use Rattle.model.proofs.Cubes.{bit-and, bits-ext, Agree, agree-e, agree-i, setBit, set-here, set-other, cell-i, Formed, legal-formed, holds-e, holds-i, contains-i, Wider, wider, same-e, wider-same, prime-e, prime-i}
+use Rattle.model.proofs.Cubes.{bit-and, bits-ext, Agree, agree-e, agree-i, setBit, set-here, set-other, cell-i, Formed, legal-formed, holds-e}
+use Rattle.model.proofs.Cubes.{holds-i, contains-i, Wider, wider, same-e, wider-same, prime-e, prime-i}
 
 -- ---- lists of cells, numbers of bits
-
-every-append : (f : Cell → Bool) (xs ys : List Cell) → T (every f xs) → T (every f ys) → T (every f (xs ++ ys))
-every-append f [] ys a b = b
-every-append f (x ∷ xs) ys a b = and-i (f x) (every f (xs ++ ys)) (and-l (f x) (every f xs) a) (every-append f xs ys (and-r (f x) (every f xs) a) b)
 
 every-map : (f : Cell → Bool) (g : ℕ → Cell) (xs : List ℕ) → ((x : ℕ) → List·Memᴰ x xs → T (f (g x))) → T (every f (map g xs))
 every-map f g [] h = tt
@@ -32,9 +29,12 @@ every-map f g (x ∷ xs) h = and-i (f (g x)) (every f (map g xs)) (h x (List·Me
 every-grid : (f : Cell → Bool) (m : ℕ) (vs : List ℕ) → ((v j : ℕ) → List·Memᴰ v vs → j < m → T (f (cell v j))) → T (every f (join (map (λ v. map (cell v) (below m)) vs)))
 every-grid f m [] h = tt
 every-grid f m (v ∷ vs) h =
-    every-append f (map (cell v) (below m)) (join (map (λ v. map (cell v) (below m)) vs))
+    let here : List Cell = map (cell v) (below m) in
+    let others : List Cell = join (map (λ v. map (cell v) (below m)) vs) in
+    rw (every-append f here others)
+    (and-i (every f here) (every f others)
     (every-map f (cell v) (below m) (λ j k. h v j (List·Memᴰ·head refl) (below-e m k)))
-    (every-grid f m vs (λ w j k l. h w j (List·Memᴰ·tail k) l))
+    (every-grid f m vs (λ w j k l. h w j (List·Memᴰ·tail k) l)))
 
 cells-every : (p : Table) (f : Cell → Bool) → ((v j : ℕ) → v < 2 ^ p .n → j < p .m → T (f (cell v j))) → T (every f (cells p))
 unfolding cells

@@ -7,6 +7,7 @@ pub mod Joined
 pub mod Cheapest
 pub mod Rows
 pub mod Matrix
+pub mod Presence
 pub mod Cubes
 pub mod Drives
 pub mod Order

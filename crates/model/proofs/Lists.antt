@@ -91,6 +91,14 @@ module _ {A : Type 0} where
   every-i f [] h = tt
   every-i f (x ∷ xs) h = and-i (f x) (every f xs) (h x (List·Memᴰ·head refl)) (every-i f xs (λ y m. h y (List·Memᴰ·tail m)))
 
+  pub every-append : (f : A → Bool) (xs ys : List A) → every f (xs ++ ys) ≡ (every f xs && every f ys)
+  every-append f [] ys = refl
+  every-append f (x ∷ xs) ys = go (f x) (every-append f xs ys)
+    where
+      go : (b : Bool) → every f (xs ++ ys) ≡ (every f xs && every f ys) → (b && every f (xs ++ ys)) ≡ ((b && every f xs) && every f ys)
+      go true h = h
+      go false h = refl
+
   pub some-i : (f : A → Bool) {x : A} {xs : List A} → List·Memᴰ x xs → T (f x) → T (some f xs)
   some-i f (List·Memᴰ·head {x = y} {xs = ys} e) t = or-l (f y) (some f ys) (subst (λ (z : A). T (f z)) e t)
   some-i f (List·Memᴰ·tail {x = y} {xs = ys} h) t = or-r (f y) (some f ys) (some-i f h t)

@@ -1,5 +1,5 @@
--- The marked cases of paper 01, its primes and its job, the costs by literals, the tables of refusals, and the jobs with A and D, by
--- computation.
+-- The marked cases of paper 01, its primes and its job, the presence function point by point, the costs by literals, the tables of
+-- refusals, and the jobs with A and D, by computation.
 use Prim.Native.Nat.{_+_, _-_, _*_, _^_, _<_}
 use native.Mathlib.Omega.{arith}
 use mathlib.Core.Path.{_≡_, refl}
@@ -12,15 +12,16 @@ use Rattle.model.specs.Base.{below}
 use Rattle.model.specs.Table.{term, isOn, isDc, isOff, cells, onCells, holds, formed, holdsNoOff, legal, represents}
 use Rattle.model.specs.Primes.{contains, sameTerm, containedIn, terms, prime, primes}
 use Rattle.model.specs.Sets.{covers, cover, coverable, redundant, irredundant, irredundants, cost, cheapest}
+use Rattle.model.specs.Presence.{sumUpTo, sumAt, productUpTo, productWithDelta}
 use Rattle.model.specs.Pages.{atOrAbove, page, more}
-use Rattle.model.specs.Candidates.{termCost, listCost, covering}
+use Rattle.model.specs.Candidates.{termCost, listCost, basis, covering}
 use Rattle.model.specs.Commands.{Kind, kindOf, width, allowed, Context, rowsOfB, problemAfter, tableOf}
 use Rattle.model.specs.Answers.{answer, answerFor}
 use Rattle.model.specs.Refusals.{refusalsOf}
 use Rattle.model.specs.Rules.{refusal, refusalBy, refusalsBy}
 use Rattle.model.specs.Job.{run, runBy, packed, written}
 use Rattle.model.specs.Library.{callRefusals, listCovers}
-use Rattle.model.specs.Cases.{outcome, cases, costsByLiterals, example, examplePrimes, exampleJob, exampleAnswers, countZeroJob}
+use Rattle.model.specs.Cases.{outcome, cases, walks, costsByLiterals, example, examplePrimes, exampleJob, exampleAnswers, countZeroJob}
 use Rattle.model.specs.Cases.{countZeroAnswers, stops, comeAndGo, halvesBasis, cheaperList, refusedCalls}
 use Rattle.model.proofs.Lists.{T-true, T-false}
 
@@ -28,6 +29,15 @@ use Rattle.model.proofs.Lists.{T-true, T-false}
 pub marked : map (λ c. outcome (c .of) (c .by)) cases ≡ map (λ c. c .gives) cases
 unfolding outcome irredundants irredundant redundant cover covers coverable isOn onCells cells holds termCost cost cheapest ones onesIn primes prime legal formed holdsNoOff isOff isDc contains sameTerm containedIn terms
 marked = refl
+
+-- the presence function point by point, and where document 000's delta drops them
+pub marked-walks : map (λ c. map (productUpTo (covering (basis (c .of) (c .by))) (c .set)) (below (1 + length (onCells (c .of))))) walks ≡ map (λ c. c .product) walks
+unfolding productUpTo sumAt sumUpTo isOn onCells cells holds
+marked-walks = refl
+
+pub marked-delta : map (λ c. map (productWithDelta (covering (basis (c .of) (c .by))) (c .set)) (below (1 + length (onCells (c .of))))) walks ≡ map (λ c. c .with-delta) walks
+unfolding productWithDelta sumAt sumUpTo isOn onCells cells holds
+marked-delta = refl
 
 -- the cost rule
 pub marked-costs : map (λ k. termCost (term (2 ^ k - 1) 0 1)) (below 9) ≡ costsByLiterals

@@ -1,8 +1,8 @@
--- Paper 01, "The two-output example of document 003": the marked cases as one table, and the job with all its bytes;
--- tables of jobs and library calls that pin the order of refusals, of jobs in which candidates come and go, and of jobs with eight rows in a
--- command (theorems: proofs/Marked, proofs/EightRows).
+-- Paper 01, "The two-output example of document 003": the marked cases as one table, the presence function on some of them, and the job
+-- with all its bytes; tables of jobs and library calls that pin the order of refusals, of jobs in which candidates come and go, and of jobs
+-- with eight rows in a command (theorems: proofs/Marked, proofs/EightRows).
 use Prim.Native.Nat.{ℕ, zero, suc, _+_}
-use mathlib.Core.Bool.{cond}
+use mathlib.Core.Bool.{Bool, true, false, cond}
 use mathlib.Core.List.{List, [], _∷_, _++_, map}
 use lib.ListN.{length, replicate}
 use Rattle.model.specs.Base.{join}
@@ -67,6 +67,37 @@ cases =
     ∷ case bothOn (term 0 0 1 ∷ term 0 0 1 ∷ []) (listed (1 ∷ 2 ∷ []) (1 ∷ 1 ∷ []) 1 1)
     ∷ case bothOn [] (refused 12)
     ∷ []
+
+-- ---- the presence function on some of them, point by point
+
+-- for a set, the product before any point and behind each point, as `presence` takes it and as document 000 does, with the delta
+pub record Walked : Type 0 where
+  pub of : Table
+  pub by : List Term
+  pub set : ℕ
+  pub product : List Bool
+  pub with-delta : List Bool
+
+abbrev walked : Table → List Term → ℕ → List Bool → List Bool → Walked
+walked p ts s product d = record { of = p; by = ts; set = s; product = product; with-delta = d }
+
+-- f at sets 0 and 1, g at sets 0 and 2, h at set 0: all functions agree at both points, and the delta drops them; f's table with a term that
+-- holds its first cell alone: with the delta the second, which no candidate holds, would pass; a at its cheapest set, and without that set's
+-- first member, where no member holds the second wanted cell; d at a set that holds its first two, by vertex, then output, and not the third
+abbrev pub walks : List Walked
+walks =
+    walked bothOn (term 0 0 1 ∷ []) 0 (true ∷ false ∷ false ∷ []) (true ∷ true ∷ true ∷ [])
+    ∷ walked bothOn (term 0 0 1 ∷ []) 1 (true ∷ true ∷ true ∷ []) (true ∷ true ∷ true ∷ [])
+    ∷ walked bothOn (term 0 0 1 ∷ term 0 0 1 ∷ []) 0 (true ∷ false ∷ false ∷ []) (true ∷ true ∷ true ∷ [])
+    ∷ walked bothOn (term 0 0 1 ∷ term 0 0 1 ∷ []) 2 (true ∷ true ∷ true ∷ []) (true ∷ true ∷ true ∷ [])
+    ∷ walked bothOn [] 0 (true ∷ false ∷ false ∷ []) (true ∷ true ∷ true ∷ [])
+    ∷ walked bothOn (term 1 0 1 ∷ []) 1 (true ∷ true ∷ false ∷ []) (true ∷ true ∷ true ∷ [])
+    ∷ walked example sixTerms 41 (true ∷ true ∷ true ∷ true ∷ true ∷ []) (true ∷ true ∷ true ∷ true ∷ true ∷ [])
+    ∷ walked example sixTerms 40 (true ∷ true ∷ false ∷ false ∷ false ∷ []) (true ∷ true ∷ false ∷ false ∷ false ∷ [])
+    ∷ walked crawled sixTerms 33 (true ∷ true ∷ true ∷ false ∷ false ∷ false ∷ false ∷ []) (true ∷ true ∷ true ∷ false ∷ false ∷ false ∷ false ∷ [])
+    ∷ []
+
+-- ---- costs and primes of a and c
 
 -- what a term costs that has so many literals, 0 to 8
 abbrev pub costsByLiterals : List ℕ

@@ -4,6 +4,7 @@ pub mod Base
 pub mod Table
 pub mod Primes
 pub mod Sets
+pub mod Presence
 pub mod Candidates
 pub mod Pages
 pub mod Commands
