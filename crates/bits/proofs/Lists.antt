@@ -26,7 +26,7 @@ from-split i (suc k) d (suc s) e =
     let g : suc i + k ≡ i + suc k = omega arith in
     ap (λ (l : List ℕ). i ∷ l) (from-split (suc i) k d s (omega arith) ∙ ap (λ (x : ℕ). from (suc i) k ++ from x d) g)
 
-below-split : (k s : ℕ) → k ≤ s → below s ≡ below k ++ from k (s - k)
+pub below-split : (k s : ℕ) → k ≤ s → below s ≡ below k ++ from k (s - k)
 below-split k s l =
     let e : 0 + k ≡ k = omega arith in
     from-split 0 k (s - k) s (omega arith) ∙ ap (λ (x : ℕ). below k ++ from x (s - k)) e
@@ -47,7 +47,7 @@ module _ {A : Type 0} where
       go false h = h
 
   module _ (part : ℕ → List A) (k : ℕ) where
-    parts-split : (s : ℕ) → k ≤ s → parts part s ≡ parts part k ++ join (map part (from k (s - k)))
+    pub parts-split : (s : ℕ) → k ≤ s → parts part s ≡ parts part k ++ join (map part (from k (s - k)))
     parts-split s l =
         ap (λ (xs : List ℕ). join (map part xs)) (below-split k s l)
         ∙ ap join (map-append part (below k) (from k (s - k)))

@@ -1,18 +1,15 @@
 -- Sets of candidates, each as a number; the laws behind `cubes_at`, `driving` and `driving_all`.
-use Prim.Native.Nat.{ℕ, zero, suc, _+_, _-_, _*_, _/_, _%_, _^_, _≤_, _<_, min}
+use Prim.Native.Nat.{ℕ, suc, _+_, _-_, _*_, _/_, _%_, _^_, _≤_, _<_, min}
 use native.Mathlib.Omega.{arith}
 use mathlib.Core.Path.{_≡_, refl, sym, ap, ap₂, _∙_, subst}
-use mathlib.Core.Bool.{Bool, true, false, cond, _&&_, _||_}
+use mathlib.Core.Bool.{Bool, true, false, cond, _&&_}
 use mathlib.Core.List.{List, [], _∷_}
 use borrow.Author.Count.{below-more}
-use borrow.Author.Tests.{lt-ltb}
 use lib.Bits.{bitAnd, and-step}
-use lib.Dec.{ltb}
 use lib.ListN.{length, take, drop, getD, set, length-drop, length-set}
 use lib.Pow.{pow-mono}
 use lib.Seq.{drop-cons, drop-length, length-take-le, getD-take, getD-set-same, getD-set-other}
 use Rattle.model.specs.declared.Term.{Term}
-use Rattle.model.specs.Base.{some}
 use Rattle.model.specs.Table.{cell, holds}
 use Rattle.model.specs.Sets.{rowOf}
 use Rattle.model.proofs.Matrix.{rowOf-lt}
@@ -103,17 +100,3 @@ row-and f g h x y z e (t ∷ ts) = and-flags (rowOf f ts x) (rowOf g ts y) (f t 
 pub cell-row : (ts : List Term) (v j : ℕ) → bitAnd (rowOf hasVertex ts v) (rowOf drivesOutput ts j) ≡ rowOf holds ts (cell v j)
 unfolding holds
 cell-row ts v j = row-and hasVertex drivesOutput holds v j (cell v j) (λ t. refl) ts
-
--- a point is held where its row is not empty
-pub held-row : {A X : Type 0} (f : A → X → Bool) (ts : List A) (x : X) → ltb 0 (rowOf f ts x) ≡ some (λ t. f t x) ts
-unfolding rowOf
-held-row f [] x = refl
-held-row f (t ∷ ts) x = go (f t x) ∙ ap (λ (b : Bool). f t x || b) (held-row f ts x)
-  where
-    double : (z : ℕ) → ltb 0 (z * 2 + 0) ≡ ltb 0 z
-    double zero = refl
-    double (suc z) = lt-ltb 0 (suc z * 2 + 0) (omega arith) ∙ sym (lt-ltb 0 (suc z) (omega arith))
-
-    go : (b : Bool) → ltb 0 (rowOf f ts x * 2 + cond b 1 0) ≡ (b || ltb 0 (rowOf f ts x))
-    go true = lt-ltb 0 (rowOf f ts x * 2 + 1) (omega arith)
-    go false = double (rowOf f ts x)

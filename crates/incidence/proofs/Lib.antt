@@ -1,4 +1,5 @@
 pub mod Candidates
 pub mod Matrix
-pub mod Coverage
+pub mod Sums
+pub mod Products
 pub mod Uses

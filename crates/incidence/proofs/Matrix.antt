@@ -149,7 +149,7 @@ vertex-is p ts driving v (j ∷ js) e = go (bit j (getD (p .on) v 0)) (vertex-is
     go true h = ap₂ (λ (x : ℕ) (l : List ℕ). x ∷ l) (e j (List·Memᴰ·head refl)) h
     go false h = h
 
-pub cells-rows : (on : List ℕ) (ts : List Term) (driving : List ℕ) (n m : ℕ) → Driving ts m driving → (p : Table) → OnBytes p n m on
+cells-rows : (on : List ℕ) (ts : List Term) (driving : List ℕ) (n m : ℕ) → Driving ts m driving → (p : Table) → OnBytes p n m on
     → parts (rowsAt on ts driving m) (2 ^ n) ≡ map (rowOf holds ts) (onCells p)
 unfolding cells onCells vertexRows
 cells-rows on ts driving n m d p o =

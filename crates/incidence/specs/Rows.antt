@@ -1,17 +1,15 @@
--- What the contracts on the rows of the covering matrix and on the cover test cite.
+-- What the contracts on the rows of the covering matrix cite.
 use Prim.Native.Nat.{ℕ, _+_, _^_, _≤_, _<_}
 use mathlib.Core.Path.{_≡_}
 use mathlib.Core.Logic.{_⊎_}
 use mathlib.Core.Bool.{Bool, cond}
 use mathlib.Core.List.{List, [], _∷_, _++_, map}
 use lib.Bits.{bitAnd}
-use lib.Dec.{ltb}
 use lib.ListN.{length, drop, getD}
 use Rattle.model.specs.declared.Term.{Term}
-use Rattle.model.specs.Base.{bit, below, every, implies}
+use Rattle.model.specs.Base.{bit}
 use Rattle.model.specs.Table.{Table, inCube, holds, onCells}
-use Rattle.model.specs.Sets.{rowOf, coverable}
-use Rattle.model.specs.Candidates.{basis, covering}
+use Rattle.model.specs.Sets.{rowOf}
 use Rattle.bits.specs.Lists.{parts}
 
 -- on has the on bytes of table p, of n inputs and m outputs
@@ -63,17 +61,3 @@ vertexRows on cubes driving m = parts (λ j. cellRow on (bitAnd cubes (getD driv
 -- the rows of all on cells, by vertex, then output
 abbrev pub AllRows : List ℕ → ℕ → ℕ → List Term → List ℕ → List ℕ → ℕ → Type 0
 AllRows on n m ts old new r = (p : Table) → OnBytes p n m on → Put (map (rowOf holds ts) (onCells p)) old new r
-
--- ---- the cover test
-
--- the cell of one vertex and output j is held by a candidate, where it is on
-unfoldable pub cellHeld : ℕ → ℕ → List ℕ → ℕ → Bool
-cellHeld on cubes driving j = implies (bit j on) (ltb 0 (bitAnd cubes (getD driving j 0)))
-
--- each on cell of one vertex is held by a candidate
-abbrev pub vertexHeld : ℕ → ℕ → List ℕ → ℕ → Bool
-vertexHeld on cubes driving m = every (cellHeld on cubes driving) (below m)
-
--- r tells whether each on cell is held by a candidate: refusal 12 does not apply
-abbrev pub TellsCoverable : List ℕ → ℕ → ℕ → List Term → Bool → Type 0
-TellsCoverable on n m ts r = (p : Table) → OnBytes p n m on → r ≡ coverable (covering (basis p ts))

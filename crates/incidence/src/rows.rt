@@ -34,7 +34,7 @@ fn cubes_at(terms: [Term; 64], count: usize, v: u8) -> u64
 }
 
 // The candidates whose cube contains vertex v, for the rows of its on cells; a vertex without one is not looked at.
-pub fn cubes_for(on: u8, terms: [Term; 64], count: usize, v: u8) -> u64
+fn cubes_for(on: u8, terms: [Term; 64], count: usize, v: u8) -> u64
     requires { ⌜ count ≤ 64 ⌝ }
     ensures { λ r. ⌜ CubesFor on (take count terms) v r ⌝ }
 {
@@ -59,7 +59,7 @@ fn driving(terms: [Term; 64], count: usize, j: u8) -> u64
 }
 
 // For each of the m outputs the candidates that drive it.
-pub fn driving_all(terms: [Term; 64], count: usize, m: u8) -> [u64; 8]
+fn driving_all(terms: [Term; 64], count: usize, m: u8) -> [u64; 8]
     requires { ⌜ (count ≤ 64) × (m ≤ 8) ⌝ }
     ensures { λ r. ⌜ Driving (take count terms) m r ⌝ }
 {

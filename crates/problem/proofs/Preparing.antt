@@ -1,7 +1,7 @@
 -- The laws behind the covering matrix: the rows of a problem, reduced, have its covers and its cheapest.
-use Prim.Native.Nat.{ℕ, _≤_}
+use Prim.Native.Nat.{ℕ, _-_, _^_, _≤_}
 use native.Mathlib.Omega.{arith}
-use mathlib.Core.Path.{_≡_, sym, ap, _∙_, subst}
+use mathlib.Core.Path.{_≡_, sym, ap, ap₂, _∙_, subst}
 use mathlib.Core.Bool.{Bool}
 use mathlib.Core.List.{List, [], map}
 use lib.ListN.{length, take, replicate, length-map, length-replicate}
@@ -9,20 +9,23 @@ use lib.Pow.{pow-mono}
 use Rattle.model.specs.Base.{bit, below}
 use Rattle.model.specs.declared.Term.{Term}
 use Rattle.model.specs.Table.{holds, onCells}
-use Rattle.model.specs.Sets.{covers, cover, coverable, irredundants, cheapest, ofRows, rowOf, members}
+use Rattle.model.specs.Sets.{covers, cover, irredundants, cheapest, ofRows, rowOf, members}
+use Rattle.model.specs.Presence.{presence}
 use Rattle.model.specs.Candidates.{Basis, basis, covering}
 use Rattle.model.specs.Commands as model
 use Rattle.model.specs.Commands.{basisOf, tableOf}
 use Rattle.model.proofs.Matrix.{irredundants-same, rows-irredundants, rows-cheapest, rows-coverable, from-length}
+use Rattle.model.proofs.Presence.{presence-all}
 use Rattle.rows.specs.Reduction.{Reduced}
 use Rattle.rows.proofs.Same.{reduced-irredundants, reduced-cheapest, reduced-coverable}
 use Rattle.rows.specs.Covers.{rowCovers}
-use Rattle.incidence.specs.Rows.{OnBytes, Put, AllRows, TellsCoverable}
+use Rattle.incidence.specs.Rows.{OnBytes, Put, AllRows}
+use Rattle.incidence.specs.Presence.{TellsPresence}
 use Rattle.incidence.proofs.Uses.{put-front, some-on-table}
 use Rattle.problem.specs.declared.Problem.{Problem}
 use Rattle.problem.specs.Problems.{Sized, Holds}
 use Rattle.problem.specs.declared.matrix.Matrix.{Matrix}
-use Rattle.problem.specs.Matrix.{TellsCovered, RowsOf, PutsRows, Prepares}
+use Rattle.problem.specs.Matrix.{PresenceOfAll, RowsOf, PutsRows, Prepares}
 
 -- the on bytes of the table that p holds
 held-on : (p : Problem) (q : model.Problem) → Sized p → Holds p q → OnBytes (tableOf q) (p .settings .n) (p .settings .m) (p .rows .on)
@@ -32,8 +35,11 @@ held-on p q z h = record { inputs = sym (h .settings .inputs); outputs = sym (h 
 held-cands : (p : Problem) (q : model.Problem) → Holds p q → take (p .candidates .count) (p .candidates .terms) ≡ q .cands
 held-cands p q h = h .cands .same
 
-pub covered : (p : Problem) (r : Bool) → Sized p → TellsCoverable (p .rows .on) (p .settings .n) (p .settings .m) (take (p .candidates .count) (p .candidates .terms)) r → TellsCovered p r
-covered p r z c q h = c (tableOf q) (held-on p q z h) ∙ ap (λ (ts : List Term). coverable (covering (basis (tableOf q) ts))) (held-cands p q h)
+pub covered : (p : Problem) (all : ℕ) (r : Bool) → Sized p → all ≡ 2 ^ p .candidates .count - 1
+    → TellsPresence (p .rows .on) (p .settings .n) (p .settings .m) (take (p .candidates .count) (p .candidates .terms)) all r → PresenceOfAll p r
+covered p all r z e c q h =
+    c (tableOf q) (held-on p q z h)
+    ∙ ap₂ (λ (ts : List Term) (s : ℕ). presence (covering (basis (tableOf q) ts)) s) (held-cands p q h) (e ∙ ap (λ (k : ℕ). 2 ^ k - 1) (h .cands .counted))
 
 -- ---- costs play no part in the listing
 
@@ -84,5 +90,5 @@ rows-listed p q rows n h d m = ap (λ (i : ℕ). irredundants (ofRows (replicate
 
 -- ---- the matrix
 
-pub prepared-all : (p : Problem) (m : Matrix) (out : List ℕ) → PutsRows p out (m .count) → TellsCovered p (m .covered) → Prepares p out m
-prepared-all p m out d c = record { size = d .size; within = d .within; matrix = λ q h. record { rows-of = d .rows q h; told = c q h } }
+pub prepared-all : (p : Problem) (m : Matrix) (out : List ℕ) → PutsRows p out (m .count) → PresenceOfAll p (m .covered) → Prepares p out m
+prepared-all p m out d c = record { size = d .size; within = d .within; matrix = λ q h. record { rows-of = d .rows q h; told = c q h ∙ presence-all (covering (basisOf q)) } }

@@ -6,6 +6,7 @@ use mathlib.Core.List.{List, map}
 use lib.ListN.{length, take, replicate}
 use Rattle.model.specs.declared.Term.{Term}
 use Rattle.model.specs.Sets.{coverable, irredundants, cheapest, ofRows}
+use Rattle.model.specs.Presence.{presence, allOf}
 use Rattle.model.specs.Candidates.{Basis, covering, termCost}
 use Rattle.model.specs.Commands as model
 use Rattle.model.specs.Commands.{basisOf}
@@ -26,6 +27,10 @@ pub record MatrixOf (b : Basis) (rows : List ℕ) (covered : Bool) : Type 0 wher
 
 abbrev pub TellsCovered : Problem → Bool → Type 0
 TellsCovered p r = (q : model.Problem) → Holds p q → r ≡ coverable (covering (basisOf q))
+
+-- r is the presence function at the set of all candidates
+abbrev pub PresenceOfAll : Problem → Bool → Type 0
+PresenceOfAll p r = (q : model.Problem) → Holds p q → r ≡ presence (covering (basisOf q)) (allOf (covering (basisOf q)))
 
 -- the first r entries are the rows of the problem that p holds
 pub record PutsRows (p : Problem) (out : List ℕ) (r : ℕ) : Type 0 where

@@ -5,8 +5,9 @@ ghost use lib.Count.{ones};
 ghost use lib.ListN.{length, take};
 ghost use Rattle.model.specs.Candidates.{termCost};
 ghost use Rattle.problem.specs.Problems.{Sized};
-ghost use Rattle.problem.specs.Matrix.{TellsCovered, PutsRows, Prepares, Costs};
+ghost use Rattle.problem.specs.Matrix.{PresenceOfAll, PutsRows, Prepares, Costs};
 use crate::Problem;
+use bits::set;
 use incidence::presence;
 use model::Term;
 use rows::reduction;
@@ -17,14 +18,22 @@ pub struct Matrix {
     pub covered: bool,
 }
 
-// Whether each on cell is held by a candidate.
+// Whether each on cell is held by a candidate: document 000's presence function at the set of all candidates.
 fn is_covered(p: Problem) -> bool
     requires { ⌜ Sized p ⌝ }
-    ensures { λ r. ⌜ TellsCovered p r ⌝ }
+    ensures { λ r. ⌜ PresenceOfAll p r ⌝ }
 {
     let on = p.rows.on;
     let terms = p.candidates.terms;
-    presence::coverable(&on, terms, p.candidates.count, p.settings.n, p.settings.m)
+    let all = set::low_mask(p.candidates.count as u64);
+    presence::presence(
+        &on,
+        terms,
+        p.candidates.count,
+        p.settings.n,
+        p.settings.m,
+        all,
+    )
 }
 
 // Puts the rows that contain no other row in front of `out`, those with few members first, and returns how many.

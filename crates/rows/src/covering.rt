@@ -1,4 +1,4 @@
-// The cover test, and the test of an irredundant cover: every row is met, and every member has a row that it alone meets.
+// The cover test by rows, and that of an irredundant cover: every row is met, and every member has a row that it alone meets.
 ghost use Rattle.bits.specs.Bits.{Decides};
 ghost use Rattle.rows.specs.Covers.{Cover, IrredundantCover, Privates};
 use bits::set;

@@ -4,11 +4,15 @@ use borrow.Author.Needs.{needs}
 use Rattle.problem.proofs.matrix.is_covered.Statement.{statement}
 use Rattle.problem.proofs.matrix.is_covered.Tie as tie
 
-coverable-requires : tie.Need-coverable-requires
-coverable-requires c κs = search needs
+low-mask-requires : tie.Need-low-mask-requires
+low-mask-requires c κs = search needs
+
+presence-requires : tie.Need-presence-requires
+presence-requires c κs = search needs
 
 returns : tie.Need-returns
-returns c = covered (c .before .before .before .before .args .p) _ (c .before .before .before .before .pre) (c .coverable .ensures)
+returns c = let c2 = c .before .before in let c5 = c2 .before .before .before in
+    covered (c5 .args .p) _ _ (c5 .pre) (c2 .low-mask .ensures) (c .presence .ensures)
 
 pub is-covered-spec : {M : Type 1} → statement M
-is-covered-spec = tie.close (tie.spec coverable-requires returns)
+is-covered-spec = tie.close (tie.spec low-mask-requires presence-requires returns)
