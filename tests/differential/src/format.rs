@@ -13,7 +13,8 @@
 //! 4. `generate/purpose.rs` (`purpose_changes.rs` for A and D, `purpose_blocks.rs` for B): its
 //!    borders, in every run; `selftest.rs`: the paper's cases of it;
 //! 5. `fresh.rs`: whether a fresh job with the same table has it, and which pages go on behind it;
-//! 6. `expanded.rs`: what it is written out as, where it stands for other commands as B does.
+//! 6. `expanded.rs`: what it is written out as, where it stands for other commands as B does;
+//! 7. `walk.rs`: what it makes of table and candidates, and how long its answer is.
 //!
 //! A stored job that has it needs `stored.rs` too. Every command at every place, damage, cuts and
 //! moved or doubled commands go by the table, and a run fails where a command was never accepted

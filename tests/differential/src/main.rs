@@ -9,16 +9,18 @@ mod expanded;
 mod format;
 mod fresh;
 mod generate;
+mod implicants;
 mod reference;
 mod report;
 mod rng;
 mod selftest;
 mod stored;
 mod tally;
+mod walk;
 
 use generate::Case;
 use reference::Outcome;
-use report::{hex, matches, report, report_blocks};
+use report::{hex, matches, report, report_blocks, report_presence};
 use rng::Rng;
 use std::process::ExitCode;
 use std::time::{Duration, Instant};
@@ -151,7 +153,7 @@ fn one(run: &mut Run, case: &Case, turn: usize) -> bool {
     }
     run.passed += 1;
     run.tally.add(&case.job, &expected);
-    if !as_by_rows(run, case, &before, &expected) {
+    if !as_by_rows(run, case, &before, &expected) || !as_by_points(run, case, &before, &expected) {
         return false;
     }
     if expected.number == 0 && !accepted(run, &case.job) {
@@ -178,6 +180,19 @@ fn as_by_rows(run: &mut Run, case: &Case, before: &[u8], expected: &Outcome) -> 
         Err(wrong) => {
             println!("MISMATCH: {wrong}");
             report_blocks(case, before);
+            return false;
+        }
+    }
+    true
+}
+
+/// False when the answers to L and C are not what document 000 says.
+fn as_by_points(run: &mut Run, case: &Case, before: &[u8], expected: &Outcome) -> bool {
+    match implicants::check(&case.job, expected) {
+        Ok(held) => run.tally.add_presence(&held),
+        Err(wrong) => {
+            println!("MISMATCH: {wrong}");
+            report_presence(case, before);
             return false;
         }
     }

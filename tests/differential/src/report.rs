@@ -3,6 +3,7 @@
 use crate::engine;
 use crate::expanded;
 use crate::generate::Case;
+use crate::implicants;
 use crate::reference::{self, Outcome};
 
 pub fn matches(expected: &Outcome, seen: &engine::Seen) -> bool {
@@ -26,6 +27,15 @@ fn differs(case: &Case, before: &[u8]) -> bool {
 fn breaks_blocks(case: &Case, before: &[u8]) -> bool {
     let expected = reference::run(&case.job, before);
     expected.is_some_and(|expected| expanded::check(case, before, &expected).is_err())
+}
+
+/// True when engine and reference agree on answers that are not what document 000 says.
+fn breaks_presence(case: &Case, before: &[u8]) -> bool {
+    let expected = reference::run(&case.job, before);
+    expected.is_some_and(|expected| {
+        matches(&expected, &engine::call(case, before))
+            && implicants::check(&case.job, &expected).is_err()
+    })
 }
 
 /// Takes bytes out of the job, large pieces first, as long as it is still wrong.
@@ -67,6 +77,13 @@ pub fn report_blocks(case: &Case, before: &[u8]) {
         describe(&format!("{title}, B"), case, before);
         describe(&format!("{title}, R for B"), &by_rows, before);
     }
+}
+
+/// An answer is not what document 000 says: the job, and the job shrunk.
+pub fn report_presence(case: &Case, before: &[u8]) {
+    describe("MISMATCH", case, before);
+    let small = shrink(case, |case| breaks_presence(case, before));
+    describe("the same, shrunk", &small, before);
 }
 
 fn describe(title: &str, case: &Case, before: &[u8]) {

@@ -2,14 +2,15 @@
 
 mod blocks;
 mod changes;
+mod drawn;
+mod presence;
 
 pub use blocks::{mixed, ring};
 pub use changes::{first_term_gone, prime_gone, seventh_term};
 
-use crate::exact::Search;
 use crate::format::COMMANDS;
 use crate::generate::{draft, page, row, term, Draft};
-use crate::reference::{self, Covers, Query, Table, Term, LONGEST};
+use crate::reference::{self, Query, Term, LONGEST};
 use crate::rng::Rng;
 
 pub const EXAMPLE: &str = "49 02 02 52 00 00 01 52 01 01 02 52 02 03 00 52 03 02 00 54 01 00 01 \
@@ -166,12 +167,8 @@ pub fn run(rng: &mut Rng) -> Checks {
     parity(&mut checks);
     lengths(&mut checks);
     orders(&mut checks);
-    for _ in 0..200 {
-        two_ways(&mut checks, rng);
-    }
-    for _ in 0..300 {
-        drawn_rival(&mut checks, rng);
-    }
+    presence::run(&mut checks);
+    drawn::run(&mut checks, rng);
     checks
 }
 
@@ -250,18 +247,6 @@ fn rivals(job: &[u8]) -> Vec<Option<u64>> {
     asked.queries.iter().map(at).collect()
 }
 
-/// Over the primes the cheapest cover costs as little as any list of legal terms.
-fn drawn_rival(checks: &mut Checks, rng: &mut Rng) {
-    let (n, m) = (rng.between(1, 3), rng.between(1, 2));
-    let table = crate::generate::random_table(rng, n, m);
-    let primes = table.primes();
-    let Covers::All(covers) = reference::irredundant_covers(&table, &primes) else {
-        return checks.check("covers by primes", false);
-    };
-    let (cost, _) = reference::cheapest(&primes, &covers);
-    checks.check("drawn rival", reference::least_cost(&table) == cost);
-}
-
 fn parity(checks: &mut Checks) {
     let seven = odd_parity(7).job();
     let mut expected = vec![0x70, 64];
@@ -301,54 +286,4 @@ fn orders(checks: &mut Checks) {
     refuses("10 alone", "49 01 01 54 00 00 01", 0, (10, 3, 0));
     refuses("12 before 14", "49 01 01 52 00 01 00 43", 0, (12, 7, 0));
     refuses("13 before 14", "49 01 01 45 45", 0, (13, 3, 0));
-}
-
-/// Each quicker way of the reference against the definition itself.
-fn two_ways(checks: &mut Checks, rng: &mut Rng) {
-    let (n, m) = (rng.between(1, 4), rng.between(1, 4));
-    let table: Table = crate::generate::random_table(rng, n, m);
-    checks.check(
-        "primes two ways",
-        table.primes_by_terms() == table.primes_by_cubes(),
-    );
-    let candidates = crate::generate::terms_for(rng, &table, 10);
-    let sums = reference::sums(&table, &candidates);
-    if !sums.contains(&0) {
-        let by_subsets = reference::covers_by_subsets(candidates.len(), &sums);
-        checks.check(
-            "covers two ways",
-            reference::covers_by_products(&sums) == Some(by_subsets.clone()),
-        );
-        second_search(checks, rng, &candidates, &sums, &by_subsets);
-        let all = reference::irredundant_covers(&table, &candidates);
-        checks.check("covers", all == Covers::All(by_subsets));
-    }
-}
-
-/// The search for the stored jobs finds the same covers, from any start, and the same cheapest.
-fn second_search(
-    checks: &mut Checks,
-    rng: &mut Rng,
-    candidates: &[Term],
-    sums: &[u64],
-    covers: &[u64],
-) {
-    let costs: Vec<u64> = candidates.iter().map(|t| t.cost()).collect();
-    let mut search = Search::new(sums, &costs);
-    let start = rng.below(1 << candidates.len()) as u64;
-    let most = rng.below(6);
-    let above = covers.iter().copied().filter(|&set| set >= start);
-    let expected: Vec<u64> = above.take(most).collect();
-    let found = [
-        search.covers_from(0, usize::MAX),
-        search.covers_from(start, most),
-    ];
-    let [Ok(all), Ok(some)] = found else {
-        return checks.check("the second search is given up", false);
-    };
-    checks.check("covers by the second search", all == covers);
-    checks.check("a page by the second search", some == expected);
-    let (_, first) = reference::cheapest(candidates, covers);
-    let right = |&set: &u64| matches!(search.is_cheapest(set), Ok(yes) if yes == (set == first));
-    checks.check("cheapest by the second search", covers.iter().all(right));
 }

@@ -3,6 +3,7 @@
 //! Every answer is held to the definitions as far as that can be done without a search: each set
 //! is an irredundant cover, sets rise from the start, the cost is that of the set. That no set
 //! is left out and none is cheaper needs a search; where it is given up the job is checked in part.
+//! Every job is held to document 000, too.
 //! A job that is checked fully is asked again with each candidate taken out and put in again, with
 //! its rows by R alone, and by B alone. Where candidates come and go between its queries, those
 //! that follow each other are checked by themselves.
@@ -13,7 +14,8 @@ use crate::engine;
 use crate::exact::{GivenUp, Search};
 use crate::format::{self, number, sets};
 use crate::generate::page;
-use crate::reference::{self, Table, Term, LONGEST};
+use crate::implicants;
+use crate::reference::{self, Outcome, Table, Term, LONGEST};
 use heads::{by_blocks, by_rows, turned};
 use std::fs;
 use std::path::{Path, PathBuf};
@@ -133,10 +135,12 @@ fn check(job: &[u8]) -> Result<Depth, String> {
         answers.extend(answered.into_iter().flat_map(|query| query.answer));
     }
     answers.push(0x65);
-    if engine::answers(job)?.ends_with(&answers) {
-        return Ok(depth);
+    let written = engine::answers(job)?;
+    if !written.ends_with(&answers) {
+        return Err("queries answer otherwise than without those before them".into());
     }
-    Err("queries answer otherwise than without those before them".into())
+    implicants::check(job, &Outcome::accepted(job, written))?;
+    Ok(depth)
 }
 
 fn asked_in<'a>(commands: &[&'a [u8]]) -> Vec<Asked<'a>> {

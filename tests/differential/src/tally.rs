@@ -1,17 +1,20 @@
 //! What a run has met: how often each number came, what became of each command, what was held to
-//! the promises of K2 and K3, and, at each C of the drawn jobs, how often K1 changed cost or set of
-//! the cheapest and how often the cost was held to the rival's. A run fails where one of these
-//! never came. The jobs made on purpose do not count for L and C, nor for the rows of B: the marked
-//! cases and each row are among them, so that no count could stay at 0.
+//! the promises of K2 and K3 and to document 000, and, at each C of the drawn jobs, how often K1
+//! changed cost or set of the cheapest and how often the cost was held to the rival's. A run fails
+//! where one of these never came. The jobs made on purpose do not count for L and C, nor for the
+//! rows of B: the marked cases and each row are among them, so that no count could stay at 0.
 
 mod blocks;
+mod presence;
 
 use crate::expanded;
 use crate::format::{self, Command, COMMANDS, LAST_NUMBER};
 use crate::fresh::Held;
+use crate::implicants;
 use crate::reference::{self, Asked, Covers, Outcome, Query, Table, Term};
 use crate::report::hex;
 use blocks::Blocks;
+use presence::Presences;
 use std::collections::BTreeMap;
 
 pub struct Tally {
@@ -22,6 +25,7 @@ pub struct Tally {
     pub drawn: bool,
     changes: Changes,
     blocks: Blocks,
+    presences: Presences,
     cheapest: Cheapest,
 }
 
@@ -56,6 +60,7 @@ impl Tally {
             drawn: false,
             changes: Changes::default(),
             blocks: Blocks::default(),
+            presences: Presences::default(),
             cheapest: Cheapest::default(),
         }
     }
@@ -112,6 +117,13 @@ impl Tally {
         }
     }
 
+    /// A job whose L and C commands were held to the presence function.
+    pub fn add_presence(&mut self, held: &implicants::Held) {
+        if self.drawn {
+            self.presences.add(held);
+        }
+    }
+
     /// How often each number came, and the pair of command and number that came least.
     pub fn print(&self) {
         let times = self.numbers.iter().enumerate();
@@ -123,6 +135,7 @@ impl Tally {
         }
         self.changes.print();
         self.blocks.print();
+        self.presences.print();
         self.cheapest.print();
     }
 
@@ -148,6 +161,7 @@ impl Tally {
         }
         list.extend(self.changes.complaints());
         list.extend(self.blocks.complaints());
+        list.extend(self.presences.complaints());
         list.extend(self.cheapest.complaints());
         list
     }

@@ -41,6 +41,11 @@ pub fn sums(table: &Table, candidates: &[Term]) -> Vec<u64> {
     sums
 }
 
+/// Each wanted cell is held by a member.
+pub fn is_cover(sums: &[u64], set: u64) -> bool {
+    sums.iter().all(|sum| sum & set != 0)
+}
+
 /// Tries every subset: a cover without a cover among its proper subsets.
 pub fn covers_by_subsets(count: usize, sums: &[u64]) -> Vec<u64> {
     let sets = 1usize << count;
@@ -49,7 +54,7 @@ pub fn covers_by_subsets(count: usize, sums: &[u64]) -> Vec<u64> {
     for s in 0..sets {
         // Each proper subset lies in s without some one member.
         let below = (0..count).any(|i| s >> i & 1 == 1 && cover_at_or_below[s & !(1 << i)]);
-        let cover = sums.iter().all(|sum| sum & s as u64 != 0);
+        let cover = is_cover(sums, s as u64);
         cover_at_or_below[s] = cover || below;
         if cover && !below {
             found.push(s as u64);

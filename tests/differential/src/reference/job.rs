@@ -17,6 +17,16 @@ pub struct Outcome {
 }
 
 impl Outcome {
+    /// That of an accepted job over a buffer that its answers fill.
+    pub fn accepted(job: &[u8], answers: Vec<u8>) -> Outcome {
+        Outcome {
+            number: 0,
+            offset: job.len(),
+            written: answers.len(),
+            buffer: answers,
+        }
+    }
+
     pub fn packed(&self) -> u64 {
         (self.number << 32) + ((self.offset as u64) << 16) + self.written as u64
     }

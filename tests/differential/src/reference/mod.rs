@@ -3,12 +3,15 @@
 
 mod covers;
 mod job;
+mod presence;
 mod rival;
 mod table;
 
 pub use covers::{
-    cheapest, cost, covers_by_products, covers_by_subsets, irredundant_covers, sums, Covers,
+    cheapest, cost, covers_by_products, covers_by_subsets, irredundant_covers, is_cover, sums,
+    Covers,
 };
 pub use job::{asked, run, Asked, Outcome, Query, LONGEST, MOST_CANDIDATES};
+pub use presence::{delta, implicants, points, prime_implicants, sum, Presence};
 pub use rival::{least_cost, rival};
 pub use table::{Table, Term};

@@ -1,0 +1,107 @@
+//! A job walked along with its outcome: which candidates stand at its L and C commands, and what
+//! became of these. It goes by what was answered and refused, and leaves the reference aside.
+
+use crate::format;
+use crate::reference::{Outcome, Table, Term};
+
+/// An L or C with its answer or the number of its refusal.
+pub struct Query<'a> {
+    pub command: &'a [u8],
+    pub answer: Result<&'a [u8], u64>,
+}
+
+/// Table and candidates, and the L and C commands that met them, one behind the other.
+pub struct Standing<'a> {
+    pub table: Table,
+    pub candidates: Vec<Term>,
+    pub queries: Vec<Query<'a>>,
+}
+
+/// The L and C commands that were answered, and the one that was refused with 12 or, what is tried
+/// behind it, with 14. None where the answers are not as long as the commands need.
+pub fn walk<'a>(job: &'a [u8], outcome: &'a Outcome) -> Option<Vec<Standing<'a>>> {
+    let (before, command) = job.split_at(outcome.offset);
+    let mut answers = &outcome.buffer[..outcome.written];
+    let mut standing = Standing {
+        table: Table::new(0, 0),
+        candidates: Vec::new(),
+        queries: Vec::new(),
+    };
+    let mut list = Vec::new();
+    for command in format::cut(before)? {
+        let (answer, rest) = answers.split_at_checked(width(command[0], answers)?)?;
+        answers = rest;
+        if is_query(command) {
+            let answer = Ok(answer);
+            standing.queries.push(Query { command, answer });
+        } else {
+            list.extend(standing.asked());
+            standing.set(command, answer);
+        }
+    }
+    if matches!(outcome.number, 12 | 14) && is_query(command) {
+        let answer = Err(outcome.number);
+        standing.queries.push(Query { command, answer });
+    }
+    list.extend(standing.asked());
+    answers.is_empty().then_some(list)
+}
+
+fn is_query(command: &[u8]) -> bool {
+    matches!(command, [b'L' | b'C', ..])
+}
+
+/// How long the answer to a command is, at the head of the answers from there on.
+fn width(byte: u8, answers: &[u8]) -> Option<usize> {
+    let count = || answers.get(1).map(|&count| usize::from(count));
+    match byte {
+        b'P' => count().map(|count| 2 + 3 * count),
+        b'L' => count().map(|count| 3 + 8 * count),
+        b'C' => Some(11),
+        b'E' => Some(1),
+        _ => Some(0),
+    }
+}
+
+fn term(bytes: &[u8]) -> Term {
+    Term {
+        care: bytes[0],
+        value: bytes[1],
+        outputs: bytes[2],
+    }
+}
+
+impl<'a> Standing<'a> {
+    /// What has been asked since the last command that was no query, if anything.
+    fn asked(&mut self) -> Option<Standing<'a>> {
+        let queries = std::mem::take(&mut self.queries);
+        (!queries.is_empty()).then(|| Standing {
+            table: self.table.clone(),
+            candidates: self.candidates.clone(),
+            queries,
+        })
+    }
+
+    /// What an accepted command makes of table and candidates. The primes are those answered.
+    fn set(&mut self, command: &[u8], answer: &[u8]) {
+        let ops = &command[1..];
+        match command[0] {
+            b'I' => self.table = Table::new(usize::from(ops[0]), usize::from(ops[1])),
+            b'R' | b'B' => self.set_rows(ops),
+            b'T' | b'A' => self.candidates.push(term(ops)),
+            b'D' => {
+                self.candidates.remove(usize::from(ops[0]));
+            }
+            b'P' => self.candidates = answer[2..].chunks(3).map(term).collect(),
+            _ => {}
+        }
+    }
+
+    fn set_rows(&mut self, ops: &[u8]) {
+        for (i, pair) in ops[1..].chunks(2).enumerate() {
+            let v = usize::from(ops[0]) + i;
+            self.table.on[v] = pair[0];
+            self.table.dc[v] = pair[1];
+        }
+    }
+}
