@@ -45,14 +45,14 @@ term-passes x g l =
 -- from any place where a T may stand, then bytes that give an answer behind them
 module _ (a : Answer) (room : ℕ) (bs : List ℕ) where
   terms-given : (ts : List Term) (q : Problem) → begun ≤ q .place → q .place ≤ inTerms → All (λ t. T (legal (tableOf q) t)) ts → length (q .cands) + length ts ≤ 64
-      → ((p : ℕ) → begun ≤ p → p ≤ inTerms → GivesFrom a room bs (atPlace p (withCands (q .cands ++ ts) q))) → GivesFrom a room (join (map termCommand ts) ++ bs) q
+      → ((p : ℕ) (ws : List ℕ) → begun ≤ p → p ≤ inTerms → GivesFrom a room bs (atPlace p (withCands (q .cands ++ ts) ws q))) → GivesFrom a room (join (map termCommand ts) ++ bs) q
   unfolding refusalsOf problemAfter answer answerFor
-  terms-given [] q l m g c f = subst (λ (us : List Term). GivesFrom a room bs (withCands us q)) (append-nil (q .cands)) (f (q .place) l m)
+  terms-given [] q l m g c f = subst (λ (us : List Term). GivesFrom a room bs (withCands us (q .weights) q)) (append-nil (q .cands)) (f (q .place) (q .weights) l m)
   terms-given (t ∷ ts) q l m g c f =
       silent a room (record { kind = Kind.T; operands = termBytes t }) rest q refl
       (not-refused engine y (record { named = tt; place = allowed-from Kind.T (q .place) l m; operands = omega arith; own = term-passes y (g .0) (omega arith); room = omega arith })) tt refl
       (terms-given ts (problemAfter y Kind.T) (omega arith) (omega arith) (g .1) (omega (arith, length-append (q .cands) (t ∷ [])))
-      (λ p b h. subst⁻¹ (λ (us : List Term). GivesFrom a room bs (atPlace p (withCands us q))) (append-assoc (q .cands) (t ∷ []) ts) (f p b h)))
+      (λ p ws b h. subst⁻¹ (λ (us : List Term). GivesFrom a room bs (atPlace p (withCands us ws q))) (append-assoc (q .cands) (t ∷ []) ts) (f p ws b h)))
     where
       rest : List ℕ
       rest = join (map termCommand ts) ++ bs
@@ -146,4 +146,4 @@ module _ (x : Context) (i : T (isQuery x)) (z : refusal x ≡ 0) (room : ℕ) (l
   tail-given v p b m =
       let o = query-begun x i in
       terms-given (answer x) room (commandBytes (commandOf x) ++ ending) (x .problem .cands) (bare p (x .problem)) (omega arith) (omega arith) (v .legal) (omega (arith, v .sound .few))
-      (λ p'. query-given (atPlace p' (x .problem)) refl)
+      (λ p' ws. query-given (atPlace p' (withCands (x .problem .cands) ws (x .problem))) refl)

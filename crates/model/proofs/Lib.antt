@@ -27,6 +27,7 @@ pub mod Demand3
 pub mod Behind
 pub mod Spelled
 pub mod Standing
+pub mod Records
 pub mod Replay
 pub mod FreshRows
 pub mod FreshQuery

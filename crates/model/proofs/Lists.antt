@@ -181,6 +181,11 @@ zero-at n v = go (decLt v n)
     go (yes h) = getD-replicate n v 0 0 h
     go (no h) = List·getD-eq-default (replicate n 0) 0 (omega (arith, length-replicate {A = ℕ} n 0))
 
+pub map-without : {A B : Type 0} (f : A → B) (k : ℕ) (xs : List A) → map f (without k xs) ≡ without k (map f xs)
+map-without f k [] = refl
+map-without f zero (x ∷ xs) = refl
+map-without f (suc k) (x ∷ xs) = ap (λ (ys : List _). f x ∷ ys) (map-without f k xs)
+
 -- one fewer
 pub length-without : {A : Type 0} (k : ℕ) (xs : List A) → k < length xs → suc (length (without k xs)) ≡ length xs
 length-without k [] h = absurd (omega arith)

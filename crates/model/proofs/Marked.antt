@@ -1,28 +1,29 @@
 -- The marked cases of paper 01, its primes and its job, the presence function point by point, the costs by literals, the tables of
--- refusals, and the jobs with A and D, by computation.
-use Prim.Native.Nat.{_+_, _-_, _*_, _^_, _<_}
+-- refusals, the jobs with A and D, and the weights in records, by computation.
+use Prim.Native.Nat.{ℕ, _+_, _-_, _*_, _^_, _<_}
 use native.Mathlib.Omega.{arith}
 use mathlib.Core.Path.{_≡_, refl}
-use mathlib.Core.List.{[], map}
+use mathlib.Core.List.{List, [], map}
 use lib.Dec.{T, ltb, lt→ltb}
 use lib.Arith.{le→nltb}
 use lib.Count.{ones, onesIn}
 use lib.ListN.{length}
 use Rattle.model.specs.Base.{below}
-use Rattle.model.specs.Table.{term, isOn, isDc, isOff, cells, onCells, holds, formed, holdsNoOff, legal, represents}
+use Rattle.model.specs.Table.{Term, term, isOn, isDc, isOff, cells, onCells, holds, formed, holdsNoOff, legal, represents}
 use Rattle.model.specs.Primes.{contains, sameTerm, containedIn, terms, prime, primes}
 use Rattle.model.specs.Sets.{covers, cover, coverable, redundant, irredundant, irredundants, cost, cheapest}
 use Rattle.model.specs.Presence.{sumUpTo, sumAt, productUpTo, productWithDelta}
 use Rattle.model.specs.Pages.{atOrAbove, page, more}
 use Rattle.model.specs.Candidates.{termCost, listCost, basis, covering}
-use Rattle.model.specs.Commands.{Kind, kindOf, width, allowed, Context, rowsOfB, problemAfter, tableOf}
+use Rattle.model.specs.Commands.{Kind, kindOf, width, allowed, Problem, Context, rowsOfB, problemAfter, tableOf}
 use Rattle.model.specs.Answers.{answer, answerFor}
 use Rattle.model.specs.Refusals.{refusalsOf}
 use Rattle.model.specs.Rules.{refusal, refusalBy, refusalsBy}
 use Rattle.model.specs.Job.{run, runBy, packed, written}
+use Rattle.model.specs.Records.{lastRecord}
 use Rattle.model.specs.Library.{callRefusals, listCovers}
 use Rattle.model.specs.Cases.{outcome, cases, walks, costsByLiterals, example, examplePrimes, exampleJob, exampleAnswers, countZeroJob}
-use Rattle.model.specs.Cases.{countZeroAnswers, stops, comeAndGo, halvesBasis, cheaperList, refusedCalls}
+use Rattle.model.specs.Cases.{countZeroAnswers, stops, comeAndGo, weighings, halvesBasis, cheaperList, refusedCalls}
 use Rattle.model.proofs.Lists.{T-true, T-false}
 
 -- a to h
@@ -71,6 +72,14 @@ come-and-go = refl
 pub come-and-go-bytes : map (λ c. written (run (c .job) 32768)) comeAndGo ≡ map (λ c. c .bytes) comeAndGo
 unfolding irredundants irredundant redundant cover covers coverable isOn onCells cells holds termCost cost cheapest ones onesIn primes prime legal formed holdsNoOff isOff isDc contains sameTerm containedIn terms runBy kindOf written refusalBy refusalsBy refusalsOf answer answerFor problemAfter page more atOrAbove
 come-and-go-bytes = refl
+
+-- K5: the candidates in the records that jobs leave, and the weights beside them
+abbrev beside : Problem → List Term × List ℕ
+beside q = (q .cands, q .weights)
+
+pub marked-weights : map (λ c. beside (lastRecord (run (c .job) (c .room)))) weighings ≡ map (λ c. (c .cands, c .weights)) weighings
+unfolding irredundants irredundant redundant cover covers coverable isOn onCells cells holds termCost cost cheapest ones onesIn primes prime legal formed holdsNoOff isOff isDc contains sameTerm containedIn terms runBy kindOf refusalBy refusalsBy refusalsOf answer answerFor problemAfter page more atOrAbove
+marked-weights = refl
 
 -- a list that represents the table is cheaper than the cheapest set of candidates that are not the primes
 pub rival-cheaper : T (represents (halvesBasis .table) cheaperList) × (listCost halvesBasis cheaperList < cost (covering halvesBasis) (cheapest (covering halvesBasis)))

@@ -15,7 +15,7 @@ use Rattle.model.specs.Sets.{Covering, members, coverable, irredundant, 
 use Rattle.model.specs.Pages.{atOrAbove, page, more}
 use Rattle.model.specs.Candidates.{termCost}
 use Rattle.model.specs.Commands.{queried, Kind, kindOf, width, Problem, empty, atPlace, Context, low, operand, operandTerm, operandNumber}
-use Rattle.model.specs.Commands.{start, count, coveringOf, Row, rowOfR, rowsOfB, addRow, withTerm, problemAfter, tableOf}
+use Rattle.model.specs.Commands.{start, count, coveringOf, Row, rowOfR, rowsOfB, addRow, addTerm, problemAfter, tableOf}
 use Rattle.model.specs.Answers.{Answer, bytesOf, answerFor, answer}
 use Rattle.model.specs.Refusals.{size, candidateRefusals, refusalsOf}
 use Rattle.model.specs.Rules.{Rules, engine}
@@ -128,7 +128,7 @@ sound-I t a =
     }
 
 -- T and A
-sound-term : (t : Context) → NoneApplies (candidateRefusals t) → Sound (t .problem) → Sound (withTerm t)
+sound-term : (t : Context) → NoneApplies (candidateRefusals t) → Sound (t .problem) → Sound (addTerm (t .problem) (operandTerm t))
 sound-term t a s = record {
   inputs = s .inputs;
   outputs = s .outputs;

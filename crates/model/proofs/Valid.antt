@@ -14,7 +14,7 @@ use Rattle.model.specs.Base.{some, without, All}
 use Rattle.model.specs.Table.{Table, Term, formed, holdsNoOff, legal}
 use Rattle.model.specs.Primes.{primes}
 use Rattle.model.specs.Commands.{atStart, begun, inRows, inTerms, queried, Kind, formOf, is, allowed, Problem, Context, operand, operandTerm}
-use Rattle.model.specs.Commands.{operandNumber, Row, rowOfR, rowsOfB, withRow, withRows, atPlace, withCands, addRow, addRows, withTerm, problemAfter, empty, tableOf}
+use Rattle.model.specs.Commands.{operandNumber, Row, rowOfR, rowsOfB, withRow, withRows, atPlace, withCands, addRow, addRows, addTerm, problemAfter, empty, tableOf}
 use Rattle.model.specs.Refusals.{size, badRow, rowRefusals, rowsRefusals, candidateRefusals, refusalsOf}
 use Rattle.model.specs.Rules.{Rules, engine}
 use Rattle.model.specs.Job.{run, runBy}
@@ -115,9 +115,9 @@ valid-rows : (q : Problem) (ws : List Row) → begun ≤ q .place → q .place �
 valid-rows q ws o m a s = rows-keep InRows (λ r w b v. (omega arith, omega arith, valid-row r w (v .0) (v .1) b (v .2))) ws q a (o, m, s) .2
 
 -- other candidates, behind the rows
-valid-cands : (q : Problem) (place : ℕ) (ts : List Term) → inTerms ≤ place → begun ≤ q .place → Valid q → All (λ u. T (legal (tableOf q) u)) ts
-    → Sound (atPlace place (withCands ts q)) → Valid (atPlace place (withCands ts q))
-valid-cands q place ts i o v l s = record { sound = s; sizes = λ h. v .sizes o; rows = λ h. v .rows o; good = v .good; early = λ h. absurd (omega (arith, h)); legal = l }
+valid-cands : (q : Problem) (place : ℕ) (ts : List Term) (ws : List ℕ) → inTerms ≤ place → begun ≤ q .place → Valid q → All (λ u. T (legal (tableOf q) u)) ts
+    → Sound (atPlace place (withCands ts ws q)) → Valid (atPlace place (withCands ts ws q))
+valid-cands q place ts ws i o v l s = record { sound = s; sizes = λ h. v .sizes o; rows = λ h. v .rows o; good = v .good; early = λ h. absurd (omega (arith, h)); legal = l }
 
 legal-term : (t : Context) → NoneApplies (candidateRefusals t) → T (legal (tableOf (t .problem)) (operandTerm t))
 unfolding legal
@@ -126,10 +126,11 @@ legal-term t a =
     and-i (formed p (operandTerm t)) (holdsNoOff p (operandTerm t)) (twice (formed p (operandTerm t)) (a .0)) (twice (holdsNoOff p (operandTerm t)) (a .1 .0))
 
 -- T and A
-valid-term : (t : Context) → begun ≤ t .problem .place → NoneApplies (candidateRefusals t) → Valid (t .problem) → Sound (withTerm t) → Valid (withTerm t)
+valid-term : (t : Context) → begun ≤ t .problem .place → NoneApplies (candidateRefusals t) → Valid (t .problem)
+    → Sound (addTerm (t .problem) (operandTerm t)) → Valid (addTerm (t .problem) (operandTerm t))
 valid-term t o a s =
     let q = t .problem in
-    valid-cands q (max (q .place) inTerms) (q .cands ++ (operandTerm t ∷ [])) (omega arith) o s
+    valid-cands q (max (q .place) inTerms) (q .cands ++ (operandTerm t ∷ [])) _ (omega arith) o s
     (all-append (λ (u : Term). T (legal (tableOf q) u)) (q .cands) (operandTerm t ∷ []) (s .legal) (legal-term t a, tt))
 
 primes-legal : (p : Table) → All (λ u. T (legal p u)) (primes p)
@@ -143,7 +144,7 @@ after-valid t Kind.B p a s = valid-rows (t .problem) (rowsOfB (t .rest)) (place-
 after-valid t Kind.T p a s = valid-term t (place-one Kind.T (t .problem .place) tt p) a s (after-sound t Kind.T a (s .sound))
 after-valid t Kind.P p a s =
     let ts = primes (tableOf (t .problem)) in
-    valid-cands (t .problem) queried ts (omega arith) (place-one Kind.P (t .problem .place) tt p) s (primes-legal (tableOf (t .problem))) (after-sound t Kind.P a (s .sound))
+    valid-cands (t .problem) queried ts _ (omega arith) (place-one Kind.P (t .problem .place) tt p) s (primes-legal (tableOf (t .problem))) (after-sound t Kind.P a (s .sound))
 after-valid t Kind.A p a s = valid-term t (place-one Kind.A (t .problem .place) tt p) a s (after-sound t Kind.A a (s .sound))
 after-valid t Kind.D p a s = record {
   sound = after-sound t Kind.D a (s .sound);
@@ -153,8 +154,8 @@ after-valid t Kind.D p a s = record {
   early = λ l. ap (without (operandNumber t)) (s .early l);
   legal = all-without (λ (u : Term). T (legal (tableOf (t .problem)) u)) (operandNumber t) (t .problem .cands) (s .legal);
 }
-after-valid t Kind.L p a s = valid-cands (t .problem) queried (t .problem .cands) (omega arith) (place-one Kind.L (t .problem .place) tt p) s (s .legal) (after-sound t Kind.L a (s .sound))
-after-valid t Kind.C p a s = valid-cands (t .problem) queried (t .problem .cands) (omega arith) (place-one Kind.C (t .problem .place) tt p) s (s .legal) (after-sound t Kind.C a (s .sound))
+after-valid t Kind.L p a s = valid-cands (t .problem) queried (t .problem .cands) _ (omega arith) (place-one Kind.L (t .problem .place) tt p) s (s .legal) (after-sound t Kind.L a (s .sound))
+after-valid t Kind.C p a s = valid-cands (t .problem) queried (t .problem .cands) _ (omega arith) (place-one Kind.C (t .problem .place) tt p) s (s .legal) (after-sound t Kind.C a (s .sound))
 after-valid t Kind.E p a s = s
 after-valid t Kind.none p a s = s
 

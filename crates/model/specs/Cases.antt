@@ -1,6 +1,6 @@
 -- Paper 01, "The two-output example of document 003": the marked cases as one table, the presence function on some of them, and the job
--- with all its bytes; tables of jobs and library calls that pin the order of refusals, of jobs in which candidates come and go, and of jobs
--- with eight rows in a command (theorems: proofs/Marked, proofs/EightRows).
+-- with all its bytes; tables of jobs and library calls that pin the order of refusals, of jobs in which candidates come and go, of jobs with
+-- eight rows in a command, and of the weights in the records that jobs leave (theorems: proofs/Marked, proofs/EightRows).
 use Prim.Native.Nat.{ℕ, zero, suc, _+_}
 use mathlib.Core.Bool.{Bool, true, false, cond}
 use mathlib.Core.List.{List, [], _∷_, _++_, map}
@@ -412,6 +412,40 @@ offsetsWithRows = 0 ∷ 2 ∷ 3 ∷ 6 ∷ 7 ∷ 10 ∷ 27 ∷ 38 ∷ 39 ∷ 40 �
 
 abbrev pub origins : List ℕ
 origins = 0 ∷ 0 ∷ 3 ∷ 3 ∷ 7 ∷ 7 ∷ 7 ∷ 7 ∷ 25 ∷ 26 ∷ 26 ∷ []
+
+-- ---- K5: jobs with the candidates in the record that they leave and the weights beside them, worked out by hand
+
+pub record Weighing : Type 0 where
+  pub job : List ℕ
+  pub room : ℕ
+  pub cands : List Term
+  pub weights : List ℕ
+
+abbrev weighs : List ℕ → List Term → List ℕ → Weighing
+weighs job ts ws = record { job = job; room = 32768; cands = ts; weights = ws }
+
+abbrev pub weighings : List Weighing
+weighings =
+    weighs [] [] []
+    -- by T: terms 2 and 5 of 003 have two literals, the others one; three literals; a prime of no literal
+    ∷ weighs exampleJob sixTerms (1 ∷ 3 ∷ 1 ∷ 1 ∷ 3 ∷ 1 ∷ [])
+    ∷ weighs (i32 (row 0 1 0 (t 7 0 1 []))) (term 7 0 1 ∷ []) (4 ∷ [])
+    ∷ weighs (wanted (0x50 ∷ [])) (term 0 0 1 ∷ []) (1 ∷ [])
+    -- candidate 1 taken out; then term 5 of 003 put in once more; candidates 4 and 0 taken out
+    ∷ weighs (exampleHead ++ d 1 []) (term 1 0 1 ∷ term 1 1 2 ∷ term 2 2 2 ∷ term 3 2 3 ∷ term 2 0 1 ∷ []) (1 ∷ 1 ∷ 1 ∷ 3 ∷ 1 ∷ [])
+    ∷ weighs (exampleHead ++ d 1 (a 3 2 3 [])) (term 1 0 1 ∷ term 1 1 2 ∷ term 2 2 2 ∷ term 3 2 3 ∷ term 2 0 1 ∷ term 3 2 3 ∷ []) (1 ∷ 1 ∷ 1 ∷ 3 ∷ 1 ∷ 3 ∷ [])
+    ∷ weighs (exampleHead ++ d 4 (d 0 [])) (term 3 1 3 ∷ term 1 1 2 ∷ term 2 2 2 ∷ term 2 0 1 ∷ []) (3 ∷ 1 ∷ 1 ∷ 1 ∷ [])
+    -- the same behind a C
+    ∷ weighs (exampleHead ++ (0x43 ∷ a 3 2 3 (d 0 []))) (term 3 1 3 ∷ term 1 1 2 ∷ term 2 2 2 ∷ term 3 2 3 ∷ term 2 0 1 ∷ term 3 2 3 ∷ []) (3 ∷ 1 ∷ 1 ∷ 3 ∷ 1 ∷ 3 ∷ [])
+    -- by P; behind it term 1 of 003 put in and candidate 4 taken out
+    ∷ weighs (exampleRows (0x50 ∷ [])) examplePrimes (1 ∷ 1 ∷ 1 ∷ 1 ∷ 3 ∷ 3 ∷ [])
+    ∷ weighs (exampleRows (0x50 ∷ a 1 0 1 (d 4 []))) (term 1 0 1 ∷ term 1 1 2 ∷ term 2 0 1 ∷ term 2 2 2 ∷ term 3 2 3 ∷ term 1 0 1 ∷ []) (1 ∷ 1 ∷ 1 ∷ 1 ∷ 3 ∷ 1 ∷ [])
+    -- refused: a D without its number, an A that holds an off cell, a P behind an A, a P whose answer is too long
+    ∷ weighs (exampleHead ++ (0x44 ∷ [])) sixTerms (1 ∷ 3 ∷ 1 ∷ 1 ∷ 3 ∷ 1 ∷ [])
+    ∷ weighs (exampleHead ++ a 0 0 1 []) sixTerms (1 ∷ 3 ∷ 1 ∷ 1 ∷ 3 ∷ 1 ∷ [])
+    ∷ weighs (exampleRows (a 3 1 3 (0x50 ∷ []))) (term 3 1 3 ∷ []) (3 ∷ [])
+    ∷ record { job = exampleRows (0x50 ∷ []); room = 19; cands = []; weights = [] }
+    ∷ []
 
 -- ---- library calls that are refused, each with its number. Where two refusals apply, the first in the paper's order is given
 

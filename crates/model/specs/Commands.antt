@@ -1,4 +1,4 @@
--- Paper 01, "Job stream", and K2 and K3: the commands, the problem so far, and what a command makes of it.
+-- Paper 01, "Job stream", and K2, K3 and K5: the commands, the problem so far, and what a command makes of it.
 use Prim.Native.Nat.{ℕ, zero, suc, _+_, _*_, _/_, _%_, _^_, max}
 use mathlib.Core.Bool.{Bool, true, false, cond, _&&_}
 use mathlib.Core.List.{List, [], _∷_, _++_, map}
@@ -8,7 +8,7 @@ use Rattle.model.specs.Base.{below, filter, without}
 use Rattle.model.specs.Table.{Table, Cell, Term, term}
 use Rattle.model.specs.Primes.{primes}
 use Rattle.model.specs.Sets.{Covering}
-use Rattle.model.specs.Candidates.{Basis, basis, covering}
+use Rattle.model.specs.Candidates.{termCost, Basis, basis, covering}
 
 -- ---- numbers as bytes
 
@@ -112,12 +112,13 @@ pub record TableRows : Type 0 where
   pub dc : List ℕ
   pub given : List ℕ
 
--- "the problem so far is one record that holds its rows and its candidates"
+-- "the problem so far is one record that holds its rows and its candidates", and K5: "the weight written beside each candidate"
 pub record Problem : Type 0 where
   pub place : ℕ
   pub settings : Settings
   pub rows : TableRows
   pub cands : List Term
+  pub weights : List ℕ
 
 -- no row yet
 abbrev pub emptyRows : ℕ → TableRows
@@ -125,7 +126,7 @@ emptyRows k = record { on = replicate k 0; dc = replicate k 0; given = [] }
 
 -- n inputs and m outputs, with no row for any of so many vertices
 abbrev pub started : ℕ → ℕ → ℕ → ℕ → Problem
-started place n m vertices = record { place = place; settings = record { n = n; m = m }; rows = emptyRows vertices; cands = [] }
+started place n m vertices = record { place = place; settings = record { n = n; m = m }; rows = emptyRows vertices; cands = []; weights = [] }
 
 abbrev pub empty : Problem
 empty = started atStart 0 0 0
@@ -193,13 +194,14 @@ abbrev pub withRow : TableRows → ℕ → ℕ → ℕ → TableRows
 withRow rows v x y = record { on = set (rows .on) v x; dc = set (rows .dc) v y; given = v ∷ rows .given }
 
 abbrev pub atPlace : ℕ → Problem → Problem
-atPlace place q = record { place = place; settings = q .settings; rows = q .rows; cands = q .cands }
+atPlace place q = record { place = place; settings = q .settings; rows = q .rows; cands = q .cands; weights = q .weights }
 
 abbrev pub withRows : TableRows → Problem → Problem
-withRows rows q = record { place = q .place; settings = q .settings; rows = rows; cands = q .cands }
+withRows rows q = record { place = q .place; settings = q .settings; rows = rows; cands = q .cands; weights = q .weights }
 
-abbrev pub withCands : List Term → Problem → Problem
-withCands ts q = record { place = q .place; settings = q .settings; rows = q .rows; cands = ts }
+-- with other candidates, and other weights beside them
+abbrev pub withCands : List Term → List ℕ → Problem → Problem
+withCands ts ws q = record { place = q .place; settings = q .settings; rows = q .rows; cands = ts; weights = ws }
 
 -- what R makes of a problem
 abbrev pub addRow : Problem → Row → Problem
@@ -212,17 +214,25 @@ addRows q (w ∷ ws) = addRows (addRow q w) ws
 
 -- T, and A, which "adds a candidate at the end, also after P, L or C". "For the place of R and P, an A counts as a T, even if its candidate
 -- has gone again": the place is that of a term at least, and D leaves it
-abbrev pub withTerm : Context → Problem
-withTerm x = atPlace (max (x .problem .place) inTerms) (withCands (x .problem .cands ++ (operandTerm x ∷ [])) (x .problem))
+abbrev pub addTerm : Problem → Term → Problem
+addTerm q t = atPlace (max (q .place) inTerms) (withCands (q .cands ++ (t ∷ [])) (q .weights ++ (termCost t ∷ [])) q)
+
+-- P, which puts the primes in the place of the candidates
+abbrev pub withPrimes : Problem → List Term → Problem
+withPrimes q ts = atPlace queried (withCands ts (map termCost ts) q)
+
+-- D "takes it out; those above move down by one", each with its weight
+abbrev pub takeOut : Problem → ℕ → Problem
+takeOut q k = withCands (without k (q .cands)) (without k (q .weights)) q
 
 unfoldable pub problemAfter : Context → Kind → Problem
 problemAfter x I = started begun (operand x 0) (operand x 1) (2 ^ operand x 0)
 problemAfter x R = addRow (x .problem) (rowOfR (x .rest))
 problemAfter x B = addRows (x .problem) (rowsOfB (x .rest))
-problemAfter x T = withTerm x
-problemAfter x P = atPlace queried (withCands (primes (tableOf (x .problem))) (x .problem))
-problemAfter x A = withTerm x
-problemAfter x D = withCands (without (operandNumber x) (x .problem .cands)) (x .problem)
+problemAfter x T = addTerm (x .problem) (operandTerm x)
+problemAfter x P = withPrimes (x .problem) (primes (tableOf (x .problem)))
+problemAfter x A = addTerm (x .problem) (operandTerm x)
+problemAfter x D = takeOut (x .problem) (operandNumber x)
 problemAfter x L = atPlace queried (x .problem)
 problemAfter x C = atPlace queried (x .problem)
 problemAfter x E = x .problem

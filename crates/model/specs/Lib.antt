@@ -16,6 +16,7 @@ pub mod Calls
 pub mod Exchanges
 pub mod Demand3
 pub mod Standing
+pub mod Records
 pub mod Pieces
 pub mod Expanded
 pub mod Library
