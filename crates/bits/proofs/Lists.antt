@@ -179,6 +179,10 @@ module _ {A B : Type 0} (f : A → B) (cap : ℕ) where
         ∙ sym (map-append f (take i xs) (getD xs i d ∷ [])) ∙ ap (map f) (sym (take-suc xs i d k))),
   )
 
+  -- as far as it is filled
+  pub mapped-front : (xs : List A) (i : ℕ) (all : List B) → i ≤ length xs → MappedBelow xs i all → Filled cap (map f (take i xs)) all i
+  mapped-front xs i all l c = record { size = c .0; counted = sym (length-map (take i xs) f ∙ length-take-le i xs l); same = c .1 }
+
   pub mapped-all : (xs : List A) (i : ℕ) (all : List B) → length xs ≤ i → i ≤ length xs → MappedBelow xs i all → Filled cap (map f xs) all (length xs)
   mapped-all xs i all l k c =
       let e : i ≡ length xs = omega arith in

@@ -93,7 +93,7 @@ module _ {p now : Problem} {ws : List Row} {i : ℕ} {w : Row} {e : Effect} (a :
 
   pub added-refused : {f : Effect} → (e .number ≡ 0 → ⊥) → f ≡ refusedAs p (e .number) → HandlesB p ws f
   unfolding refusalsOf
-  added-refused {f} n s x free d m g = handled-refused x model.Kind.B free p (e .number) f s (late-own x model.Kind.B (e .number) own n) n
+  added-refused {f} n s x free d m g = handled-refused x model.Kind.B free p (e .number) f (d .holds) s (late-own x model.Kind.B (e .number) own n) n
     where
       b : AddedIn (x .problem) ws i now
       b = a .in-problem (x .problem) (d .holds) (d .valid) (d .begun) m

@@ -25,7 +25,7 @@ use Rattle.answers.specs.declared.writers.Reply.{Reply}
 use Rattle.answers.specs.declared.writers.Reply.the-variants.{Written, TooLong}
 use Rattle.answers.specs.Writers.{Replied}
 use Rattle.problem.specs.declared.Problem.{Problem}
-use Rattle.problem.specs.Problems.{listed, startedWith, atPlace, withCandidates, termPut, termTaken, Sized, Holds, Reached}
+use Rattle.problem.specs.Problems.{startedWith, atPlace, withCandidates, termPut, termTaken, WithPrimes, Sized, Holds, Reached}
 use Rattle.problem.specs.Refusing.{rowRefusals, termRefusals, TermRefusal}
 use Rattle.problem.proofs.Refusing.{row-refusal, held-bytes, term-here}
 use Rattle.problem.proofs.Keeping.{after-I, withRow, after-row, row-within, after-term, after-P, after-D}
@@ -57,14 +57,14 @@ module _ (x : Context) (k : model.Kind) where
 
   -- ---- effects
 
-  pub handled-refused : (old : List ℕ) (p : Problem) (n : ℕ) (e : Effect) → e ≡ refusedAs p n → n ≡ lateRefusal x k → (n ≡ 0 → ⊥) → Handled x k old old e
-  handled-refused old p n e q l d = rw q record { number = l; refused = λ h. refl; answered = λ z. absurd (d z) }
+  pub handled-refused : (old : List ℕ) (p : Problem) (n : ℕ) (e : Effect) → Holds p (x .problem) → e ≡ refusedAs p n → n ≡ lateRefusal x k → (n ≡ 0 → ⊥) → Handled x k old old e
+  handled-refused old p n e h q l d = rw q record { number = l; refused = λ i. record { bytes = refl; problem = h }; answered = λ z. absurd (d z) }
 
   pub handled-silent : (old : List ℕ) (q : Problem) → answerBytes x k ≡ [] → 0 ≡ firstOf (refusalsOf x k) → Holds q (problemAfter x k)
       → Handled x k old old (record { number = 0; written = 0; problem = q })
   handled-silent old q a e h = record {
     number = late-none e (omega (arith, ap length a));
-    refused = λ n. refl;
+    refused = λ n. absurd (n refl);
     answered = λ z. record { written = sym (ap length a); bytes = rw a; problem = h };
   }
 
@@ -79,22 +79,22 @@ module _ (x : Context) (k : model.Kind) where
         answered = λ z. record { written = w' .0; bytes = w' .2 ∙ ap (λ (i : ℕ). answerBytes x k ++ drop i old) (w' .0); problem = h };
       }
 
-  pub handled-long : (old new : List ℕ) (p : Problem) (r : Reply) (e : Effect) → r ≡ TooLong → e ≡ refusedAs p 14 → x .free ≡ length old
+  pub handled-long : (old new : List ℕ) (p : Problem) (r : Reply) (e : Effect) → Holds p (x .problem) → r ≡ TooLong → e ≡ refusedAs p 14 → x .free ≡ length old
       → Replied (answerBytes x k) old new r → 0 ≡ firstOf (refusalsOf x k) → Handled x k old new e
-  handled-long old new p r e s q f w o =
+  handled-long old new p r e h s q f w o =
       let w' : Replied (answerBytes x k) old new TooLong = subst (Replied (answerBytes x k) old new) s w in
-      rw q record { number = late-long o (omega (arith, w' .0)); refused = λ d. w' .1; answered = λ z. absurd (omega (arith, z)) }
+      rw q record { number = late-long o (omega (arith, w' .0)); refused = λ d. record { bytes = w' .1; problem = h }; answered = λ z. absurd (omega (arith, z)) }
 
 -- ---- I and R
 
-pub init-refused : (p : Problem) (n m r : ℕ) (e : Effect) → r ≡ firstOf (refuse 6 (not (size n && size m)) ∷ []) → (r ≡ 0 → ⊥) → e ≡ refusedAs p r → HandlesI n m e
+pub init-refused : (p : Problem) (n m r : ℕ) (e : Effect) → r ≡ firstOf (refuse 6 (not (size n && size m)) ∷ []) → (r ≡ 0 → ⊥) → e ≡ refusedAs p r → HandlesI p n m e
 unfolding refusalsOf
-init-refused p n m r e o d q x free a b = handled-refused x model.Kind.I free p r e q (late-own x model.Kind.I r (rw (a, b) o) d) d
+init-refused p n m r e o d q x free h a b = handled-refused x model.Kind.I free p r e h q (late-own x model.Kind.I r (rw (a, b) o) d) d
 
-pub init-good : (n m r : ℕ) (q : Problem) → r ≡ firstOf (refuse 6 (not (size n && size m)) ∷ []) → r ≡ 0 → q ≡ startedWith n m model.begun
-    → HandlesI n m (record { number = 0; written = 0; problem = q })
+pub init-good : (p : Problem) (n m r : ℕ) (q : Problem) → r ≡ firstOf (refuse 6 (not (size n && size m)) ∷ []) → r ≡ 0 → q ≡ startedWith n m model.begun
+    → HandlesI p n m (record { number = 0; written = 0; problem = q })
 unfolding refusalsOf answerFor
-init-good n m r q o z s x free a b = handled-silent x model.Kind.I free q refl (rw (a, b) (sym z ∙ o)) (subst⁻¹ (λ (y : Problem). Holds y (problemAfter x model.Kind.I)) s (after-I x n m a b))
+init-good p n m r q o z s x free h a b = handled-silent x model.Kind.I free q refl (rw (a, b) (sym z ∙ o)) (subst⁻¹ (λ (y : Problem). Holds y (problemAfter x model.Kind.I)) s (after-I x n m a b))
 
 -- a row: the vertex is that of a context's R, or of a row of its B
 module _ (p : Problem) (sizes : Sized p) (v on dc r : ℕ) (o : r ≡ firstOf (rowRefusals (p .settings .n) (p .settings .m) (p .rows .given) v on dc)) where
@@ -106,7 +106,7 @@ module _ (p : Problem) (sizes : Sized p) (v on dc r : ℕ) (o : r ≡ firstOf (r
   row-here x f a b c = rw (a, b, c) (o ∙ row-refusal p (x .problem) asRow sizes (f .holds))
 
   pub row-refused : (e : Effect) → (r ≡ 0 → ⊥) → e ≡ refusedAs p r → HandlesR p v on dc e
-  row-refused e d q x free f a b c = handled-refused x model.Kind.R free p r e q (late-own x model.Kind.R r (row-here x f a b c) d) d
+  row-refused e d q x free f a b c = handled-refused x model.Kind.R free p r e (f .holds) q (late-own x model.Kind.R r (row-here x f a b c) d) d
 
   row-holds : (x : Context) → Found p x → operand x 0 ≡ v → operand x 1 ≡ on → operand x 2 ≡ dc → 0 ≡ firstOf (refusalsOf x model.Kind.R) → Holds (withRow asRow p) (problemAfter x model.Kind.R)
   unfolding refusalsOf problemAfter
@@ -147,7 +147,7 @@ module _ (p : Problem) (t : Term) (r : ℕ) (o : RefusesTerm p t r) where
   term-refused e d q x free f a =
       let own : r ≡ firstOf (refusalsOf x model.Kind.T) =
       sym (ap firstOf (term-own x t a) ∙ first-before (termRefusals (tableOf (x .problem)) t) (refuse 11 (leb 64 (length (x .problem .cands))) ∷ []) (λ z. d (o x f ∙ z)) ∙ sym (o x f)) in
-      both x free e (handled-refused x model.Kind.T free p r e q (late-own x model.Kind.T r own d) d)
+      both x free e (handled-refused x model.Kind.T free p r e (f .holds) q (late-own x model.Kind.T r own d) d)
 
   behind : (x : Context) → Found p x → operandTerm x ≡ t → r ≡ 0 → firstOf (refusalsOf x model.Kind.T) ≡ firstOf (refuse 11 (leb 64 (length (x .problem .cands))) ∷ [])
   behind x f a z = ap firstOf (term-own x t a) ∙ first-behind (termRefusals (tableOf (x .problem)) t)
@@ -155,16 +155,16 @@ module _ (p : Problem) (t : Term) (r : ℕ) (o : RefusesTerm p t r) where
 
   pub term-many : (e : Effect) → r ≡ 0 → 64 ≤ p .candidates .count → e ≡ refusedAs p 11 → HandlesTerm p t e
   term-many e z l q x free f a =
-      let own : 11 ≡ firstOf (refusalsOf x model.Kind.T) = sym (behind x f a z ∙ rw (le-leb 64 (length (x .problem .cands)) (omega (arith, f .holds .cands .counted)))) in
-      both x free e (handled-refused x model.Kind.T free p 11 e q (late-own x model.Kind.T 11 own (λ n. omega (arith, n))) (λ n. omega (arith, n)))
+      let own : 11 ≡ firstOf (refusalsOf x model.Kind.T) = sym (behind x f a z ∙ rw (le-leb 64 (length (x .problem .cands)) (omega (arith, f .holds .cands .terms .counted)))) in
+      both x free e (handled-refused x model.Kind.T free p 11 e (f .holds) q (late-own x model.Kind.T 11 own (λ n. omega (arith, n))) (λ n. omega (arith, n)))
 
   pub term-kept : (q : Problem) → r ≡ 0 → p .candidates .count < 64 → q ≡ atPlace (max (p .place) model.inTerms) (withCandidates (termPut (p .candidates) t) p)
       → HandlesTerm p t (record { number = 0; written = 0; problem = q })
   unfolding answerFor problemAfter
   term-kept q z l s x free f a =
-      let own : 0 ≡ firstOf (refusalsOf x model.Kind.T) = sym (behind x f a z ∙ rw (lt-leb 64 (length (x .problem .cands)) (omega (arith, f .holds .cands .counted)))) in
+      let own : 0 ≡ firstOf (refusalsOf x model.Kind.T) = sym (behind x f a z ∙ rw (lt-leb 64 (length (x .problem .cands)) (omega (arith, f .holds .cands .terms .counted)))) in
       both x free (record { number = 0; written = 0; problem = q }) (handled-silent x model.Kind.T free q refl own
-      (subst⁻¹ (λ (y : Problem). Holds y (problemAfter x model.Kind.T)) s (after-term x p t (f .holds) a l)))
+      (subst⁻¹ (λ (y : Problem). Holds y (problemAfter x model.Kind.T)) s (rw a (after-term p (x .problem) t (f .holds) l))))
 
 -- ---- P
 
@@ -180,7 +180,7 @@ module _ (p : Problem) (z : Sized p) (may : List ℕ) (of : MayOf (p .rows .on) 
   pub primes-many : (old : List ℕ) (e : Effect) → list .full ≡ true → e ≡ refusedAs p 11 → HandlesP p old old e
   unfolding refusalsOf
   primes-many old e g q x f s =
-      handled-refused x model.Kind.P old p 11 e q
+      handled-refused x model.Kind.P old p 11 e (f .holds) q
       (late-own x model.Kind.P 11 (rw (← primes-here x f .more, g)) (λ n. omega (arith, n))) (λ n. omega (arith, n))
 
   module _ (old new : List ℕ) (r : Reply) (g : list .full ≡ false) (w : Replied (bytesOf (Answer.primesAre (take (list .count) (list .terms)))) old new r) where
@@ -196,27 +196,24 @@ module _ (p : Problem) (z : Sized p) (may : List ℕ) (of : MayOf (p .rows .on) 
     replied x f = subst (λ (ts : List Term). Replied (bytesOf (Answer.primesAre ts)) old new r) (whole x f .same) w
 
     pub primes-long : (e : Effect) → r ≡ TooLong → e ≡ refusedAs p 14 → HandlesP p old new e
-    primes-long e s q x f l = handled-long x model.Kind.P old new p r e s q l (replied x f) (own-none x f)
+    primes-long e s q x f l = handled-long x model.Kind.P old new p r e (f .holds) s q l (replied x f) (own-none x f)
 
-    pub primes-kept : (q : Problem) (n : ℕ) → r ≡ Written n → q ≡ atPlace model.queried (withCandidates (listed (list .terms) (list .count)) p)
-        → HandlesP p old new (record { number = 0; written = n; problem = q })
-    primes-kept q n s e x f l =
-        handled-written x model.Kind.P old new q r n s l (replied x f) (own-none x f)
-        (subst⁻¹ (λ (y : Problem). Holds y (problemAfter x model.Kind.P)) e (after-P x p (list .terms) (list .count) (f .holds) (whole x f)))
+    pub primes-kept : (q : Problem) (n : ℕ) → r ≡ Written n → WithPrimes p list q → HandlesP p old new (record { number = 0; written = n; problem = q })
+    primes-kept q n s w x f l = handled-written x model.Kind.P old new q r n s l (replied x f) (own-none x f) (after-P x p list q (f .holds) (whole x f) w)
 
 -- ---- D
 
 pub number-gone : (p : Problem) (k i : ℕ) (e : Effect) → i ≡ k → p .candidates .count ≤ i → e ≡ refusedAs p 15 → HandlesD p k e
 unfolding refusalsOf
 number-gone p k i e j l q x free f a =
-    let own : leb (length (x .problem .cands)) (operandNumber x) ≡ true = le-leb (length (x .problem .cands)) (operandNumber x) (omega (arith, f .holds .cands .counted, a)) in
-    handled-refused x model.Kind.D free p 15 e q (late-own x model.Kind.D 15 (rw own) (λ n. omega (arith, n))) (λ n. omega (arith, n))
+    let own : leb (length (x .problem .cands)) (operandNumber x) ≡ true = le-leb (length (x .problem .cands)) (operandNumber x) (omega (arith, f .holds .cands .terms .counted, a)) in
+    handled-refused x model.Kind.D free p 15 e (f .holds) q (late-own x model.Kind.D 15 (rw own) (λ n. omega (arith, n))) (λ n. omega (arith, n))
 
 pub number-taken : (p : Problem) (k i : ℕ) (q : Problem) → Sized p → i ≡ k → i < p .candidates .count → q ≡ withCandidates (termTaken (p .candidates) i) p
     → HandlesD p k (record { number = 0; written = 0; problem = q })
 unfolding refusalsOf answerFor
 number-taken p k i q z j l s x free f a =
-    let own : leb (length (x .problem .cands)) (operandNumber x) ≡ false = lt-leb (length (x .problem .cands)) (operandNumber x) (omega (arith, f .holds .cands .counted, a)) in
+    let own : leb (length (x .problem .cands)) (operandNumber x) ≡ false = lt-leb (length (x .problem .cands)) (operandNumber x) (omega (arith, f .holds .cands .terms .counted, a)) in
     handled-silent x model.Kind.D free q refl (rw own)
     (subst⁻¹ (λ (y : Problem). Holds y (problemAfter x model.Kind.D)) s (after-D x p i (f .holds) (a ∙ sym j) l (z .few)))
 
@@ -225,7 +222,7 @@ number-taken p k i q z j l s x free f a =
 pub end-early : (p : Problem) (rest : ℕ) (old : List ℕ) (e : Effect) → 0 < rest → e ≡ refusedAs p 13 → HandlesE p rest old old e
 unfolding refusalsOf
 end-early p rest old e l q x h r f =
-    handled-refused x model.Kind.E old p 13 e q (late-own x model.Kind.E 13 (rw (r, lt-ltb 0 rest l)) (λ n. omega (arith, n))) (λ n. omega (arith, n))
+    handled-refused x model.Kind.E old p 13 e h q (late-own x model.Kind.E 13 (rw (r, lt-ltb 0 rest l)) (λ n. omega (arith, n))) (λ n. omega (arith, n))
 
 end-none : (x : Context) (rest : ℕ) → rest ≤ 0 → length (x .rest) ≡ rest → 0 ≡ firstOf (refusalsOf x model.Kind.E)
 unfolding refusalsOf
@@ -234,7 +231,7 @@ end-none x rest l r = rw (r, le-ltb 0 rest l)
 module _ (p : Problem) (rest : ℕ) (old new : List ℕ) (r : Reply) (l : rest ≤ 0) (w : Replied (bytesOf Answer.ended) old new r) where
   pub end-long : (e : Effect) → r ≡ TooLong → e ≡ refusedAs p 14 → HandlesE p rest old new e
   unfolding answerFor
-  end-long e s q x h i f = handled-long x model.Kind.E old new p r e s q f w (end-none x rest l i)
+  end-long e s q x h i f = handled-long x model.Kind.E old new p r e h s q f w (end-none x rest l i)
 
   pub end-written : (n : ℕ) → r ≡ Written n → HandlesE p rest old new (record { number = 0; written = n; problem = p })
   unfolding answerFor problemAfter

@@ -77,13 +77,13 @@ module _ (all : List ℕ) (s : ℕ) (old new : List ℕ) (f : PageFill) (p : Pag
 -- ---- L and C by their replies
 
 module _ (x : Context) (k : model.Kind) (p : Problem) (old new : List ℕ) (r : Reply) (w : Replied (answerBytes x k) old new r)
-    (f : x .free ≡ length old) (o : 0 ≡ firstOf (refusalsOf x k)) (h : Holds (atPlace model.queried p) (problemAfter x k)) where
+    (f : x .free ≡ length old) (o : 0 ≡ firstOf (refusalsOf x k)) (g : Holds p (x .problem)) (h : Holds (atPlace model.queried p) (problemAfter x k)) where
   pub handled-reply : (e : Effect) → e ≡ repliedAs p r → Handled x k old new e
   handled-reply e q = subst⁻¹ (Handled x k old new) q (go r refl)
     where
       go : (s : Reply) → r ≡ s → Handled x k old new (repliedAs p s)
       go (Written n) i = handled-written x k old new (atPlace model.queried p) r n i f w o h
-      go TooLong i = handled-long x k old new p r (refusedAs p 14) i refl f w o
+      go TooLong i = handled-long x k old new p r (refusedAs p 14) g i refl f w o
 
 -- ---- 12, of any query
 
@@ -91,7 +91,7 @@ module _ (p : Problem) (rows : List ℕ) (b : Bool) (x : Context) (k : model.Kin
   query-uncovered : (old : List ℕ) (e : Effect) → b ≡ false → e ≡ refusedAs p 12 → Handled x k old old e
   query-uncovered old e z w =
       let own : 12 ≡ firstOf (refusalsOf x k) = rw (refusalsOf-query x k q, ← d .told, z) in
-      handled-refused x k old p 12 e w (late-own x k 12 own (λ n. omega (arith, n))) (λ n. omega (arith, n))
+      handled-refused x k old p 12 e (f .holds) w (late-own x k 12 own (λ n. omega (arith, n))) (λ n. omega (arith, n))
 
   query-covered : b ≡ true → 0 ≡ firstOf (refusalsOf x k)
   query-covered z = rw (refusalsOf-query x k q, ← d .told, z)
@@ -108,13 +108,13 @@ module _ (p : Problem) (rows : List ℕ) (b : Bool) (s k : ℕ) where
   list-answered n c old new r e z m v w q x f d i j l =
       handled-reply x model.Kind.L p old new r
       (subst (λ (all : List ℕ). Replied (pageBytes all (start x) (count x)) old new r) (rows-listed p (x .problem) rows n (f .holds) (d .rows-of) m) (rw (i, j, ← v) w))
-      l (query-covered p rows b x model.Kind.L tt f d z) (after-query x p model.Kind.L tt (f .holds)) e q
+      l (query-covered p rows b x model.Kind.L tt f d z) (f .holds) (after-query x p model.Kind.L tt (f .holds)) e q
 
 -- ---- C
 
-module _ (p : Problem) (rows costs : List ℕ) (b : Bool) (count-is : costs ≡ map termCost (take (p .candidates .count) (p .candidates .terms))) where
+module _ (p : Problem) (rows costs : List ℕ) (b : Bool) (weights-are : costs ≡ take (p .candidates .count) (p .candidates .weights)) where
   costs-here : (x : Context) → Found p x → costs ≡ map termCost (x .problem .cands)
-  costs-here x f = count-is ∙ ap (map termCost) (f .holds .cands .same)
+  costs-here x f = weights-are ∙ f .holds .cands .weighed ∙ ap (map termCost) (f .holds .cands .terms .same)
 
   -- where each on cell is held there is a cover
   pub cheapest-none : (old : List ℕ) (o : Optimum) (e : Effect) → b ≡ true → o ≡ Nothing → Optimal rows costs o → HandlesC p rows b old old e
@@ -136,7 +136,7 @@ module _ (p : Problem) (rows costs : List ℕ) (b : Bool) (count-is : costs ≡ 
     unfolding answerFor
     cheapest-answered old new r e y w q x f d l =
         handled-reply x model.Kind.C p old new r (subst (λ (a : Answer). Replied (bytesOf a) old new r) (ap₂ Answer.cheapestIs cost-same set-same) w) l
-        (query-covered p rows b x model.Kind.C tt f d y) (after-query x p model.Kind.C tt (f .holds)) e q
+        (query-covered p rows b x model.Kind.C tt f d y) (f .holds) (after-query x p model.Kind.C tt (f .holds)) e q
       where
         pair : (c ≡ cost (ofRows costs rows) (cheapest (ofRows costs rows))) × (s ≡ cheapest (ofRows costs rows))
         pair = best-cheapest (ofRows costs rows) c s covered best

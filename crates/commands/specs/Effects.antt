@@ -46,10 +46,15 @@ pub record Answered (x : Context) (k : model.Kind) (old new : List ℕ) (e : Eff
   pub bytes : new ≡ answerBytes x k ++ drop (length (answerBytes x k)) old
   pub problem : Holds (e .problem) (problemAfter x k)
 
--- a command of kind k behind the tests of 3, 4 and 5: its refusal, which leaves the free part alone, or its answer
+-- a refused command: the free part stays, and the record holds the problem that it found
+pub record LeftAlone (x : Context) (old new : List ℕ) (e : Effect) : Type 0 where
+  pub bytes : new ≡ old
+  pub problem : Holds (e .problem) (x .problem)
+
+-- a command of kind k behind the tests of 3, 4 and 5: its refusal or its answer
 pub record Handled (x : Context) (k : model.Kind) (old new : List ℕ) (e : Effect) : Type 0 where
   pub number : e .number ≡ lateRefusal x k
-  pub refused : (e .number ≡ 0 → ⊥) → new ≡ old
+  pub refused : (e .number ≡ 0 → ⊥) → LeftAlone x old new e
   pub answered : e .number ≡ 0 → Answered x k old new e
 
 -- a context of the problem that p holds
@@ -60,8 +65,8 @@ pub record Found (p : Problem) (x : Context) : Type 0 where
 
 -- ---- each kind, in every context that has these operands
 
-abbrev pub HandlesI : ℕ → ℕ → Effect → Type 0
-HandlesI n m e = (x : Context) (free : List ℕ) → operand x 0 ≡ n → operand x 1 ≡ m → Handled x model.Kind.I free free e
+abbrev pub HandlesI : Problem → ℕ → ℕ → Effect → Type 0
+HandlesI p n m e = (x : Context) (free : List ℕ) → Holds p (x .problem) → operand x 0 ≡ n → operand x 1 ≡ m → Handled x model.Kind.I free free e
 
 abbrev pub HandlesR : Problem → ℕ → ℕ → ℕ → Effect → Type 0
 HandlesR p v on dc e = (x : Context) (free : List ℕ) → Found p x → operand x 0 ≡ v → operand x 1 ≡ on → operand x 2 ≡ dc → Handled x model.Kind.R free free e

@@ -1,7 +1,7 @@
 // One command: tested, answered, applied.
 //
 // Each function here and in `queries`, which has L and C, handles one kind of command behind the tests of 3, 4 and 5. A refusal leaves the
-// free part alone.
+// free part and the record alone.
 ghost use mathlib.Core.Path.{_≡_};
 ghost use Prim.Native.Nat.{_+_, _≤_, _<_};
 ghost use lib.ListN.{length, drop};
@@ -40,7 +40,7 @@ pub fn refused(p: Problem, number: u8) -> Effect
 
 // I with its operands.
 pub fn init(p: Problem, n: u8, m: u8) -> Effect
-    ensures { λ r. ⌜ HandlesI n m r ⌝ }
+    ensures { λ r. ⌜ HandlesI p n m r ⌝ }
 {
     let number = refusals::init_refusal(n, m);
     if number != 0 {

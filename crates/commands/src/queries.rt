@@ -15,7 +15,6 @@ use cheapest::search;
 use cheapest::search::Optimum;
 use lister::cursor;
 use problem::Problem;
-use problem::matrix;
 
 // A query that was answered with so many bytes, or whose answer is too long.
 fn replied(p: Problem, reply: Reply) -> Effect
@@ -62,7 +61,7 @@ pub fn list(
     refused(p, 12)
 }
 
-// C: the cheapest cover. `rows` and `covered` are the covering matrix.
+// C: the cheapest cover, by the weights of the record. `rows` and `covered` are the covering matrix.
 pub fn least_cost(p: Problem, rows: &[u64], covered: bool, free: &mut [u8]) -> Effect
     requires { ⌜ Reached p ⌝ }
     requires { ⌜ length (now rows) ≤ 2048 ⌝ }
@@ -71,10 +70,9 @@ pub fn least_cost(p: Problem, rows: &[u64], covered: bool, free: &mut [u8]) -> E
     if !covered {
         return refused(p, 12);
     }
-    let terms = p.candidates.terms;
+    let weights = p.candidates.weights;
     let count = p.candidates.count;
-    let costs = matrix::costs(terms, count);
-    match search::cheapest(rows, &costs[..count]) {
+    match search::cheapest(rows, &weights[..count]) {
         Optimum::Nothing => refused(p, 12), // not met: each cell is held
         Optimum::Cover(set, cost) => replied(p, writers::put_cheapest(free, cost, set)),
     }

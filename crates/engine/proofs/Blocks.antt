@@ -27,7 +27,7 @@ reading-none {p} {job} {at} b m l = record {
   reads = record {
     forward = omega arith;
     within = l;
-    in-problem = λ q h v most free e. record { problem = q; most = most; enough = e; holds = h; valid = v; number = refl; offset = refl; written = refl };
+    in-problem = λ q h v most free e. record { problem = q; most = most; enough = e; holds = h; valid = v; number = refl; offset = refl; written = refl; left = refl };
   };
   behind-I = b;
   in-rows = m;
@@ -57,6 +57,7 @@ reading-then {job = job} b d = record {
           number = g .number ∙ f .number;
           offset = g .offset ∙ f .offset;
           written = g .written ∙ f .written;
+          left = g .left ∙ f .left;
         };
   };
   behind-I = d .behind-I;
@@ -159,4 +160,5 @@ going-behind {old = old} w b =
       number = w .number ∙ g .number;
       offset = w .offset ∙ g .offset;
       written = w .written ∙ ap (λ (bs : List ℕ). w .out ++ bs) (g .written);
+      left = w .left ∙ g .left;
     }

@@ -95,7 +95,7 @@ module _ {p : Problem} {job : List ℕ} {at : ℕ} {k : Kind} {n rest : ℕ} (d 
     in-problem = λ s h v f.
         let x = contextAt s job at (length old) in
         let o : n ≡ refusal x = early-here s (length old) h ∙ sym (first-before (early-list x) (late-list x) (λ y. z (early-here s (length old) h ∙ y))) in
-        rw q record { number = o; refused = λ y. refl; answered = λ y. absurd (z y) };
+        rw q record { number = o; refused = λ y. record { bytes = refl; problem = h }; answered = λ y. absurd (z y) };
   }
 
   -- behind the early refusals
@@ -153,8 +153,8 @@ module _ {p : Problem} {job : List ℕ} {at : ℕ} {k : Kind} {n rest : ℕ} (d 
     -- ---- each kind
 
     module _ {rows old : List ℕ} {covered : Bool} {e : Effect} where
-      pub step-I : kindIs k ≡ model.Kind.I → HandlesI (getD job (at + 1) 0) (getD job (at + 2) 0) e → Steps p rows covered job at old old e
-      step-I g w = record { in-problem = λ q h v f. as-kind model.Kind.I g q h (w (contextAt q job at (length old)) old (at-op 0 (at + 1) (omega arith)) (at-op 1 (at + 2) (omega arith))) }
+      pub step-I : kindIs k ≡ model.Kind.I → HandlesI p (getD job (at + 1) 0) (getD job (at + 2) 0) e → Steps p rows covered job at old old e
+      step-I g w = record { in-problem = λ q h v f. as-kind model.Kind.I g q h (w (contextAt q job at (length old)) old h (at-op 0 (at + 1) (omega arith)) (at-op 1 (at + 2) (omega arith))) }
 
       pub step-R : {v : ℕ} → kindIs k ≡ model.Kind.R → v ≡ getD job (at + 1) 0 → HandlesR p v (getD job (at + 2) 0) (getD job (at + 3) 0) e → Steps p rows covered job at old old e
       step-R g i w = behind-I model.Kind.R g tt (λ x f m r a. w x old f (op x r 0 (at + 1) (omega arith) ∙ sym i) (op x r 1 (at + 2) (omega arith)) (op x r 2 (at + 3) (omega arith)))

@@ -14,10 +14,12 @@ use Rattle.model.specs.Answers.{Answer, bytesOf, answer, answerFor}
 use Rattle.model.specs.Refusals.{firstOf}
 use Rattle.model.specs.Rules.{engine}
 use Rattle.model.specs.Job.{Run, answerThen, written}
+use Rattle.model.specs.Records.{lastLeft}
 use Rattle.model.specs.Invariants.{Valid}
 use Rattle.model.proofs.Runs.{Passed, passed}
 use Rattle.model.proofs.Sound.{engine-lawful}
 use Rattle.model.proofs.Valid.{after-valid}
+use Rattle.model.proofs.Records.{left-by}
 use Rattle.codec.specs.declared.kinds.Kind.{Kind}
 use Rattle.problem.specs.declared.Settings.{Settings}
 use Rattle.problem.specs.declared.Problem.{Problem}
@@ -116,7 +118,7 @@ module _ (p : Problem) {job : List ℕ} {at : ℕ} (reached : Reached p) (behind
 
 -- ---- the run behind it
 
-module _ {p next : Problem} {job : List ℕ} {at bytes : ℕ} (a : Sets p job at next bytes) {r : Run} {free : ℕ} (w : GoesOn job r free p at) where
+module _ {p next : Problem} {job : List ℕ} {at bytes : ℕ} (a : Sets p job at next bytes) {q : model.Problem} {r : Run} {free : ℕ} (w : GoesOn job q r free p at) where
   abbrev c : Context
   c = contextAt (w .problem) job at free
 
@@ -151,7 +153,7 @@ module _ {p next : Problem} {job : List ℕ} {at bytes : ℕ} (a : Sets p job at
       ∙ run-next (one-less .0) (w .problem) job at free here (sym (s .number)) (ap (λ (k : model.Kind). is k model.Kind.E) (a .here) ∙ a .goes)
       ∙ rw (rest-is, all-free, far)
 
-  pub rows-go : GoesOn job r free next (at + bytes)
+  pub rows-go : GoesOn job q r free next (at + bytes)
   unfolding written
   rows-go = record {
     problem = after;
@@ -162,4 +164,6 @@ module _ {p next : Problem} {job : List ℕ} {at bytes : ℕ} (a : Sets p job at
     number = w .number ∙ ap (λ (y : Run). y .number) moved;
     offset = w .offset ∙ ap (λ (y : Run). y .offset) moved;
     written = w .written ∙ ap written moved ∙ rw nothing-said;
+    left = w .left ∙ ap (λ (y : Run). lastLeft engine (w .problem) (y .contexts)) moved
+        ∙ ap (λ (o : model.Problem). lastLeft engine o (restOf job (one-less .0) after free (at + bytes) .contexts)) (left-by c .answered (sym (s .number)));
   }

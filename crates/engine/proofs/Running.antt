@@ -20,10 +20,12 @@ use Rattle.model.specs.Answers.{bytesOf, answer}
 use Rattle.model.specs.Rules.{engine, refusal}
 use Rattle.model.specs.Job.{Run, stop, answerThen, commands, run, runBy, written, packed, bufferAfter}
 use Rattle.model.specs.Calls.{Met}
+use Rattle.model.specs.Records.{leaves, lastLeft, lastRecord}
 use Rattle.model.specs.Invariants.{Valid}
-use Rattle.model.proofs.Runs.{Passed, passed}
+use Rattle.model.proofs.Runs.{Passed, passed, ends}
 use Rattle.model.proofs.Sound.{engine-lawful}
 use Rattle.model.proofs.Valid.{after-valid, valid-empty}
+use Rattle.model.proofs.Records.{left-by}
 use Rattle.problem.specs.declared.Problem.{Problem}
 use Rattle.problem.specs.Problems.{noProblem, Holds, Reached}
 use Rattle.problem.specs.declared.matrix.Matrix.{Matrix}
@@ -32,7 +34,8 @@ use Rattle.problem.proofs.Keeping.{holds-empty}
 use Rattle.commands.specs.declared.Effect.{Effect}
 use Rattle.commands.specs.Effects.{Answered}
 use Rattle.engine.specs.Steps.{Stepped, contextAt}
-use Rattle.engine.specs.Jobs.{called, IsMatrix, Refreshed}
+use Rattle.engine.specs.declared.job.Ended.{Ended}
+use Rattle.engine.specs.Jobs.{called, EndsAs, tooLong, IsMatrix, Refreshed}
 
 -- ---- one command of the definitions' run
 
@@ -117,6 +120,7 @@ pub record Going (job old answers : List ℕ) (p : Problem) (rows : List ℕ) (m
   pub number : run job (length old) .number ≡ commands engine fuel problem (drop at job) (length old - length out) at .number
   pub offset : run job (length old) .offset ≡ commands engine fuel problem (drop at job) (length old - length out) at .offset
   pub written : written (run job (length old)) ≡ out ++ written (commands engine fuel problem (drop at job) (length old - length out) at)
+  pub left : lastRecord (run job (length old)) ≡ lastLeft engine problem (commands engine fuel problem (drop at job) (length old - length out) at .contexts)
 
 pub not-ready : false ≡ true → ⊥
 not-ready z = let y : _≡_ {A = ℕ} 0 1 = cc in omega arith
@@ -141,6 +145,7 @@ going-first {job} {old} {rows} {p} {covered} h g e s = record {
   number = rw (le-ltb 32768 (length job) h, le-ltb 32768 (length old) g, all-free);
   offset = rw (le-ltb 32768 (length job) h, le-ltb 32768 (length old) g, all-free);
   written = rw (le-ltb 32768 (length job) h, le-ltb 32768 (length old) g, all-free);
+  left = rw (le-ltb 32768 (length job) h, le-ltb 32768 (length old) g, all-free);
 }
   where
     all-free : length old - 0 ≡ length old
@@ -178,22 +183,25 @@ module _ {job old answers : List ℕ} {p : Problem} {rows : List ℕ} {m : Matri
   fuel-suc : at < length job → (f : ℕ) × (w .fuel ≡ suc f)
   fuel-suc l = one-left (w .fuel) l (w .enough)
 
-  -- the call ends with this number and offset, and nothing more is written
-  met : (n offset r : ℕ) (xs : List Context) (after : List ℕ)
-      → commands engine (w .fuel) (w .problem) (drop at job) (length old - length (w .out)) at ≡ stop n offset xs → r ≡ n * 2 ^ 32 + offset * 2 ^ 16 + done
-      → after ≡ answers → Met (called job old r after)
-  unfolding packed bufferAfter written
-  met n offset r xs after e q a =
+  -- the job ends with this number and offset, and nothing more is written
+  ended : (n offset : ℕ) (xs : List Context) (after : List ℕ) {q : Problem}
+      → commands engine (w .fuel) (w .problem) (drop at job) (length old - length (w .out)) at ≡ stop n offset xs → after ≡ answers
+      → Holds q (lastLeft engine (w .problem) xs) → EndsAs job old after (record { number = n; offset = offset; written = done; problem = q })
+  unfolding bufferAfter written
+  ended n offset xs after {q} e a h =
       let l : written (run job (length old)) ≡ w .out = w .written ∙ ap (λ (y : Run). w .out ++ written y) e ∙ nothing-left (w .out) n offset xs in
       record {
-        returned = q ∙ rw (w .number, w .offset, e, l, w .counted);
+        number = sym (w .number ∙ ap (λ (y : Run). y .number) e);
+        offset = sym (w .offset ∙ ap (λ (y : Run). y .offset) e);
+        written = w .counted ∙ rw l;
         after = a ∙ w .bytes ∙ rw l;
+        problem = subst⁻¹ (Holds q) (w .left ∙ ap (λ (y : Run). lastLeft engine (w .problem) (y .contexts)) e) h;
       }
 
   -- ---- the job's bytes end
 
-  pub going-cut : {r : ℕ} → length job ≤ at → r ≡ 2 * 2 ^ 32 + at * 2 ^ 16 + done → Met (called job old r answers)
-  going-cut {r} l q = met 2 at r [] answers (go (w .fuel)) q refl
+  pub going-cut : length job ≤ at → EndsAs job old answers (record { number = 2; offset = at; written = done; problem = p })
+  going-cut l = ended 2 at [] answers (go (w .fuel)) refl (w .holds)
     where
       none : drop at job ≡ []
       none = ap (λ (k : ℕ). drop k job) (let e : at ≡ length job = omega (arith, w .within) in e) ∙ drop-length job
@@ -211,14 +219,16 @@ module _ {job old answers : List ℕ} {p : Problem} {rows : List ℕ} {m : Matri
     s' : Stepped ctx (tail done answers) last e
     s' = subst (λ (n : ℕ). Stepped (contextAt (w .problem) job at n) (tail done answers) last e) free-is s
 
-    pub going-refused : {r : ℕ} → (e .number ≡ 0 → ⊥) → r ≡ e .number * 2 ^ 32 + at * 2 ^ 16 + done → Met (called job old r (withTail done answers last))
+    pub going-refused : {q : Problem} → (e .number ≡ 0 → ⊥) → q ≡ e .problem
+        → EndsAs job old (withTail done answers last) (record { number = e .number; offset = at; written = done; problem = q })
     unfolding x
-    going-refused {r} d q =
-        met (refusal ctx) at r (ctx ∷ []) (withTail done answers last)
-        (ap (λ (n : ℕ). commands engine n (w .problem) (drop at job) (length old - length (w .out)) at) (fuel-suc here .1)
-        ∙ run-refused (fuel-suc here .0) (w .problem) job at (length old - length (w .out)) here (λ z. d (s' .number ∙ z)))
-        (q ∙ ap (λ (n : ℕ). n * 2 ^ 32 + at * 2 ^ 16 + done) (s' .number))
-        (put-same last (s' .refused d))
+    going-refused {q} d qe =
+        let n : refusal ctx ≡ 0 → ⊥ = λ z. d (s' .number ∙ z) in
+        let step = ap (λ (n : ℕ). commands engine n (w .problem) (drop at job) (length old - length (w .out)) at) (fuel-suc here .1)
+        ∙ run-refused (fuel-suc here .0) (w .problem) job at (length old - length (w .out)) here n in
+        let h : Holds q (leaves engine ctx) = subst⁻¹ (λ (y : Problem). Holds y (leaves engine ctx)) qe (subst⁻¹ (Holds (e .problem)) (left-by ctx .refused n) (s' .refused d .problem)) in
+        subst⁻¹ (λ (n : ℕ). EndsAs job old (withTail done answers last) (record { number = n; offset = at; written = done; problem = q })) (s' .number)
+        (ended (refusal ctx) at (ctx ∷ []) (withTail done answers last) step (put-same last (s' .refused d .bytes)) h)
 
     module _ (z : e .number ≡ 0) where
       ans : List ℕ
@@ -246,16 +256,25 @@ module _ {job old answers : List ℕ} {p : Problem} {rows : List ℕ} {m : Matri
       unfolding written ans
       one-more y h = h ∙ sym (append-assoc (w .out) (bytesOf (answer ctx)) (join (map bytesOf (y .answers))))
 
-      pub going-ended : {r : ℕ} → is (kindOf (getD job at 0)) Kind.E ≡ true → r ≡ 0 * 2 ^ 32 + (at + 1) * 2 ^ 16 + (done + e .written) → Met (called job old r (withTail done answers last))
-      unfolding packed bufferAfter written x
-      going-ended {r} k q =
+      -- the record that the command leaves
+      left-here : leaves engine ctx ≡ problemAfter ctx (kindOf (getD job at 0))
+      left-here = left-by ctx .answered (sym (s' .number) ∙ z)
+
+      pub going-ended : {q : Problem} → is (kindOf (getD job at 0)) Kind.E ≡ true → q ≡ e .problem
+          → EndsAs job old (withTail done answers last) (record { number = 0; offset = at + 1; written = done + e .written; problem = q })
+      unfolding bufferAfter written x
+      going-ended {q} k qe =
           let step = ap (λ (n : ℕ). commands engine n (w .problem) (drop at job) (length old - length (w .out)) at) (fuel-suc here .1)
           ∙ run-ended (fuel-suc here .0) (w .problem) job at (length old - length (w .out)) here (sym (s' .number) ∙ z) k in
           let l : written (run job (length old)) ≡ w .out ++ ans =
           one-more (stop 0 (at + 1) []) (w .written ∙ ap (λ (y : Run). w .out ++ written y) step) ∙ nothing-left (w .out ++ ans) 0 (at + 1) [] in
           record {
-            returned = q ∙ rw (w .number, w .offset, step, l, count-is);
+            number = sym (w .number ∙ ap (λ (y : Run). y .number) step);
+            offset = sym (w .offset ∙ ap (λ (y : Run). y .offset) step);
+            written = count-is ∙ rw l;
             after = put-back ∙ rw l;
+            problem = subst⁻¹ (Holds q) (w .left ∙ ap (λ (y : Run). lastLeft engine (w .problem) (y .contexts)) step ∙ left-here)
+                (subst⁻¹ (λ (y : Problem). Holds y (problemAfter ctx (kindOf (getD job at 0)))) qe (a .problem));
           }
 
       pub width-fits : at + 1 + width (kindOf (getD job at 0)) ≤ length job
@@ -289,28 +308,43 @@ module _ {job old answers : List ℕ} {p : Problem} {rows : List ℕ} {m : Matri
             number = w .number ∙ ap (λ (y : Run). y .number) step ∙ ap (λ (y : Run). y .number) moved;
             offset = w .offset ∙ ap (λ (y : Run). y .offset) step ∙ ap (λ (y : Run). y .offset) moved;
             written = one-more _ (w .written ∙ ap (λ (y : Run). w .out ++ written y) step) ∙ ap (λ (y : Run). (w .out ++ ans) ++ written y) moved;
+            left = w .left ∙ ap (λ (y : Run). lastLeft engine (w .problem) (y .contexts)) step
+                ∙ ap (λ (o : model.Problem). lastLeft engine o (later .contexts)) left-here
+                ∙ ap (λ (y : Run). lastLeft engine (problemAfter ctx (kindOf (getD job at 0))) (y .contexts)) moved;
           }
         where
           rest-is : drop (width (kindOf (getD job at 0))) (drop (at + 1) job) ≡ drop at' job
           rest-is = drop-drop (width (kindOf (getD job at 0))) (at + 1) job ∙ ap (λ (i : ℕ). drop i job) (sym ae)
 
-          moved : commands engine (fuel-suc here .0) (problemAfter ctx (kindOf (getD job at 0)))
+          later : Run
+          later = commands engine (fuel-suc here .0) (problemAfter ctx (kindOf (getD job at 0)))
               (drop (width (kindOf (getD job at 0))) (drop (at + 1) job)) (length old - length (w .out) - length (bytesOf (answer ctx)))
               (at + 1 + width (kindOf (getD job at 0)))
-              ≡ commands engine (fuel-suc here .0) (problemAfter ctx (kindOf (getD job at 0))) (drop at' job) (length old - length (w .out ++ ans)) at'
+
+          moved : later ≡ commands engine (fuel-suc here .0) (problemAfter ctx (kindOf (getD job at 0))) (drop at' job) (length old - length (w .out ++ ans)) at'
           moved = rw (rest-is, free-left, ← ae)
 
 -- ---- a job or a buffer that is too long
 
-module _ (job old : List ℕ) where
-  refused-long : (run job (length old) ≡ stop 1 0 []) → (r : ℕ) → r ≡ 1 * 2 ^ 32 + 0 * 2 ^ 16 + 0 → Met (called job old r old)
-  unfolding packed bufferAfter written
-  refused-long e r q = record { returned = q ∙ rw e; after = rw e }
+module _ (job old : List ℕ) {e : Ended} (t : e ≡ tooLong) where
+  refused-long : run job (length old) ≡ stop 1 0 [] → EndsAs job old old e
+  unfolding bufferAfter written
+  refused-long r = rw t record { number = rw r; offset = rw r; written = rw r; after = rw r; problem = rw r holds-empty }
 
-  pub job-long : (r : ℕ) → 32768 < length job → r ≡ 1 * 2 ^ 32 + 0 * 2 ^ 16 + 0 → Met (called job old r old)
+  pub job-long : 32768 < length job → EndsAs job old old e
   unfolding runBy
-  job-long r l q = refused-long (rw (lt-ltb 32768 (length job) l)) r q
+  job-long l = refused-long (rw (lt-ltb 32768 (length job) l))
 
-  pub buffer-long : (r : ℕ) → length job ≤ 32768 → 32768 < length old → r ≡ 1 * 2 ^ 32 + 0 * 2 ^ 16 + 0 → Met (called job old r old)
+  pub buffer-long : length job ≤ 32768 → 32768 < length old → EndsAs job old old e
   unfolding runBy
-  buffer-long r h l q = refused-long (rw (le-ltb 32768 (length job) h, lt-ltb 32768 (length old) l)) r q
+  buffer-long h l = refused-long (rw (le-ltb 32768 (length job) h, lt-ltb 32768 (length old) l))
+
+-- ---- what the call tells
+
+module _ {job old new : List ℕ} {e : Ended} (h : EndsAs job old new e) where
+  pub tells-small : (e .offset ≤ 32768) × (e .written ≤ 32768)
+  tells-small = let s = ends engine engine-lawful job (length old) in (omega (arith, h .offset, s .offset-small), omega (arith, h .written, s .written-small))
+
+  pub tells-packed : {r : ℕ} → r ≡ e .number * 2 ^ 32 + e .offset * 2 ^ 16 + e .written → Met (called job old r new)
+  unfolding packed
+  tells-packed q = record { returned = q ∙ rw (h .number, h .offset, h .written); after = h .after }

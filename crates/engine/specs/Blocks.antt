@@ -11,6 +11,7 @@ use Rattle.model.specs.Commands.{kindOf, rowsOfB}
 use Rattle.model.specs.Refusals.{firstOf}
 use Rattle.model.specs.Rules.{engine}
 use Rattle.model.specs.Job.{Run, commands, written}
+use Rattle.model.specs.Records.{lastLeft}
 use Rattle.model.specs.Invariants.{Valid}
 use Rattle.problem.specs.declared.Settings.{Settings}
 use Rattle.problem.specs.declared.TableRows.{TableRows}
@@ -40,8 +41,8 @@ rowsOf on dc given = record { on = on; dc = dc; given = given }
 abbrev pub restOf : List ℕ → ℕ → model.Problem → ℕ → ℕ → Run
 restOf job most q free at = commands engine most q (drop at job) free at
 
--- the rest of a run is that from a later place on, where p holds the problem: the commands between are answered and write nothing
-pub record GoesOn (job : List ℕ) (r : Run) (free : ℕ) (p : Problem) (at : ℕ) : Type 0 where
+-- the rest of a run from q on is that from a later place on, where p holds the problem: the commands between are answered and write nothing
+pub record GoesOn (job : List ℕ) (q : model.Problem) (r : Run) (free : ℕ) (p : Problem) (at : ℕ) : Type 0 where
   pub problem : model.Problem
   pub most : ℕ
   pub enough : length job < at + most
@@ -50,12 +51,13 @@ pub record GoesOn (job : List ℕ) (r : Run) (free : ℕ) (p : Problem) (at : �
   pub number : r .number ≡ restOf job most problem free at .number
   pub offset : r .offset ≡ restOf job most problem free at .offset
   pub written : written r ≡ written (restOf job most problem free at)
+  pub left : lastLeft engine q (r .contexts) ≡ lastLeft engine problem (restOf job most problem free at .contexts)
 
 -- from `at` on with p, and from `behind` on with the record `next`, every run is the same
 pub record ReadsRows (p : Problem) (job : List ℕ) (at : ℕ) (next : Problem) (behind : ℕ) : Type 0 where
   pub forward : at ≤ behind
   pub within : behind ≤ length job
-  pub in-problem : (q : model.Problem) → Holds p q → Valid q → (most free : ℕ) → length job < at + most → GoesOn job (restOf job most q free at) free next behind
+  pub in-problem : (q : model.Problem) → Holds p q → Valid q → (most free : ℕ) → length job < at + most → GoesOn job q (restOf job most q free at) free next behind
 
 -- and behind it a row may come
 pub record Reading (p : Problem) (job : List ℕ) (at : ℕ) (next : Problem) (behind : ℕ) : Type 0 where

@@ -7,15 +7,30 @@ use lib.Dec.{T}
 use lib.ListN.{length, take}
 use Rattle.model.specs.Commands as model
 use Rattle.model.specs.Commands.{basisOf, isQueryKind}
+use Rattle.model.specs.Job.{run, written, bufferAfter}
 use Rattle.model.specs.Calls.{Call}
+use Rattle.model.specs.Records.{lastRecord}
 use Rattle.problem.specs.declared.Problem.{Problem}
 use Rattle.problem.specs.declared.matrix.Matrix.{Matrix}
-use Rattle.problem.specs.Problems.{Holds}
+use Rattle.problem.specs.Problems.{noProblem, Holds}
 use Rattle.problem.specs.Matrix.{MatrixOf}
+use Rattle.engine.specs.declared.job.Ended.{Ended}
 
 -- a call: its job, the answer buffer before, what it returned, the buffer after
 abbrev pub called : List ℕ → List ℕ → ℕ → List ℕ → Call
 called job before returned after = record { job = job; before = before; returned = returned; after = after }
+
+-- how a job ends by the definitions: what the call tells, every byte of the buffer, and K5's record: e has the one that the job leaves
+pub record EndsAs (job old new : List ℕ) (e : Ended) : Type 0 where
+  pub number : e .number ≡ run job (length old) .number
+  pub offset : e .offset ≡ run job (length old) .offset
+  pub written : e .written ≡ length (written (run job (length old)))
+  pub after : new ≡ bufferAfter (run job (length old)) old
+  pub problem : Holds (e .problem) (lastRecord (run job (length old)))
+
+-- a job that is not run
+abbrev pub tooLong : Ended
+tooLong = record { number = 1; offset = 0; written = 0; problem = noProblem }
 
 -- m with its rows in front of `rows` is the covering matrix of q
 abbrev pub IsMatrix : model.Problem → List ℕ → Matrix → Type 0

@@ -13,16 +13,16 @@ use Rattle.problem.specs.declared.Problem.{Problem}
 use Rattle.problem.specs.Problems.{Holds}
 use Rattle.problem.specs.Matrix.{MatrixOf}
 use Rattle.commands.specs.declared.Effect.{Effect}
-use Rattle.commands.specs.Effects.{Answered}
+use Rattle.commands.specs.Effects.{Answered, LeftAlone}
 
 -- the context of the command at `at`
 abbrev pub contextAt : model.Problem → List ℕ → ℕ → ℕ → Context
 contextAt q job at free = record { problem = q; kind = kindOf (getD job at 0); rest = drop (at + 1) job; free = free }
 
--- a command: its refusal, which leaves the free part alone, or its answer
+-- a command: its refusal or its answer
 pub record Stepped (x : Context) (old new : List ℕ) (e : Effect) : Type 0 where
   pub number : e .number ≡ refusal x
-  pub refused : (e .number ≡ 0 → ⊥) → new ≡ old
+  pub refused : (e .number ≡ 0 → ⊥) → LeftAlone x old new e
   pub answered : e .number ≡ 0 → Answered x (x .kind) old new e
 
 -- in every problem that p holds, with its covering matrix where it is a query

@@ -2,10 +2,9 @@
 ghost use mathlib.Core.Path.{_≡_};
 ghost use Prim.Native.Nat.{_+_, _*_, _^_, _≤_};
 ghost use lib.ListN.{length};
-ghost use Rattle.model.specs.Calls.{Met};
 ghost use Rattle.codec.specs.Kinds.{kindIs};
 ghost use Rattle.problem.specs.Problems.{Sized};
-ghost use Rattle.engine.specs.Jobs.{called, Refreshed};
+ghost use Rattle.engine.specs.Jobs.{EndsAs, Refreshed};
 use crate::row_block;
 use crate::step;
 use bits::byte;
@@ -14,6 +13,14 @@ use codec::kinds::Kind;
 use problem::Problem;
 use problem::matrix;
 use problem::matrix::Matrix;
+
+// How a job ended: its number, its offset, how many answer bytes it wrote, and the record that its last command left.
+pub struct Ended {
+    pub number: u8,
+    pub offset: usize,
+    pub written: usize,
+    pub problem: Problem,
+}
 
 // A number that counts as a 64-bit number.
 fn long(x: usize) -> u64
@@ -48,9 +55,9 @@ fn refresh(p: Problem, k: Kind, ready: bool, m: Matrix, rows: &mut [u64]) -> Mat
 
 // The commands one by one, but the rows behind I in one go, until one is refused, E is answered or the job's bytes end. The covering matrix
 // is kept from query to query. p is set right behind the step: so the compiler copies the record once, and not twice.
-pub fn run(job: &[u8], answers: &mut [u8]) -> u64
+pub fn run(job: &[u8], answers: &mut [u8]) -> Ended
     requires { ⌜ (length (now job) ≤ 32768) × (length (now answers) ≤ 32768) ⌝ }
-    ensures { λ r. ⌜ Met (called (now (job .entry)) (now (answers .entry)) r (now (answers .exit))) ⌝ }
+    ensures { λ r. ⌜ EndsAs (now (job .entry)) (now (answers .entry)) (now (answers .exit)) r ⌝ }
 {
     let mut p = problem::empty();
     let mut rows = [0u64; 2048];
@@ -71,11 +78,21 @@ pub fn run(job: &[u8], answers: &mut [u8]) -> u64
         let e = step::step(p, found, m.covered, job, at, free);
         p = e.problem;
         if e.number != 0 {
-            return pack(e.number, at, written);
+            return Ended {
+                number: e.number,
+                offset: at,
+                written: written,
+                problem: p,
+            };
         }
         written = written + e.written;
         if kinds::is_end(k) {
-            return pack(0, at + 1, written);
+            return Ended {
+                number: 0,
+                offset: at + 1,
+                written: written,
+                problem: p,
+            };
         }
         at = at + 1 + kinds::width_of(k);
         if row_block::starts(p.place, job, at) {
@@ -85,5 +102,10 @@ pub fn run(job: &[u8], answers: &mut [u8]) -> u64
             ready = false;
         }
     }
-    pack(2, at, written)
+    Ended {
+        number: 2,
+        offset: at,
+        written: written,
+        problem: p,
+    }
 }

@@ -14,7 +14,7 @@ use Rattle.model.specs.Base.{from, below, some, join, All}
 use Rattle.model.specs.declared.Term.{Term}
 use Rattle.model.specs.Table.{Table}
 use Rattle.model.specs.Sets.{coverable}
-use Rattle.model.specs.Candidates.{basis, covering}
+use Rattle.model.specs.Candidates.{termCost, basis, covering}
 use Rattle.model.specs.Commands as model
 use Rattle.model.specs.Commands.{basisOf, tableOf}
 use Rattle.model.specs.Refusals.{Refusal, refuse, firstOf, size, badRow}
@@ -33,7 +33,7 @@ use Rattle.problem.specs.declared.matrix.Matrix.{Matrix}
 use Rattle.problem.specs.Problems.{listed, Sized, Holds}
 use Rattle.problem.specs.Refusing.{TermRefusal}
 use Rattle.problem.specs.Matrix.{RowsOf, Prepares, TellsCovered}
-use Rattle.problem.proofs.Keeping.{none-given}
+use Rattle.problem.proofs.Keeping.{none-given, holds-cands}
 use Rattle.problem.proofs.Refusing.{held-rows}
 use Rattle.problem.proofs.Preparing.{rows-listed}
 use Rattle.library.specs.declared.Listed.{Listed}
@@ -169,11 +169,16 @@ padded-at row all f v = ap (λ (l : List ℕ). getD l v 0) (f .bytes)
 padded-size : (row all : List ℕ) → length row ≤ 256 → Padded row all → length all ≡ 256
 padded-size row all h f = same-long row (replicate 256 0) all (length row) f (omega (arith, length-replicate {A = ℕ} 256 0)) ∙ length-replicate {A = ℕ} 256 0
 
-pub call-holds : (words : List ℕ) {n m : ℕ} {on dc on' dc' : List ℕ} {terms : List Term} → length on ≤ 256 → length dc ≤ 256 → Padded on on'
-    → Padded dc dc' → Filled 64 (map unpack words) terms (length words)
-    → Holds (record { place = model.queried; settings = record { n = n; m = m }; rows = record { on = on'; dc = dc'; given = replicate 256 0 }; candidates = listed terms (length words) }) (problemOf
+pub call-holds : (words : List ℕ) {n m : ℕ} {on dc on' dc' : List ℕ} {terms : List Term} {weights : List ℕ} → length on ≤ 256 → length dc ≤ 256 → Padded on on'
+    → Padded dc dc' → Filled 64 (map unpack words) terms (length words) → Filled 64 (map termCost (take (length words) terms)) weights (length words)
+    → Holds (record {
+      place = model.queried;
+      settings = record { n = n; m = m };
+      rows = record { on = on'; dc = dc'; given = replicate 256 0 };
+      candidates = listed terms weights (length words);
+    }) (problemOf
     (calledTable n m on dc) words)
-call-holds words {n} {m} {on} {dc} {on'} {dc'} {terms} h k f g t = record {
+call-holds words {n} {m} {on} {dc} {on'} {dc'} {terms} {weights} h k f g t w = record {
   place = refl;
   settings = record { inputs = refl; outputs = refl };
   rows = record {
@@ -184,7 +189,7 @@ call-holds words {n} {m} {on} {dc} {on'} {dc'} {terms} h k f g t = record {
     dc-bytes = λ v l. padded-at dc dc' g v;
     given = λ v l. none-given v;
   };
-  cands = t;
+  cands = holds-cands t (subst (λ (ts : List Term). Filled 64 (map termCost ts) weights (length words)) (t .same) w) refl;
 }
 
 module _ {p : Table} {count : ℕ} (a : Admitted p count) where
@@ -195,7 +200,7 @@ pub call-sized : (words : List ℕ) {r : Problem} {p : Table} → Admitted p (le
 call-sized words {r} {p} a h = record {
   inputs = omega (arith, h .settings .inputs, a .inputs);
   outputs = omega (arith, h .settings .outputs, a .outputs);
-  few = omega (arith, h .cands .counted, length-map words unpack, a .few);
+  few = omega (arith, h .cands .terms .counted, length-map words unpack, a .few);
 }
 
 -- ---- 9 and 10

@@ -8,7 +8,7 @@ use lib.ListN.{getD, length, replicate}
 use Rattle.model.specs.Base.{below, some, join}
 use Rattle.model.specs.Table.{Table}
 use Rattle.model.specs.Sets.{irredundants}
-use Rattle.model.specs.Candidates.{covering}
+use Rattle.model.specs.Candidates.{termCost, covering}
 use Rattle.model.specs.Commands as model
 use Rattle.model.specs.Commands.{basisOf, tableOf}
 use Rattle.model.specs.Refusals.{Refusal, refuse, firstOf, size, badRow}
@@ -92,7 +92,13 @@ pub record TableRefusal (p : Table) (count r : ℕ) : Type 0 where
 
 -- the problem that an L would find
 abbrev pub problemOf : Table → List ℕ → model.Problem
-problemOf p words = record { place = model.queried; settings = record { n = p .n; m = p .m }; rows = record { on = p .on; dc = p .dc; given = [] }; cands = map unpack words }
+problemOf p words = record {
+  place = model.queried;
+  settings = record { n = p .n; m = p .m };
+  rows = record { on = p .on; dc = p .dc; given = [] };
+  cands = map unpack words;
+  weights = map termCost (map unpack words);
+}
 
 -- a row in front of zeros, in an array of 256
 abbrev pub Padded : List ℕ → List ℕ → Type 0

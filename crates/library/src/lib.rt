@@ -19,6 +19,7 @@ use problem::Settings;
 use problem::TableRows;
 use problem::matrix;
 use problem::refusals;
+use problem::weights;
 use table::cells;
 
 // How many sets were put into the row and whether one stands above those; or the refusal's number.
@@ -124,6 +125,7 @@ fn problem_of(n: u8, m: u8, on: &[u8], dc: &[u8], words: &[u32]) -> Problem
     let on_bytes = padded(on);
     let dc_bytes = padded(dc);
     let terms = terms_of(words);
+    let count = words.len();
     Problem {
         place: 4,
         settings: Settings { n: n, m: m },
@@ -134,7 +136,8 @@ fn problem_of(n: u8, m: u8, on: &[u8], dc: &[u8], words: &[u32]) -> Problem
         },
         candidates: Candidates {
             terms: terms,
-            count: words.len(),
+            weights: weights::weights(terms, count),
+            count: count,
         },
     }
 }

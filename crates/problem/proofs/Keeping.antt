@@ -1,44 +1,66 @@
 -- The engine's record goes on holding the problem of the definitions, command by command.
-use Prim.Native.Nat.{ℕ, _^_, _≤_, _<_, max}
+use Prim.Native.Nat.{ℕ, zero, suc, _^_, _≤_, _<_, max}
 use native.Mathlib.Omega.{arith}
 use native.Mathlib.Decide.{ℕ-discrete}
-use mathlib.Core.Path.{_≡_, refl, sym, ap, _∙_}
+use mathlib.Core.Path.{_≡_, refl, sym, ap, _∙_, subst, subst⁻¹}
 use mathlib.Core.Bool.{false}
-use mathlib.Core.List.{List, [], _∷_, _++_}
+use mathlib.Core.List.{List, [], _∷_, _++_, map}
 use borrow.Author.Tests.{eq-eqb, ne-eqb}
 use lib.Dec.{T, leb, ltb, eqb, nleb→lt}
-use lib.ListN.{getD, length, set, replicate, length-set, length-replicate}
+use lib.ListN.{getD, length, take, set, replicate, length-set, length-replicate}
 use lib.Pow.{pow-mono}
 use lib.Seq.{getD-set-same, getD-set-other}
 use Rattle.model.specs.Base.{some}
 use Rattle.model.specs.declared.Term.{Term}
 use Rattle.model.specs.Primes.{primes}
+use Rattle.model.specs.Candidates.{termCost}
 use Rattle.model.specs.Commands as model
-use Rattle.model.specs.Commands.{Context, operand, operandTerm, operandNumber, Row, tableOf, isQueryKind, addRow, addRows, withTerm, problemAfter}
+use Rattle.model.specs.Commands.{Context, operand, operandNumber, Row, tableOf, isQueryKind, addRow, addRows, addTerm, problemAfter}
 use Rattle.model.specs.Refusals.{rowRefusals, rowsRefusals}
+use Rattle.model.specs.Records.{Weighed}
 use Rattle.model.specs.Invariants.{Valid}
 use Rattle.model.proofs.Codes.{any-query}
 use Rattle.model.proofs.Lists.{zero-at, not-or-l}
 use Rattle.model.proofs.Runs.{NoneApplies}
 use Rattle.model.proofs.RowByRow.{rows-split}
 use Rattle.model.proofs.Valid.{valid-row}
+use Rattle.model.proofs.Records.{weighed-added, weighed-without}
 use Rattle.bits.specs.Lists.{Filled}
 use Rattle.bits.proofs.Lists.{filled-next, filled-without}
+use Rattle.table.specs.declared.prime_list.PrimeList.{PrimeList}
 use Rattle.problem.specs.declared.TableRows.{TableRows}
 use Rattle.problem.specs.declared.Candidates.{Candidates}
 use Rattle.problem.specs.declared.Problem.{Problem}
-use Rattle.problem.specs.Problems.{noRows, listed, startedWith, noProblem, atPlace, withRows, withCandidates, rowPut, rowsPut, termPut, termsWithout}
-use Rattle.problem.specs.Problems.{termTaken, Sized, HoldsRows, HoldsCands, Holds, Reached}
+use Rattle.problem.specs.Problems.{noRows, listed, startedWith, noProblem, atPlace, withRows, withCandidates, rowPut, rowsPut, termPut, entriesWithout}
+use Rattle.problem.specs.Problems.{termTaken, WithPrimes, Sized, HoldsRows, HoldsCands, Holds, Reached}
 
 sized : (p : Problem) (q : model.Problem) → Holds p q → Valid q → Sized p
 sized p q h v = record {
   inputs = omega (arith, h .settings .inputs, v .sound .inputs);
   outputs = omega (arith, h .settings .outputs, v .sound .outputs);
-  few = omega (arith, h .cands .counted, v .sound .few);
+  few = omega (arith, h .cands .terms .counted, v .sound .few);
 }
 
 pub reached-sized : (p : Problem) → Reached p → Sized p
 reached-sized p r = sized p (r .problem) (r .holds) (r .valid)
+
+-- ---- the weights
+
+-- candidates with their weights, where these are the cost rule's; and what a record holds is weighed so
+pub holds-cands : {terms ts : List Term} {weights ws : List ℕ} {count : ℕ} → Filled 64 ts terms count → Filled 64 ws weights count
+    → ws ≡ map termCost ts → HoldsCands (listed terms weights count) ts ws
+holds-cands f g w = record { terms = f; weights = g; weighed = g .same ∙ w ∙ ap (map termCost) (sym (f .same)) }
+
+pub held-weighed : (p : Problem) (q : model.Problem) → Holds p q → Weighed q
+held-weighed p q h = sym (h .cands .weights .same) ∙ h .cands .weighed ∙ ap (map termCost) (h .cands .terms .same)
+
+-- and so each by itself
+pub weight-at : (n i : ℕ) (ws : List ℕ) (ts : List Term) (d : Term) → take n ws ≡ map termCost (take n ts) → i < n → i < length ts → getD ws i 0 ≡ termCost (getD ts i d)
+weight-at zero i ws ts d e l m = absurd (omega arith)
+weight-at (suc n) i ws [] d e l m = absurd (omega arith)
+weight-at (suc n) i [] (t ∷ ts) d e l m = absurd (omega (arith, ap length e))
+weight-at (suc n) zero (w ∷ ws) (t ∷ ts) d e l m = cc
+weight-at (suc n) (suc i) (w ∷ ws) (t ∷ ts) d e l m = weight-at n i ws ts d (cc) (omega arith) (omega arith)
 
 -- ---- the start, and I
 
@@ -58,7 +80,12 @@ holds-none k = record {
 
 holds-started : (n m k place : ℕ) → Holds (startedWith n m place) (model.started place n m k)
 unfolding startedWith
-holds-started n m k place = record { place = refl; settings = record { inputs = refl; outputs = refl }; rows = holds-none k; cands = record { size = refl; counted = refl; same = refl } }
+holds-started n m k place = record {
+  place = refl;
+  settings = record { inputs = refl; outputs = refl };
+  rows = holds-none k;
+  cands = holds-cands (record { size = refl; counted = refl; same = refl }) (record { size = refl; counted = refl; same = refl }) refl;
+}
 
 pub holds-empty : Holds noProblem model.empty
 holds-empty = holds-started 0 0 0 model.atStart
@@ -124,30 +151,38 @@ after-rows (w ∷ ws) p q h v o m a =
 
 -- ---- other candidates: T and A, P, D
 
-holds-candidates : (place : ℕ) (p : Problem) (q : model.Problem) (cs : Candidates) (ts : List Term) → Holds p q → HoldsCands cs ts
-    → Holds (atPlace place (withCandidates cs p)) (model.atPlace place (model.withCands ts q))
-holds-candidates place p q cs ts h c = record { place = refl; settings = h .settings; rows = h .rows; cands = c }
+holds-candidates : (place : ℕ) (p : Problem) (q : model.Problem) (cs : Candidates) (ts : List Term) (ws : List ℕ) → Holds p q → HoldsCands cs ts ws
+    → Holds (atPlace place (withCandidates cs p)) (model.atPlace place (model.withCands ts ws q))
+holds-candidates place p q cs ts ws h c = record { place = refl; settings = h .settings; rows = h .rows; cands = c }
 
-pub after-term : (x : Context) (p : Problem) (t : Term) → Holds p (x .problem) → operandTerm x ≡ t → p .candidates .count < 64
-    → Holds (atPlace (max (p .place) model.inTerms) (withCandidates (termPut (p .candidates) t) p)) (withTerm x)
+pub after-term : (p : Problem) (q : model.Problem) (t : Term) → Holds p q → p .candidates .count < 64
+    → Holds (atPlace (max (p .place) model.inTerms) (withCandidates (termPut (p .candidates) t) p)) (addTerm q t)
 unfolding termPut
-after-term x p t h e l = rw (e, h .place) (holds-candidates (max (x .problem .place) model.inTerms) p (x .problem) (termPut (p .candidates) t) (x .problem .cands ++ (t ∷ [])) h
-    (filled-next 64 (p .candidates .terms) (p .candidates .count) (x .problem .cands) t (h .cands) l))
+after-term p q t h l = rw (h .place) (holds-candidates (max (q .place) model.inTerms) p q (termPut (p .candidates) t) (q .cands ++ (t ∷ [])) (q .weights ++ (termCost t ∷ [])) h
+    (holds-cands (filled-next 64 (p .candidates .terms) (p .candidates .count) (q .cands) t (h .cands .terms) l)
+    (filled-next 64 (p .candidates .weights) (p .candidates .count) (q .weights) (termCost t) (h .cands .weights) l) (weighed-added q t (held-weighed p q h))))
 
-pub after-P : (x : Context) (p : Problem) (terms : List Term) (count : ℕ) → Holds p (x .problem) → Filled 64 (primes (tableOf (x .problem))) terms count
-    → Holds (atPlace model.queried (withCandidates (listed terms count) p)) (problemAfter x model.Kind.P)
+pub after-P : (x : Context) (p : Problem) (list : PrimeList) (r : Problem) → Holds p (x .problem) → Filled 64 (primes (tableOf (x .problem))) (list .terms) (list .count) → WithPrimes p list r
+    → Holds r (problemAfter x model.Kind.P)
 unfolding problemAfter
-after-P x p terms count h f = holds-candidates model.queried p (x .problem) (listed terms count) (primes (tableOf (x .problem))) h f
+after-P x p list r h f w =
+    let ts = primes (tableOf (x .problem)) in
+    subst⁻¹ (λ (y : Problem). Holds y (problemAfter x model.Kind.P)) (w .is)
+    (holds-candidates model.queried p (x .problem) (listed (list .terms) (r .candidates .weights) (list .count)) ts (map termCost ts) h
+    (holds-cands f (subst (λ (us : List Term). Filled 64 (map termCost us) (r .candidates .weights) (list .count)) (f .same) (w .weights)) refl))
 
 pub after-D : (x : Context) (p : Problem) (k : ℕ) → Holds p (x .problem) → operandNumber x ≡ k → k < p .candidates .count → p .candidates .count ≤ 64
     → Holds (withCandidates (termTaken (p .candidates) k) p) (problemAfter x model.Kind.D)
-unfolding problemAfter termsWithout
-after-D x p k h e l m = rw e record {
-  place = h .place;
-  settings = h .settings;
-  rows = h .rows;
-  cands = filled-without 64 (p .candidates .terms) (p .candidates .count) (x .problem .cands) k (h .cands) l m;
-}
+unfolding problemAfter entriesWithout
+after-D x p k h e l m =
+    let q = x .problem in
+    rw e record {
+      place = h .place;
+      settings = h .settings;
+      rows = h .rows;
+      cands = holds-cands (filled-without 64 (p .candidates .terms) (p .candidates .count) (q .cands) k (h .cands .terms) l m)
+          (filled-without 64 (p .candidates .weights) (p .candidates .count) (q .weights) k (h .cands .weights) l m) (weighed-without q k (held-weighed p q h));
+    }
 
 -- ---- queries
 
@@ -156,4 +191,4 @@ unfolding problemAfter
 after-query x p k t h = any-query (λ k. Holds (atPlace model.queried p) (problemAfter x k)) (kept, (kept, tt)) k t
   where
     kept : Holds (atPlace model.queried p) (model.atPlace model.queried (x .problem))
-    kept = holds-candidates model.queried p (x .problem) (p .candidates) (x .problem .cands) h (h .cands)
+    kept = holds-candidates model.queried p (x .problem) (p .candidates) (x .problem .cands) (x .problem .weights) h (h .cands)

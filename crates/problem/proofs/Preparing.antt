@@ -33,13 +33,13 @@ held-on p q z h = record { inputs = sym (h .settings .inputs); outputs = sym (h 
 
 -- the candidates are those that p holds
 held-cands : (p : Problem) (q : model.Problem) → Holds p q → take (p .candidates .count) (p .candidates .terms) ≡ q .cands
-held-cands p q h = h .cands .same
+held-cands p q h = h .cands .terms .same
 
 pub covered : (p : Problem) (all : ℕ) (r : Bool) → Sized p → all ≡ 2 ^ p .candidates .count - 1
     → TellsPresence (p .rows .on) (p .settings .n) (p .settings .m) (take (p .candidates .count) (p .candidates .terms)) all r → PresenceOfAll p r
 covered p all r z e c q h =
     c (tableOf q) (held-on p q z h)
-    ∙ ap₂ (λ (ts : List Term) (s : ℕ). presence (covering (basis (tableOf q) ts)) s) (held-cands p q h) (e ∙ ap (λ (k : ℕ). 2 ^ k - 1) (h .cands .counted))
+    ∙ ap₂ (λ (ts : List Term) (s : ℕ). presence (covering (basis (tableOf q) ts)) s) (held-cands p q h) (e ∙ ap (λ (k : ℕ). 2 ^ k - 1) (h .cands .terms .counted))
 
 -- ---- costs play no part in the listing
 
@@ -86,7 +86,7 @@ module _ (p : Problem) (z : Sized p) (old all : List ℕ) (k : ℕ) (a : AllRows
 -- the covers of the rows are those of the problem
 pub rows-listed : (p : Problem) (q : model.Problem) (rows : List ℕ) (n : ℕ) → Holds p q → RowsOf (basisOf q) rows → n ≡ p .candidates .count → rowCovers n rows ≡ irredundants (covering (basisOf q))
 unfolding rowCovers
-rows-listed p q rows n h d m = ap (λ (i : ℕ). irredundants (ofRows (replicate i 0) rows)) (m ∙ h .cands .counted) ∙ sym (d .listed)
+rows-listed p q rows n h d m = ap (λ (i : ℕ). irredundants (ofRows (replicate i 0) rows)) (m ∙ h .cands .terms .counted) ∙ sym (d .listed)
 
 -- ---- the matrix
 

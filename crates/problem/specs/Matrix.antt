@@ -4,10 +4,9 @@ use mathlib.Core.Path.{_≡_}
 use mathlib.Core.Bool.{Bool}
 use mathlib.Core.List.{List, map}
 use lib.ListN.{length, take, replicate}
-use Rattle.model.specs.declared.Term.{Term}
 use Rattle.model.specs.Sets.{coverable, irredundants, cheapest, ofRows}
 use Rattle.model.specs.Presence.{presence, allOf}
-use Rattle.model.specs.Candidates.{Basis, covering, termCost}
+use Rattle.model.specs.Candidates.{Basis, covering}
 use Rattle.model.specs.Commands as model
 use Rattle.model.specs.Commands.{basisOf}
 use Rattle.problem.specs.declared.Problem.{Problem}
@@ -43,7 +42,3 @@ pub record Prepares (p : Problem) (out : List ℕ) (m : Matrix) : Type 0 where
   pub size : length out ≡ 2048
   pub within : m .count ≤ 2048
   pub matrix : (q : model.Problem) → Holds p q → MatrixOf (basisOf q) (take (m .count) out) (m .covered)
-
-pub record Costs (ts : List Term) (count : ℕ) (r : List ℕ) : Type 0 where
-  pub size : length r ≡ 64
-  pub costs : take count r ≡ map termCost ts

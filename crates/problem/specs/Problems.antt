@@ -1,16 +1,18 @@
 -- The engine's record of the problem so far, what a command makes of it, and which problem of the definitions it holds.
 use Prim.Native.Nat.{ℕ, _+_, _-_, _≤_, _<_}
 use mathlib.Core.Path.{_≡_}
-use mathlib.Core.List.{List, [], _∷_, _++_}
+use mathlib.Core.List.{List, [], _∷_, _++_, map}
 use lib.Dec.{ltb, eqb}
 use lib.ListN.{getD, length, take, drop, set, replicate}
 use Rattle.model.specs.Base.{some, without}
 use Rattle.model.specs.declared.Term.{Term}
 use Rattle.model.specs.Table.{term}
+use Rattle.model.specs.Candidates.{termCost}
 use Rattle.model.specs.Commands as model
 use Rattle.model.specs.Commands.{Row}
 use Rattle.model.specs.Invariants.{Valid}
 use Rattle.bits.specs.Lists.{Filled}
+use Rattle.table.specs.declared.prime_list.PrimeList.{PrimeList}
 use Rattle.problem.specs.declared.Settings.{Settings}
 use Rattle.problem.specs.declared.TableRows.{TableRows}
 use Rattle.problem.specs.declared.Candidates.{Candidates}
@@ -21,12 +23,12 @@ use Rattle.problem.specs.declared.Problem.{Problem}
 abbrev pub noRows : TableRows
 noRows = record { on = replicate 256 0; dc = replicate 256 0; given = replicate 256 0 }
 
--- so many terms of an array
-abbrev pub listed : List Term → ℕ → Candidates
-listed terms count = record { terms = terms; count = count }
+-- so many terms of an array, and weights beside them
+abbrev pub listed : List Term → List ℕ → ℕ → Candidates
+listed terms weights count = record { terms = terms; weights = weights; count = count }
 
 unfoldable pub startedWith : ℕ → ℕ → ℕ → Problem
-startedWith n m place = record { place = place; settings = record { n = n; m = m }; rows = noRows; candidates = listed (replicate 64 (term 0 0 0)) 0 }
+startedWith n m place = record { place = place; settings = record { n = n; m = m }; rows = noRows; candidates = listed (replicate 64 (term 0 0 0)) (replicate 64 0) 0 }
 
 abbrev pub noProblem : Problem
 noProblem = startedWith 0 0 0
@@ -51,14 +53,19 @@ rowsPut rows [] = rows
 rowsPut rows (w ∷ ws) = rowsPut (rowPut rows (w .vertex) (w .on) (w .dc)) ws
 
 unfoldable pub termPut : Candidates → Term → Candidates
-termPut cs t = listed (set (cs .terms) (cs .count) t) (cs .count + 1)
+termPut cs t = listed (set (cs .terms) (cs .count) t) (set (cs .weights) (cs .count) (termCost t)) (cs .count + 1)
 
--- the first count terms without term k, which leaves one fewer; the rest of the array stays
-unfoldable pub termsWithout : ℕ → ℕ → List Term → List Term
-termsWithout k count terms = without k (take count terms) ++ drop (count - 1) terms
+-- the first count entries without entry k, which leaves one fewer; the rest of the array stays
+unfoldable pub entriesWithout : {A : Type 0} → ℕ → ℕ → List A → List A
+entriesWithout k count xs = without k (take count xs) ++ drop (count - 1) xs
 
 abbrev pub termTaken : Candidates → ℕ → Candidates
-termTaken cs k = listed (termsWithout k (cs .count) (cs .terms)) (cs .count - 1)
+termTaken cs k = listed (entriesWithout k (cs .count) (cs .terms)) (entriesWithout k (cs .count) (cs .weights)) (cs .count - 1)
+
+-- r is p behind a P: the primes of the list are its candidates, and their weights stand beside them
+pub record WithPrimes (p : Problem) (list : PrimeList) (r : Problem) : Type 0 where
+  pub is : r ≡ atPlace model.queried (withCandidates (listed (list .terms) (r .candidates .weights) (list .count)) p)
+  pub weights : Filled 64 (map termCost (take (list .count) (list .terms))) (r .candidates .weights) (list .count)
 
 -- ---- what it holds
 
@@ -81,15 +88,18 @@ pub record HoldsRows (r : TableRows) (t : model.TableRows) : Type 0 where
   pub dc-bytes : (v : ℕ) → v < 256 → getD (r .dc) v 0 ≡ getD (t .dc) v 0
   pub given : (v : ℕ) → v < 256 → ltb 0 (getD (r .given) v 0) ≡ some (eqb v) (t .given)
 
-abbrev pub HoldsCands : Candidates → List Term → Type 0
-HoldsCands cs ts = Filled 64 ts (cs .terms) (cs .count)
+-- the candidates, and the weights beside them. K5: "each weight equals the cost rule for its term"
+pub record HoldsCands (cs : Candidates) (ts : List Term) (ws : List ℕ) : Type 0 where
+  pub terms : Filled 64 ts (cs .terms) (cs .count)
+  pub weights : Filled 64 ws (cs .weights) (cs .count)
+  pub weighed : take (cs .count) (cs .weights) ≡ map termCost (take (cs .count) (cs .terms))
 
 -- p holds the problem q of the definitions
 pub record Holds (p : Problem) (q : model.Problem) : Type 0 where
   pub place : p .place ≡ q .place
   pub settings : HoldsSettings (p .settings) (q .settings)
   pub rows : HoldsRows (p .rows) (q .rows)
-  pub cands : HoldsCands (p .candidates) (q .cands)
+  pub cands : HoldsCands (p .candidates) (q .cands) (q .weights)
 
 -- p holds a problem that a job can come to
 pub record Reached (p : Problem) : Type 0 where

@@ -1,16 +1,17 @@
 // The problem so far: one record by value with its settings, its rows and its candidates.
 //
-// `refusals` has the refusals that operands can meet in it, `matrix` its covering matrix and the costs of its candidates. proofs/Keeping says
-// that the record goes on holding the problem of the definitions.
+// `refusals` has the refusals that operands can meet in it, `weights` what stands beside a candidate, `matrix` its covering matrix.
+// proofs/Keeping says that the record goes on holding the problem of the definitions.
 ghost use mathlib.Core.Path.{_≡_};
 ghost use Prim.Native.Nat.{_≤_, _<_, max};
 ghost use Rattle.model.specs.Commands as model;
-ghost use Rattle.problem.specs.Problems.{noProblem, startedWith, atPlace, withRows, withCandidates, termPut, termsWithout, termTaken, listed};
+ghost use Rattle.problem.specs.Problems.{noProblem, startedWith, atPlace, withRows, withCandidates, listed, termPut, termTaken, WithPrimes};
 use model::Term;
 use table::prime_list::PrimeList;
 
 pub mod matrix;
 pub mod refusals;
+pub mod weights;
 
 // What I sets: n inputs, m outputs.
 pub struct Settings {
@@ -25,9 +26,10 @@ pub struct TableRows {
     pub given: [u8; 256],
 }
 
-// The candidates: the first `count` terms.
+// The candidates: the first `count` terms, and beside each its weight.
 pub struct Candidates {
     pub terms: [Term; 64],
+    pub weights: [u16; 64],
     pub count: usize,
 }
 
@@ -64,6 +66,7 @@ pub fn started(n: u8, m: u8, place: u8) -> Problem
                 value: 0,
                 outputs: 0,
             }; 64],
+            weights: [0; 64],
             count: 0,
         },
     }
@@ -93,7 +96,7 @@ fn term_place(place: u8) -> u8
     place
 }
 
-// With one candidate more, behind the others: what T and A leave.
+// With one candidate more and its weight, behind the others: what T and A leave.
 pub fn with_term(p: Problem, t: Term) -> Problem
     requires { ⌜ p .candidates .count < 64 ⌝ }
     ensures { λ r. ⌜ r ≡ atPlace (max (p .place) model.inTerms) (withCandidates (termPut (p .candidates) t) p) ⌝ }
@@ -101,6 +104,7 @@ pub fn with_term(p: Problem, t: Term) -> Problem
     let mut candidates = p.candidates;
     let i = candidates.count;
     candidates.terms[i] = t;
+    candidates.weights[i] = weights::weight(t);
     candidates.count = i + 1;
     let place = term_place(p.place);
     let mut q = p;
@@ -109,18 +113,24 @@ pub fn with_term(p: Problem, t: Term) -> Problem
     q
 }
 
-// The first `count` terms without term k: those above it move down by one.
-fn moved_down(terms: [Term; 64], count: usize, k: usize) -> [Term; 64]
+// `count` candidates without candidate k: those above it move down by one, each with its weight.
+fn moved_down(terms: [Term; 64], weights: [u16; 64], count: usize, k: usize) -> Candidates
     requires { ⌜ (k < count) × (count ≤ 64) ⌝ }
-    ensures { λ r. ⌜ r ≡ termsWithout k count terms ⌝ }
+    ensures { λ r. ⌜ r ≡ termTaken (listed terms weights count) k ⌝ }
 {
-    let mut left = terms;
+    let mut ts = terms;
+    let mut ws = weights;
     let mut i = k;
     while i + 1 < count {
-        left[i] = left[i + 1];
+        ts[i] = ts[i + 1];
+        ws[i] = ws[i + 1];
         i += 1;
     }
-    left
+    Candidates {
+        terms: ts,
+        weights: ws,
+        count: count - 1,
+    }
 }
 
 // Without candidate k: what D leaves.
@@ -129,29 +139,33 @@ pub fn without_term(p: Problem, k: usize) -> Problem
     ensures { λ r. ⌜ r ≡ withCandidates (termTaken (p .candidates) k) p ⌝ }
 {
     let terms = p.candidates.terms;
-    let count = p.candidates.count;
-    let candidates = Candidates {
-        terms: moved_down(terms, count, k),
-        count: count - 1,
-    };
+    let weights = p.candidates.weights;
+    let candidates = moved_down(terms, weights, p.candidates.count, k);
     let mut q = p;
     q.candidates = candidates;
     q
 }
 
-// With the primes as its candidates.
+// With the primes as its candidates, and their weights: what P leaves.
 pub fn with_primes(p: Problem, primes: PrimeList) -> Problem
-    ensures { λ r. ⌜ r ≡ atPlace model.queried (withCandidates (listed (primes .terms) (primes .count)) p) ⌝ }
+    requires { ⌜ primes .count ≤ 64 ⌝ }
+    ensures { λ r. ⌜ WithPrimes p primes r ⌝ }
 {
     let terms = primes.terms;
-    let candidates = Candidates {
-        terms: terms,
-        count: primes.count,
-    };
-    let mut q = p;
-    q.candidates = candidates;
-    q.place = 4;
-    q
+    let count = primes.count;
+    let weights = weights::weights(terms, count);
+    let settings = p.settings;
+    let rows = p.rows;
+    Problem {
+        place: 4,
+        settings: settings,
+        rows: rows,
+        candidates: Candidates {
+            terms: terms,
+            weights: weights,
+            count: count,
+        },
+    }
 }
 
 // Behind an L or a C.

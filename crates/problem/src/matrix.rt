@@ -1,15 +1,11 @@
 // The covering matrix of a problem: what L and C search, and refusal 12.
 ghost use mathlib.Core.Path.{_≡_};
-ghost use Prim.Native.Nat.{_≤_};
-ghost use lib.Count.{ones};
-ghost use lib.ListN.{length, take};
-ghost use Rattle.model.specs.Candidates.{termCost};
+ghost use lib.ListN.{length};
 ghost use Rattle.problem.specs.Problems.{Sized};
-ghost use Rattle.problem.specs.Matrix.{PresenceOfAll, PutsRows, Prepares, Costs};
+ghost use Rattle.problem.specs.Matrix.{PresenceOfAll, PutsRows, Prepares};
 use crate::Problem;
 use bits::set;
 use incidence::presence;
-use model::Term;
 use rows::reduction;
 
 // How many rows stand in front of the array that they were put into, and whether each on cell is held by a candidate: 12 does not apply.
@@ -67,37 +63,4 @@ pub fn prepare(p: Problem, out: &mut [u64]) -> Matrix
         count: put_rows(p, out),
         covered: covered,
     }
-}
-
-// The costs of the candidates.
-pub fn costs(terms: [Term; 64], count: usize) -> [u16; 64]
-    requires { ⌜ count ≤ 64 ⌝ }
-    ensures { λ r. ⌜ Costs (take count terms) count r ⌝ }
-{
-    let mut all = [0u16; 64];
-    let mut i: usize = 0;
-    while i < count {
-        let t = terms[i];
-        all[i] = cost(t);
-        i += 1;
-    }
-    all
-}
-
-// The cost of a term: 1 with no literal or one, which goes straight into the sum; from two on 1 and the literals.
-fn cost(t: Term) -> u16
-    ensures { λ r. ⌜ r ≡ termCost t ⌝ }
-{
-    let k = literals(t.care);
-    if k < 2 {
-        return 1;
-    }
-    1 + k
-}
-
-// The ones in care.
-fn literals(care: u8) -> u16
-    ensures { λ r. ⌜ (r ≡ ones care) × (r ≤ 8) ⌝ }
-{
-    u8::count_ones(care) as u16
 }

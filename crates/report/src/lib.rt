@@ -1,8 +1,8 @@
 // Prints what a call of the engine returned and wrote: number, offset and written in decimal with single spaces, then the answer bytes in
 // lower-case hexadecimal, 32 bytes a line.
 //
-// `print` has no `ensures`: it changes nothing that a contract can speak of, and what stands on standard output is in no contract of
-// `io`. The gate holds the output of the programs that call it to their files `stdout`.
+// `print` and `print_byte` have no `ensures`: they change nothing that a contract can speak of, and what stands on standard output is in no
+// contract of `io`. The gate holds the output of the programs that call them to their files `stdout`.
 ghost use Prim.Native.Nat.{_<_, _≤_};
 use libc::STDOUT_FILENO;
 
@@ -23,6 +23,12 @@ fn high(b: u8) -> u8 {
 
 fn low(b: u8) -> u8 {
     digit(b % 16)
+}
+
+// Prints a byte by its two digits.
+pub fn print_byte(b: u8) {
+    let digits = [high(b), low(b)];
+    io::write_all(STDOUT_FILENO, &digits);
 }
 
 // n, or 32 where n is more.

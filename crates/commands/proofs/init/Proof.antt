@@ -18,7 +18,8 @@ started-requires : tie.Need-started-requires
 started-requires c κs = search needs
 
 returns-2 : tie.Need-returns-2
-returns-2 c = init-good (c .before .before .before .args .n) (c .before .before .before .args .m) _ _ (c .before .before .init-refusal .ensures) (c .before .if1 .left) (c .started .ensures)
+returns-2 c = let c3 = c .before .before .before in
+    init-good (c3 .args .p) (c3 .args .n) (c3 .args .m) _ _ (c .before .before .init-refusal .ensures) (c .before .if1 .left) (c .started .ensures)
 
 pub init-spec : {M : Type 1} → statement M
 init-spec = tie.close (tie.spec init-refusal-requires refused-requires returns started-requires returns-2)

@@ -1,4 +1,5 @@
 -- `commands::primes` meets its contract.
+use Prim.Native.Nat.{_≤_}
 use Rattle.problem.proofs.Keeping.{reached-sized}
 use Rattle.commands.proofs.Handling.{primes-many, few-primes, primes-long, primes-kept}
 use borrow.Author.Needs.{needs}
@@ -18,9 +19,13 @@ returns : tie.Need-returns
 returns c = let c4 = c .before .before .before .before in let c10 = c4 .before .before .before .before .before .before in
     primes-many (c10 .args .p) (reached-sized _ (c10 .pre)) _ (c4 .allowed .ensures) _ (c .before .before .primes .ensures) _ _ (c .before .if1 .taken) (c .refused .ensures)
 
+-- a list that is found has at most 64 primes
+few : (c : tie.After-primes) → c .primes .result .count ≤ 64
+few c = let c8 = c .before .before .before .before .before .before .before .before in
+    few-primes (c8 .args .p) (reached-sized _ (c8 .pre)) _ (c .before .before .allowed .ensures) _ (c .primes .ensures) (c8 .pre)
+
 put-primes-requires : tie.Need-put-primes-requires
-put-primes-requires c κs = let c3 = c .before .before .before in let c11 = c3 .before .before .before .before .before .before .before .before in
-    few-primes (c11 .args .p) (reached-sized _ (c11 .pre)) _ (c3 .before .before .allowed .ensures) _ (c3 .primes .ensures) (c11 .pre)
+put-primes-requires c κs = few (c .before .before .before)
 
 enum-told : tie.Need-enum-told
 enum-told c = search needs
@@ -32,7 +37,7 @@ enum-known-n : tie.Need-enum-known-n
 enum-known-n c = search needs
 
 with-primes-requires : tie.Need-with-primes-requires
-with-primes-requires c κs = search needs
+with-primes-requires c κs = few (c .before .before .before .before .before .before .before .before .before)
 
 same-length : tie.Need-same-length
 same-length c = search needs

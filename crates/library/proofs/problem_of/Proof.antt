@@ -14,9 +14,12 @@ padded-requires-2 c κs = search needs
 terms-of-requires : tie.Need-terms-of-requires
 terms-of-requires c κs = search needs
 
+weights-requires : tie.Need-weights-requires
+weights-requires c κs = search needs
+
 returns : tie.Need-returns
-returns c = let c6 = c .before .before .before .before .before .before in
-    call-holds (now (c6 .args .words)) (c6 .pre .0) (c6 .pre .1) (c .before .before .padded .ensures) (c .before .padded2 .ensures) (c .terms-of .ensures)
+returns c = let c2 = c .before .before in let c7 = c2 .before .before .before .before .before in
+    call-holds (now (c7 .args .words)) (c7 .pre .0) (c7 .pre .1) (c2 .before .padded .ensures) (c2 .padded2 .ensures) (c .before .terms-of .ensures) (c .weights .ensures)
 
 pub problem-of-spec : {M : Type 1} → statement M
-problem-of-spec = tie.close (tie.spec padded-requires padded-requires-2 terms-of-requires returns)
+problem-of-spec = tie.close (tie.spec padded-requires padded-requires-2 terms-of-requires weights-requires returns)

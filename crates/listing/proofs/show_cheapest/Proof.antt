@@ -12,8 +12,8 @@ slice-aggregate-rows c = search needs
 rows-requires : tie.Need-rows-requires
 rows-requires c κs = search needs
 
-costs-requires : tie.Need-costs-requires
-costs-requires c κs = search needs
+weights-requires : tie.Need-weights-requires
+weights-requires c κs = search needs
 
 array-share-prefix-all : tie.Need-array-share-prefix-all
 array-share-prefix-all c = search needs
@@ -21,11 +21,11 @@ array-share-prefix-all c = search needs
 slice-aggregate-cheapest : tie.Need-slice-aggregate-cheapest
 slice-aggregate-cheapest c = sym (length-take-le _ _ (array-share-prefix-all (c .before)))
 
-array-share-prefix-costs : tie.Need-array-share-prefix-costs
-array-share-prefix-costs c = search needs
+array-share-prefix-weights : tie.Need-array-share-prefix-weights
+array-share-prefix-weights c = search needs
 
 slice-aggregate-cheapest-2 : tie.Need-slice-aggregate-cheapest-2
-slice-aggregate-cheapest-2 c = sym (length-take-le _ _ (array-share-prefix-costs (c .before)))
+slice-aggregate-cheapest-2 c = sym (length-take-le _ _ (array-share-prefix-weights (c .before)))
 
 cheapest-requires : tie.Need-cheapest-requires
 cheapest-requires c κs = let c2 = c .before .before in
@@ -65,6 +65,6 @@ returns-3 : tie.Need-returns-3
 returns-3 c = search needs
 
 pub show-cheapest-spec : {M : Type 1} → statement M
-show-cheapest-spec = tie.close (tie.spec slice-aggregate-rows rows-requires costs-requires array-share-prefix-all slice-aggregate-cheapest
-    array-share-prefix-costs slice-aggregate-cheapest-2 cheapest-requires enum-known-set slice-aggregate-write-all write-all-requires
+show-cheapest-spec = tie.close (tie.spec slice-aggregate-rows rows-requires weights-requires array-share-prefix-all slice-aggregate-cheapest
+    array-share-prefix-weights slice-aggregate-cheapest-2 cheapest-requires enum-known-set slice-aggregate-write-all write-all-requires
     print-number-requires print-number-requires-2 slice-aggregate-write-all-2 write-all-requires-2 enum-told returns returns-2 returns-3)

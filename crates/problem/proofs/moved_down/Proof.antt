@@ -1,52 +1,82 @@
 -- `problem::moved_down` meets its contract.
-use Prim.Native.Nat.{_-_}
+use Prim.Native.Nat.{ℕ, _-_, _≤_}
 use native.Mathlib.Omega.{arith}
-use mathlib.Core.Path.{refl}
+use mathlib.Core.Path.{refl, ap₂}
+use mathlib.Core.List.{List}
+use lib.ListN.{length}
+use Rattle.model.specs.declared.Term.{Term}
 use Rattle.model.specs.Table.{term}
+use Rattle.problem.specs.Problems.{listed}
 use Rattle.problem.proofs.Moving.{MovedDown, moved-none, moved-next, moved-all}
 use Rattle.problem.proofs.moved_down.Statement.{statement}
 use Rattle.problem.proofs.moved_down.Tie as tie
 
 abbrev Inv-loop : tie.InvT-loop
-Inv-loop count k left₀ i₀ left i = MovedDown left₀ count k i left
+Inv-loop count k ts₀ ws₀ i₀ ts ws i = MovedDown ts₀ count k i ts × MovedDown ws₀ count k i ws
 
 abbrev μ-loop : tie.MeasureT-loop
-μ-loop count k left₀ i₀ left i = count - i
+μ-loop count k ts₀ ws₀ i₀ ts ws i = count - i
+
+-- the arrays are as long as the candidates, or longer
+long : (c : tie.Start Inv-loop μ-loop) → (c .args .count ≤ length (c .args .terms)) × (c .args .count ≤ length (c .args .weights))
+long c = (omega (arith, c .pre .1, c .good .0 .1), omega (arith, c .pre .1, c .good .1 .0 .1))
 
 loop-holds : tie.Need-loop-holds Inv-loop μ-loop
-loop-holds c = moved-none _ _ _ (c .pre .0) (omega (arith, c .pre .1, c .good .0 .1))
+loop-holds c = (moved-none _ _ _ (c .pre .0) (long c .0), moved-none _ _ _ (c .pre .0) (long c .1))
 
 add-loop : tie.Need-add-loop Inv-loop μ-loop
-add-loop c = omega (arith, c .loop .inv .within, c .before .pre .1)
+add-loop c = omega (arith, c .loop .inv .0 .within, c .before .pre .1)
 
-add-left : tie.Need-add-left Inv-loop μ-loop
-add-left c = omega (arith, c .before .loop .inv .within, c .before .before .pre .1)
+add-ts : tie.Need-add-ts Inv-loop μ-loop
+add-ts c = omega (arith, c .before .loop .inv .0 .within, c .before .before .pre .1)
 
-mul-left : tie.Need-mul-left Inv-loop μ-loop
-mul-left c = omega (arith, c .before .loop .inv .within, c .before .before .pre .1)
+mul-ts : tie.Need-mul-ts Inv-loop μ-loop
+mul-ts c = omega (arith, c .before .loop .inv .0 .within, c .before .before .pre .1)
 
-array-copy-out-left : tie.Need-array-copy-out-left Inv-loop μ-loop
-array-copy-out-left c = omega (arith, c .before .before .pre .1)
+array-copy-out-ts : tie.Need-array-copy-out-ts Inv-loop μ-loop
+array-copy-out-ts c = omega (arith, c .before .before .pre .1)
 
-mul-left-2 : tie.Need-mul-left-2 Inv-loop μ-loop
-mul-left-2 c = omega (arith, c .before .before .loop .inv .within, c .before .before .before .pre .1)
+mul-ts-2 : tie.Need-mul-ts-2 Inv-loop μ-loop
+mul-ts-2 c = omega (arith, c .before .before .loop .inv .0 .within, c .before .before .before .pre .1)
 
-array-set-from-left : tie.Need-array-set-from-left Inv-loop μ-loop
-array-set-from-left c = omega (arith, c .before .before .loop .inv .within, c .before .before .before .pre .1)
+array-set-from-ts : tie.Need-array-set-from-ts Inv-loop μ-loop
+array-set-from-ts c = omega (arith, c .before .before .loop .inv .0 .within, c .before .before .before .pre .1)
+
+add-ws : tie.Need-add-ws Inv-loop μ-loop
+add-ws c = omega (arith, c .before .before .loop .inv .0 .within, c .before .before .before .pre .1)
+
+mul-ws : tie.Need-mul-ws Inv-loop μ-loop
+mul-ws c = omega (arith, c .before .before .loop .inv .0 .within, c .before .before .before .pre .1)
+
+array-read-ws : tie.Need-array-read-ws Inv-loop μ-loop
+array-read-ws c = omega (arith, c .before .loop-test .taken, c .before .before .before .pre .1)
+
+mul-ws-2 : tie.Need-mul-ws-2 Inv-loop μ-loop
+mul-ws-2 c = omega (arith, c .before .before .loop .inv .0 .within, c .before .before .before .pre .1)
+
+array-write-ws : tie.Need-array-write-ws Inv-loop μ-loop
+array-write-ws c = omega (arith, c .before .before .loop .inv .0 .within, c .before .before .before .pre .1)
 
 add-i : tie.Need-add-i Inv-loop μ-loop
-add-i c = omega (arith, c .before .before .loop .inv .within, c .before .before .before .pre .1)
+add-i c = omega (arith, c .before .before .loop .inv .0 .within, c .before .before .before .pre .1)
 
 loop-less : tie.Need-loop-less Inv-loop μ-loop
-loop-less c = omega (arith, c .before .before .loop .inv .within)
+loop-less c = omega (arith, c .before .before .loop .inv .0 .within)
 
 loop-again : tie.Need-loop-again Inv-loop μ-loop
-loop-again c = let c3 = c .before .before .before in
-    moved-next _ _ _ (c3 .pre .0) (omega (arith, c3 .pre .1, c3 .good .0 .1)) _ _ (term 0 0 0) _ (c .before .before .loop .inv) (c .before .loop-test .taken) refl
+loop-again c = let c1 = c .before in let c2 = c1 .before in let c3 = c2 .before in (
+  moved-next _ _ _ (c3 .pre .0) (long c3 .0) _ _ (term 0 0 0) _ (c2 .loop .inv .0) (c1 .loop-test .taken) refl,
+  moved-next _ _ _ (c3 .pre .0) (long c3 .1) _ _ 0 _ (c2 .loop .inv .1) (c1 .loop-test .taken) refl,
+)
+
+sub-t24 : tie.Need-sub-t24 Inv-loop μ-loop
+sub-t24 c = omega (arith, c .before .loop .inv .0 .within)
 
 returns : tie.Need-returns Inv-loop μ-loop
-returns c = moved-all _ _ _ (c .before .before .pre .0) (omega (arith, c .before .before .pre .1, c .before .before .good .0 .1)) _ _ (c .before .loop .inv) (c .loop-test .left)
+returns c = let c1 = c .before in let c2 = c1 .before in
+    ap₂ (λ (ts : List Term) (ws : List ℕ). listed ts ws (c2 .args .count - 1))
+    (moved-all _ _ _ (c2 .pre .0) (long c2 .0) _ _ (c1 .loop .inv .0) (c .loop-test .left)) (moved-all _ _ _ (c2 .pre .0) (long c2 .1) _ _ (c1 .loop .inv .1) (c .loop-test .left))
 
 pub moved-down-spec : {M : Type 1} → statement M
-moved-down-spec = tie.close (tie.spec Inv-loop μ-loop loop-holds add-loop add-left mul-left array-copy-out-left mul-left-2 array-set-from-left add-i
-    loop-less loop-again returns)
+moved-down-spec = tie.close (tie.spec Inv-loop μ-loop loop-holds add-loop add-ts mul-ts array-copy-out-ts mul-ts-2 array-set-from-ts add-ws mul-ws
+    array-read-ws mul-ws-2 array-write-ws add-i loop-less loop-again sub-t24 returns)

@@ -10,6 +10,15 @@ mul-t c = search needs
 element-set-from-t : tie.Need-element-set-from-t
 element-set-from-t c = search needs
 
+weight-requires : tie.Need-weight-requires
+weight-requires c κs = search needs
+
+mul-candidates : tie.Need-mul-candidates
+mul-candidates c = search needs
+
+element-write-candidates : tie.Need-element-write-candidates
+element-write-candidates c = search needs
+
 add-candidates : tie.Need-add-candidates
 add-candidates c = search needs
 
@@ -18,7 +27,8 @@ term-place-requires c κs = search needs
 
 returns : tie.Need-returns
 unfolding termPut
-returns c = rw (c .term-place .ensures)
+returns c = rw (c .term-place .ensures, c .before .weight .ensures)
 
 pub with-term-spec : {M : Type 1} → statement M
-with-term-spec = tie.close (tie.spec mul-t element-set-from-t add-candidates term-place-requires returns)
+with-term-spec = tie.close (tie.spec mul-t element-set-from-t weight-requires mul-candidates element-write-candidates add-candidates
+    term-place-requires returns)

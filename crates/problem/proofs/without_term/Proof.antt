@@ -6,11 +6,8 @@ use Rattle.problem.proofs.without_term.Tie as tie
 moved-down-requires : tie.Need-moved-down-requires
 moved-down-requires c κs = search needs
 
-sub-t8 : tie.Need-sub-t8
-sub-t8 c = search needs
-
 returns : tie.Need-returns
 returns c = rw (c .moved-down .ensures)
 
 pub without-term-spec : {M : Type 1} → statement M
-without-term-spec = tie.close (tie.spec moved-down-requires sub-t8 returns)
+without-term-spec = tie.close (tie.spec moved-down-requires returns)

@@ -116,20 +116,15 @@ step-requires : tie.Need-step-requires Inv-loop μ-loop
 step-requires c κs = let c2 = c .before .before in let c8 = c2 .before .before .before .before .before .before in
     (reached (c8 .before .loop .inv), (c8 .loop-test .taken, omega (arith, slice-aggregate-found (c .before), array-share-prefix-rows c2)))
 
-pack-requires : tie.Need-pack-requires Inv-loop μ-loop
-pack-requires c κs = let c14 = c .before .before .before .before .before .before .before .before .before .before .before .before .before .before in
-    let c19 = c14 .before .before .before .before .before in
-    (omega (arith, c14 .loop-test .taken, c19 .pre .0), omega (arith, c14 .before .loop .inv .counted, c14 .before .loop .inv .fits, c19 .pre .1))
-
 same-length : tie.Need-same-length Inv-loop μ-loop
-same-length c = let c6 = c .before .before .before .before .before .before in
-    let c16 = c6 .before .before .before .before .before .before .before .before .before .before in
-    let l = c16 .loop in same-len-mid (l .written) (length (l .answers) - l .written) (l .answers) (c6 .step .last .1 .1 .1 .1 .1 .0) (c6 .step .kept .1 .1 .1 .1 .1 .0) ∙ long (l .inv)
+same-length c = let c5 = c .before .before .before .before .before in
+    let c15 = c5 .before .before .before .before .before .before .before .before .before .before in
+    let l = c15 .loop in same-len-mid (l .written) (length (l .answers) - l .written) (l .answers) (c5 .step .last .1 .1 .1 .1 .1 .0) (c5 .step .kept .1 .1 .1 .1 .1 .0) ∙ long (l .inv)
 
 returns : tie.Need-returns Inv-loop μ-loop
-returns c = let c6 = c .before .before .before .before .before .before in
-    let c15 = c6 .before .before .before .before .before .before .before .before .before in
-    going-refused (c15 .before .loop .inv) (c15 .loop-test .taken) (stepped c6) (c .before .if1 .taken) (c .pack .ensures)
+returns c = let c5 = c .before .before .before .before .before in
+    let c14 = c5 .before .before .before .before .before .before .before .before .before in
+    going-refused (c14 .before .loop .inv) (c14 .loop-test .taken) (stepped c5) (c .if1 .taken) refl
 
 add-written : tie.Need-add-written Inv-loop μ-loop
 add-written c = let c6 = c .before .before .before .before .before .before in
@@ -139,25 +134,20 @@ add-written c = let c6 = c .before .before .before .before .before .before in
 is-end-requires : tie.Need-is-end-requires Inv-loop μ-loop
 is-end-requires c κs = tt
 
-add-pack : tie.Need-add-pack Inv-loop μ-loop
-add-pack c =
+add-t27 : tie.Need-add-t27 Inv-loop μ-loop
+add-t27 c =
     let c17 = c .before .before .before .before .before .before .before .before .before .before .before .before .before .before .before .before .before in
     omega (arith, c17 .loop-test .taken, c17 .before .before .before .before .before .pre .0)
 
-pack-requires-2 : tie.Need-pack-requires-2 Inv-loop μ-loop
-pack-requires-2 c κs = let c3 = c .before .before .before in let c8 = c3 .before .before .before .before .before in
-    let c17 = c8 .before .before .before .before .before .before .before .before .before in let c22 = c17 .before .before .before .before .before in
-    (omega (arith, c17 .loop-test .taken, c22 .pre .0), omega (arith, room-left (c17 .before .loop .inv) (c17 .loop-test .taken) (stepped c8) (c3 .if1 .left), c22 .pre .1))
-
 same-length-2 : tie.Need-same-length-2 Inv-loop μ-loop
-same-length-2 c = let c9 = c .before .before .before .before .before .before .before .before .before in
-    let c19 = c9 .before .before .before .before .before .before .before .before .before .before in
-    let l = c19 .loop in same-len-mid (l .written) (length (l .answers) - l .written) (l .answers) (c9 .step .last .1 .1 .1 .1 .1 .0) (c9 .step .kept .1 .1 .1 .1 .1 .0) ∙ long (l .inv)
+same-length-2 c = let c8 = c .before .before .before .before .before .before .before .before in
+    let c18 = c8 .before .before .before .before .before .before .before .before .before .before in
+    let l = c18 .loop in same-len-mid (l .written) (length (l .answers) - l .written) (l .answers) (c8 .step .last .1 .1 .1 .1 .1 .0) (c8 .step .kept .1 .1 .1 .1 .1 .0) ∙ long (l .inv)
 
 returns-2 : tie.Need-returns-2 Inv-loop μ-loop
-returns-2 c = let c2 = c .before .before in let c4 = c2 .before .before in let c9 = c4 .before .before .before .before .before in
-    let c18 = c9 .before .before .before .before .before .before .before .before .before in
-    going-ended (c18 .before .loop .inv) (c18 .loop-test .taken) (stepped c9) (c4 .if1 .left) (sym (end-is c2) ∙ c .before .if2 .taken) (c .pack2 .ensures)
+returns-2 c = let c1 = c .before in let c3 = c1 .before .before in let c8 = c3 .before .before .before .before .before in
+    let c17 = c8 .before .before .before .before .before .before .before .before .before in
+    going-ended (c17 .before .loop .inv) (c17 .loop-test .taken) (stepped c8) (c3 .if1 .left) (sym (end-is c1) ∙ c .if2 .taken) refl
 
 add-at : tie.Need-add-at Inv-loop μ-loop
 add-at c =
@@ -195,18 +185,14 @@ loop-less-2 c =
 loop-again-2 : tie.Need-loop-again-2 Inv-loop μ-loop
 loop-again-2 c = next (c .before .before)
 
-pack-requires-3 : tie.Need-pack-requires-3 Inv-loop μ-loop
-pack-requires-3 c κs = let c5 = c .before .before .before .before .before in
-    let i = c .before .loop .inv in (omega (arith, i .within, c5 .pre .0), omega (arith, i .counted, i .fits, c5 .pre .1))
-
 same-length-3 : tie.Need-same-length-3 Inv-loop μ-loop
-same-length-3 c = long (c .before .before .loop .inv)
+same-length-3 c = long (c .before .loop .inv)
 
 returns-3 : tie.Need-returns-3 Inv-loop μ-loop
-returns-3 c = going-cut (c .before .before .loop .inv) (c .before .loop-test .left) (c .pack3 .ensures)
+returns-3 c = going-cut (c .before .loop .inv) (c .loop-test .left)
 
 pub run-spec : {M : Type 1} → statement M
 run-spec = tie.close (tie.spec Inv-loop μ-loop empty-requires loop-holds shared-slice-read-kind-of kind-of-requires slice-aggregate-refresh
-    refresh-requires is-query-requires array-share-prefix-rows slice-aggregate-found sub-free part-free-start part-free-end step-requires pack-requires
-    same-length returns add-written is-end-requires add-pack pack-requires-2 same-length-2 returns-2 add-at width-of-requires add-at-2 starts-requires
-    read-rows-requires loop-less loop-again loop-less-2 loop-again-2 pack-requires-3 same-length-3 returns-3)
+    refresh-requires is-query-requires array-share-prefix-rows slice-aggregate-found sub-free part-free-start part-free-end step-requires same-length
+    returns add-written is-end-requires add-t27 same-length-2 returns-2 add-at width-of-requires add-at-2 starts-requires read-rows-requires loop-less
+    loop-again loop-less-2 loop-again-2 same-length-3 returns-3)

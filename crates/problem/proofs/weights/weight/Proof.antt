@@ -1,9 +1,9 @@
--- `problem::matrix::cost` meets its contract.
+-- `problem::weights::weight` meets its contract.
 use native.Mathlib.Omega.{arith}
 use Rattle.model.proofs.Costs.{cost-few, cost-many}
 use borrow.Author.Needs.{needs}
-use Rattle.problem.proofs.matrix.cost.Statement.{statement}
-use Rattle.problem.proofs.matrix.cost.Tie as tie
+use Rattle.problem.proofs.weights.weight.Statement.{statement}
+use Rattle.problem.proofs.weights.weight.Tie as tie
 
 literals-requires : tie.Need-literals-requires
 literals-requires c κs = search needs
@@ -21,5 +21,5 @@ returns-2 c =
     let h = c .before .literals .ensures .0 in
     omega (arith, cost-many (c .before .before .args .t) (omega (arith, h)), h)
 
-pub cost-spec : {M : Type 1} → statement M
-cost-spec = tie.close (tie.spec literals-requires returns add-result returns-2)
+pub weight-spec : {M : Type 1} → statement M
+weight-spec = tie.close (tie.spec literals-requires returns add-result returns-2)

@@ -1,14 +1,12 @@
--- `problem::matrix::costs` meets its contract.
+-- `problem::weights::weights` meets its contract.
 use Prim.Native.Nat.{ℕ, _-_, _≤_}
 use mathlib.Core.Path.{_≡_, refl, subst}
-use mathlib.Core.List.{map}
-use lib.ListN.{take}
 use Rattle.model.specs.Table.{term}
 use Rattle.model.specs.Candidates.{termCost}
 use native.Mathlib.Omega.{arith}
-use Rattle.bits.proofs.Lists.{MappedBelow, mapped-next}
-use Rattle.problem.proofs.matrix.costs.Statement.{statement}
-use Rattle.problem.proofs.matrix.costs.Tie as tie
+use Rattle.bits.proofs.Lists.{MappedBelow, mapped-next, mapped-front}
+use Rattle.problem.proofs.weights.weights.Statement.{statement}
+use Rattle.problem.proofs.weights.weights.Tie as tie
 
 abbrev Inv-loop : tie.InvT-loop
 Inv-loop count terms all₀ i₀ all i = (i ≤ count) × MappedBelow termCost 64 terms i all
@@ -25,8 +23,8 @@ mul-t c = omega (arith, c .before .loop .inv .0)
 array-copy-out-t : tie.Need-array-copy-out-t Inv-loop μ-loop
 array-copy-out-t c = omega (arith, c .before .loop .inv .0, c .before .before .pre)
 
-cost-requires : tie.Need-cost-requires Inv-loop μ-loop
-cost-requires c κs = tt
+weight-requires : tie.Need-weight-requires Inv-loop μ-loop
+weight-requires c κs = tt
 
 mul-all : tie.Need-mul-all Inv-loop μ-loop
 mul-all c = omega (arith, c .before .before .before .loop .inv .0)
@@ -44,17 +42,16 @@ loop-again : tie.Need-loop-again Inv-loop μ-loop
 loop-again c = let c3 = c .before .before .before in let c4 = c3 .before in (
   omega arith,
   mapped-next termCost 64 (term 0 0 0) (c4 .args .t1) (c3 .loop .i) (c3 .loop .all) _ (omega (arith, c4 .pre))
-      (omega (arith, c4 .good .0 .1, c4 .pre)) (c .cost .ensures) (c3 .loop .inv .1),
+      (omega (arith, c4 .good .0 .1, c4 .pre)) (c .weight .ensures) (c3 .loop .inv .1),
 )
 
 returns : tie.Need-returns Inv-loop μ-loop
-returns c = record {
-  size = c .before .loop .inv .1 .0;
-  costs = let e : c .before .loop .i ≡ c .before .before .args .count = omega
-      (arith, c .before .loop .inv .0) in subst (λ (k : ℕ). take k (c .before .loop .all) ≡ map termCost (take k (c .before .before .args .t1))) e
-      (c .before .loop .inv .1 .1);
-}
+returns c =
+    let c1 = c .before in let c2 = c1 .before in
+    let e : c1 .loop .i ≡ c2 .args .count = omega (arith, c1 .loop .inv .0) in
+    mapped-front termCost 64 (c2 .args .t1) _ (c1 .loop .all) (omega (arith, c2 .pre, c2 .good .0 .1))
+    (subst (λ (k : ℕ). MappedBelow termCost 64 (c2 .args .t1) k (c1 .loop .all)) e (c1 .loop .inv .1))
 
-pub costs-spec : {M : Type 1} → statement M
-costs-spec = tie.close (tie.spec Inv-loop μ-loop loop-holds mul-t array-copy-out-t cost-requires mul-all array-write-all add-i loop-less loop-again
+pub weights-spec : {M : Type 1} → statement M
+weights-spec = tie.close (tie.spec Inv-loop μ-loop loop-holds mul-t array-copy-out-t weight-requires mul-all array-write-all add-i loop-less loop-again
     returns)

@@ -1,10 +1,10 @@
--- `problem::matrix::literals` meets its contract.
+-- `problem::weights::literals` meets its contract.
 use Prim.Native.Nat.{_<_}
 use native.Mathlib.Omega.{arith}
 use mathlib.Core.Path.{refl}
 use lib.Count.{ones-le}
-use Rattle.problem.proofs.matrix.literals.Statement.{statement}
-use Rattle.problem.proofs.matrix.literals.Tie as tie
+use Rattle.problem.proofs.weights.literals.Statement.{statement}
+use Rattle.problem.proofs.weights.literals.Tie as tie
 
 cast-result : tie.Need-cast-result
 cast-result c = let h : c .args .care < 256 = omega arith in omega (arith, ones-le 8 (c .args .care) h)
