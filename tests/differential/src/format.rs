@@ -14,7 +14,8 @@
 //!    borders, in every run; `selftest.rs`: the paper's cases of it;
 //! 5. `fresh.rs`: whether a fresh job with the same table has it, and which pages go on behind it;
 //! 6. `expanded.rs`: what it is written out as, where it stands for other commands as B does;
-//! 7. `walk.rs`: what it makes of table and candidates, and how long its answer is.
+//! 7. `walk.rs`: what it makes of table and candidates, and how long its answer is;
+//! 8. `reference/record.rs`: what a dump of the record shows of it, as its place.
 //!
 //! A stored job that has it needs `stored.rs` too. Every command at every place, damage, cuts and
 //! moved or doubled commands go by the table, and a run fails where a command was never accepted

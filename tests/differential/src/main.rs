@@ -3,6 +3,7 @@
 //! Arguments, all optional: seed, count of jobs, and the word `trace` to print each job before
 //! the engine gets it (for an engine that does not come back).
 
+mod dump;
 mod engine;
 mod exact;
 mod expanded;
@@ -16,6 +17,7 @@ mod rng;
 mod selftest;
 mod stored;
 mod tally;
+mod threads;
 mod walk;
 
 use generate::Case;
@@ -58,8 +60,10 @@ fn main() -> ExitCode {
         trace: words.iter().any(|word| word == "trace"),
     };
     println!("seed {seed}, {count} jobs");
-    let failed =
-        self_tests(&mut rng, &mut run) || jobs(&mut rng, &mut run, count) || stored_jobs(&mut run);
+    let failed = self_tests(&mut rng, &mut run)
+        || jobs(&mut rng, &mut run, count)
+        || records(&mut rng, &mut run)
+        || stored_jobs(&mut run);
     let failures = if failed { 1 } else { after_jobs(&run) };
     println!("{} passed, {failures} failed", run.passed);
     ExitCode::from(u8::from(failures > 0))
@@ -107,6 +111,27 @@ fn jobs(rng: &mut Rng, run: &mut Run, count: usize) -> bool {
         run.skipped
     );
     !same
+}
+
+/// The records that jobs leave, as the program dumps them; true when one is wrong.
+fn records(rng: &mut Rng, run: &mut Run) -> bool {
+    let start = Instant::now();
+    let counts = match dump::run(rng, &mut run.tally, run.trace) {
+        Ok(counts) => counts,
+        Err(wrong) => {
+            println!("MISMATCH: {wrong}");
+            return true;
+        }
+    };
+    println!(
+        "{} records in {:.1} s, {} more too large for the reference",
+        counts.compared,
+        start.elapsed().as_secs_f64(),
+        counts.skipped
+    );
+    run.passed += counts.compared;
+    run.skipped += counts.skipped;
+    false
 }
 
 /// The stored jobs; true when an answer is wrong or there is no job.

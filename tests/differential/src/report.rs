@@ -39,7 +39,7 @@ fn breaks_presence(case: &Case, before: &[u8]) -> bool {
 }
 
 /// Takes bytes out of the job, large pieces first, as long as it is still wrong.
-fn shrink(case: &Case, wrong: impl Fn(&Case) -> bool) -> Case {
+pub fn shrink(case: &Case, wrong: impl Fn(&Case) -> bool) -> Case {
     let mut small = case.clone();
     for piece in [4_096, 512, 64, 10, 4, 1] {
         let mut at = 0;

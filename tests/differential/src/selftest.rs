@@ -4,6 +4,7 @@ mod blocks;
 mod changes;
 mod drawn;
 mod presence;
+mod records;
 
 pub use blocks::{mixed, ring};
 pub use changes::{first_term_gone, prime_gone, seventh_term};
@@ -21,7 +22,7 @@ const EXAMPLE_ANSWERS: &str = "6c06000b0000000000000016000000000000001a000000000
     00000034000000000000003800000000000000630300290000000000000065";
 
 /// What a term with 0, 1, 2, .. 8 literals costs by K1.
-const COSTS: [u64; 9] = [1, 1, 3, 4, 5, 6, 7, 8, 9];
+pub const COSTS: [u64; 9] = [1, 1, 3, 4, 5, 6, 7, 8, 9];
 
 /// Terms 1 to 6 of document 003.
 pub const TERMS: [[u8; 3]; 6] = [
@@ -168,6 +169,7 @@ pub fn run(rng: &mut Rng) -> Checks {
     lengths(&mut checks);
     orders(&mut checks);
     presence::run(&mut checks);
+    records::run(&mut checks);
     drawn::run(&mut checks, rng);
     checks
 }

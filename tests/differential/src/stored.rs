@@ -16,16 +16,15 @@ use crate::format::{self, number, sets};
 use crate::generate::page;
 use crate::implicants;
 use crate::reference::{self, Outcome, Table, Term, LONGEST};
+use crate::threads;
 use heads::{by_blocks, by_rows, turned};
 use std::fs;
 use std::path::{Path, PathBuf};
-use std::sync::atomic::{AtomicUsize, Ordering};
 
 /// From the repository's root, where the run script starts this.
 const FOLDER: &str = "tests/jobs";
 /// What the count of a page is lowered to where a whole page is too much for the search.
 const FEW: u8 = 4;
-const THREADS: usize = 2;
 
 /// How far an answer was checked. The lesser of two counts for a job.
 #[derive(Clone, Copy, PartialEq, Eq, PartialOrd, Ord)]
@@ -68,19 +67,23 @@ struct Problem {
 
 /// Checks every job of the folder, several at a time; an answer that is wrong ends in its words.
 pub fn run() -> Result<Tally, String> {
-    let paths = paths()?;
-    let next = AtomicUsize::new(0);
-    let work = || {
-        let turns = std::iter::from_fn(|| paths.get(next.fetch_add(1, Ordering::Relaxed)));
-        turns.map(|path| one(path)).collect::<Vec<_>>()
-    };
-    let mut seen: Vec<(String, Result<Depth, String>)> = std::thread::scope(|scope| {
-        let threads: Vec<_> = (0..THREADS).map(|_| scope.spawn(work)).collect();
-        let joined = threads.into_iter().map(|thread| thread.join());
-        joined.flat_map(|list| list.expect("no panic")).collect()
-    });
-    seen.sort_by(|a, b| a.0.cmp(&b.0));
-    tally(seen)
+    tally(threads::each(&paths()?, |path| one(path)))
+}
+
+/// Every job of the folder without its L and C commands, which take time and leave table and
+/// candidates as they are.
+pub fn without_queries() -> Result<Vec<Vec<u8>>, String> {
+    paths()?.iter().map(|path| quiet(path)).collect()
+}
+
+fn quiet(path: &Path) -> Result<Vec<u8>, String> {
+    let wrong = |what: &str| format!("{}: {what}", path.display());
+    let job = fs::read(path).map_err(|error| wrong(&error.to_string()))?;
+    let commands = format::cut(&job).ok_or_else(|| wrong("it is not a list of whole commands"))?;
+    let kept = commands
+        .iter()
+        .filter(|command| !b"LC".contains(&command[0]));
+    Ok(kept.copied().collect::<Vec<_>>().concat())
 }
 
 fn tally(seen: Vec<(String, Result<Depth, String>)>) -> Result<Tally, String> {

@@ -1,12 +1,15 @@
 //! What a run has met: how often each number came, what became of each command, what was held to
-//! the promises of K2 and K3 and to document 000, and, at each C of the drawn jobs, how often K1
-//! changed cost or set of the cheapest and how often the cost was held to the rival's. A run fails
-//! where one of these never came. The jobs made on purpose do not count for L and C, nor for the
-//! rows of B: the marked cases and each row are among them, so that no count could stay at 0.
+//! the promises of K2 and K3 and to document 000, what the records showed, and, at each C of the
+//! drawn jobs, how often K1 changed cost or set of the cheapest and how often the cost was held to
+//! the rival's. A run fails where one of these never came. The jobs made on purpose do not count
+//! for L and C, nor for the rows of B: the marked cases and each row are among them, so that no
+//! count could stay at 0.
 
 mod blocks;
 mod presence;
+mod records;
 
+use crate::dump;
 use crate::expanded;
 use crate::format::{self, Command, COMMANDS, LAST_NUMBER};
 use crate::fresh::Held;
@@ -15,6 +18,7 @@ use crate::reference::{self, Asked, Covers, Outcome, Query, Table, Term};
 use crate::report::hex;
 use blocks::Blocks;
 use presence::Presences;
+use records::Records;
 use std::collections::BTreeMap;
 
 pub struct Tally {
@@ -26,6 +30,7 @@ pub struct Tally {
     changes: Changes,
     blocks: Blocks,
     presences: Presences,
+    records: Records,
     cheapest: Cheapest,
 }
 
@@ -61,6 +66,7 @@ impl Tally {
             changes: Changes::default(),
             blocks: Blocks::default(),
             presences: Presences::default(),
+            records: Records::default(),
             cheapest: Cheapest::default(),
         }
     }
@@ -124,6 +130,14 @@ impl Tally {
         }
     }
 
+    /// A job whose record was compared.
+    pub fn add_record(&mut self, job: &[u8], held: &dump::Held, drawn: bool) {
+        self.records.add(held);
+        if drawn {
+            self.records.add_drawn(job, held);
+        }
+    }
+
     /// How often each number came, and the pair of command and number that came least.
     pub fn print(&self) {
         let times = self.numbers.iter().enumerate();
@@ -136,6 +150,7 @@ impl Tally {
         self.changes.print();
         self.blocks.print();
         self.presences.print();
+        self.records.print();
         self.cheapest.print();
     }
 
@@ -162,6 +177,7 @@ impl Tally {
         list.extend(self.changes.complaints());
         list.extend(self.blocks.complaints());
         list.extend(self.presences.complaints());
+        list.extend(self.records.complaints());
         list.extend(self.cheapest.complaints());
         list
     }

@@ -10,12 +10,14 @@ mod purpose;
 mod purpose_blocks;
 mod purpose_changes;
 mod queries;
+mod records;
 mod sound;
 mod sweeps;
 mod tables;
 
 pub use draft::{block, come, draft, go, page, row, term, Draft, Pairs};
 pub use purpose::on_purpose;
+pub use records::{records_drawn, records_on_purpose};
 pub use tables::{pairs, random_table, terms_for};
 
 use crate::rng::Rng;

@@ -38,45 +38,55 @@ enum Stop {
 }
 
 /// The problem so far and what the order of commands depends on.
-struct Problem {
-    table: Option<Table>,
-    has_row: [bool; 256],
-    candidates: Vec<Term>,
+#[derive(Clone)]
+pub struct Problem {
+    pub table: Option<Table>,
+    pub has_row: [bool; 256],
+    pub candidates: Vec<Term>,
     /// T or A: an A counts as a T, even if its candidate has gone again.
-    terms_came: bool,
-    primes_came: bool,
-    queries_came: bool,
+    pub terms_came: bool,
+    pub primes_came: bool,
+    pub queries_came: bool,
     /// The covers by the standing candidates, once they are asked for.
     covers: Option<Covers>,
 }
 
 /// Runs a job over a buffer; None when it is more work than the reference takes on.
 pub fn run(job: &[u8], buffer: &[u8]) -> Option<Outcome> {
+    left_by(job, buffer).map(|(outcome, _)| outcome)
+}
+
+/// The outcome of a job, and the problem as its last command left it. A job that is too long has
+/// no command.
+pub fn left_by(job: &[u8], buffer: &[u8]) -> Option<(Outcome, Problem)> {
     let mut out = Outcome {
         number: 0,
         offset: 0,
         written: 0,
         buffer: buffer.to_vec(),
     };
+    let mut problem = Problem::new();
     if job.len() > LONGEST || buffer.len() > LONGEST {
         out.number = 1;
-        return Some(out);
+        return Some((out, problem));
     }
-    let mut problem = Problem::new();
     loop {
-        match problem.command(job, out.offset, buffer.len() - out.written) {
+        // Each command gets a copy: a refused one leaves the problem as it found it.
+        let mut next = problem.clone();
+        match next.command(job, out.offset, buffer.len() - out.written) {
             Err(Stop::TooMany) => return None,
             Err(Stop::Refused(number)) => {
                 out.number = number;
-                return Some(out);
+                return Some((out, problem));
             }
             Ok((width, answer)) => {
                 out.buffer[out.written..out.written + answer.len()].copy_from_slice(&answer);
                 out.written += answer.len();
                 let ended = job[out.offset] == b'E';
                 out.offset += width;
+                problem = next;
                 if ended {
-                    return Some(out);
+                    return Some((out, problem));
                 }
             }
         }

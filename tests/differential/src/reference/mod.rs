@@ -4,6 +4,7 @@
 mod covers;
 mod job;
 mod presence;
+mod record;
 mod rival;
 mod table;
 
@@ -13,5 +14,6 @@ pub use covers::{
 };
 pub use job::{asked, run, Asked, Outcome, Query, LONGEST, MOST_CANDIDATES};
 pub use presence::{delta, implicants, points, prime_implicants, sum, Presence};
+pub use record::record;
 pub use rival::{least_cost, rival};
 pub use table::{Table, Term};

@@ -1,0 +1,152 @@
+//! The record that a job leaves, asked of the program `dump`: its text is the reference's, byte for
+//! byte. What K5 says is asked of the text alone, too: each weight is what K1 charges for the care
+//! beside it.
+
+use crate::generate::{self, Case};
+use crate::reference::{self, Outcome, LONGEST};
+use crate::report::{hex, shrink};
+use crate::rng::Rng;
+use crate::selftest::COSTS;
+use crate::stored;
+use crate::tally::Tally;
+use crate::threads;
+use std::env;
+use std::io::{ErrorKind, Write};
+use std::path::{Path, PathBuf};
+use std::process::{Command, Stdio};
+
+/// From the repository's root, where the run script starts this; DUMP names another one.
+const PROGRAM: &str = "target/bin/dump";
+
+/// The record of a job that was compared.
+pub struct Held {
+    pub outcome: Outcome,
+    /// The literals and the weight of each candidate, as dumped.
+    pub weights: Vec<(usize, u64)>,
+}
+
+/// How many records were compared, and how many jobs were too large for the reference.
+#[derive(Default)]
+pub struct Counts {
+    pub compared: usize,
+    pub skipped: usize,
+}
+
+/// Compares the records of all the jobs; the first that is wrong ends in its words, with its job.
+pub fn run(rng: &mut Rng, tally: &mut Tally, trace: bool) -> Result<Counts, String> {
+    let program = env::var_os("DUMP").map_or(PROGRAM.into(), PathBuf::from);
+    // Without the program there is nothing to shrink.
+    dumped(&program, &[])?;
+    let mut counts = Counts::default();
+    for (drawn, jobs) in [
+        (false, generate::records_on_purpose(rng)),
+        (false, stored::without_queries()?),
+        (true, generate::records_drawn(rng)),
+    ] {
+        let seen = threads::each(&jobs, |job| {
+            if trace {
+                println!("{} dump", hex(job));
+            }
+            check(&program, job)
+        });
+        for (job, held) in jobs.iter().zip(seen) {
+            match held.map_err(|wrong| described(&wrong, &program, job))? {
+                Some(held) => {
+                    counts.compared += 1;
+                    tally.add_record(job, &held, drawn);
+                }
+                None => counts.skipped += 1,
+            }
+        }
+    }
+    Ok(counts)
+}
+
+/// None where the job is more work than the reference takes on.
+fn check(program: &Path, job: &[u8]) -> Result<Option<Held>, String> {
+    let Some((mut outcome, text)) = reference::record(job) else {
+        return Ok(None);
+    };
+    let weights = compare(&text, &dumped(program, job)?)?;
+    // Thousands are kept: their answers are enough.
+    outcome.buffer.truncate(outcome.written);
+    outcome.buffer.shrink_to_fit();
+    Ok(Some(Held { outcome, weights }))
+}
+
+/// The literals and the weight of each candidate of a dump that is as expected.
+pub fn compare(expected: &str, seen: &str) -> Result<Vec<(usize, u64)>, String> {
+    let weights = weights(seen)?;
+    if seen != expected {
+        return Err("the record is not the reference's".into());
+    }
+    Ok(weights)
+}
+
+/// What the program prints. It reads a job that is too long in part only.
+fn dumped(program: &Path, job: &[u8]) -> Result<String, String> {
+    let failed = |error: std::io::Error| format!("{}: {error}", program.display());
+    let mut child = Command::new(program)
+        .stdin(Stdio::piped())
+        .stdout(Stdio::piped())
+        .spawn()
+        .map_err(failed)?;
+    let mut lent = child.stdin.take().expect("it is piped");
+    match lent.write_all(job) {
+        Err(error) if error.kind() != ErrorKind::BrokenPipe => return Err(failed(error)),
+        _ => drop(lent),
+    }
+    let output = child.wait_with_output().map_err(failed)?;
+    if !output.status.success() {
+        return Err(format!("{}: {}", program.display(), output.status));
+    }
+    String::from_utf8(output.stdout).map_err(|error| error.to_string())
+}
+
+/// By the text alone: every weight must be K1's.
+fn weights(text: &str) -> Result<Vec<(usize, u64)>, String> {
+    let lines = text.lines().filter(|line| line.starts_with("candidate"));
+    let wrong = |line| format!("K1 does not charge this weight: {line}");
+    lines
+        .map(|line| weight(line).ok_or_else(|| wrong(line)))
+        .collect()
+}
+
+fn weight(line: &str) -> Option<(usize, u64)> {
+    let words: Vec<&str> = line.split(' ').collect();
+    let ["candidate", _, "care", care, "value", _, "outputs", _, "weight", weight] = words[..]
+    else {
+        return None;
+    };
+    let care = u8::from_str_radix(care, 16).ok()?;
+    let literals = care.count_ones() as usize;
+    let weight = weight.parse().ok()?;
+    (weight == COSTS[literals]).then_some((literals, weight))
+}
+
+/// What is wrong with the record of a job, and the same of the job shrunk.
+fn described(wrong: &str, program: &Path, job: &[u8]) -> String {
+    let case = Case {
+        job: job.to_vec(),
+        behind: Vec::new(),
+        room: LONGEST,
+    };
+    let small = shrink(&case, |case| check(program, &case.job).is_err()).job;
+    [
+        format!("a record: {wrong}\n{}", both(program, job)),
+        format!("the same, shrunk\n{}", both(program, &small)),
+    ]
+    .concat()
+}
+
+/// The job, and its record by the reference and by the program.
+fn both(program: &Path, job: &[u8]) -> String {
+    let (_, expected) = reference::record(job).expect("it was compared before");
+    let seen = dumped(program, job).unwrap_or_else(|wrong| wrong);
+    [
+        format!("job of {} bytes {}\n", job.len(), hex(job)),
+        format!("reference, {} bytes:\n{expected}", expected.len()),
+        format!("dump, {} bytes:\n{seen}\n", seen.len()),
+    ]
+    .concat()
+}

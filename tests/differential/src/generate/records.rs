@@ -1,0 +1,155 @@
+//! Jobs for the records that they leave: made on purpose for the weights of K5, some of the others
+//! made on purpose, and drawn ones.
+
+use super::bytes::full;
+use super::damage::{damaged, wild};
+use super::draft::{block, come, draft, go, row, term, Draft};
+use super::purpose::{on_purpose, primes};
+use super::sound::sound;
+use crate::format::BLOCK;
+use crate::reference::LONGEST;
+use crate::rng::Rng;
+use crate::selftest::{
+    bytes, first_term_gone, marked, odd_parity, prime_gone, seventh_term, EXAMPLE,
+};
+
+type Commands = Vec<Vec<u8>>;
+type Jobs = Vec<Vec<u8>>;
+
+/// Each of this stride is taken of the jobs made on purpose for other things.
+const STRIDE: usize = 20;
+const DRAWN: usize = 3_000;
+
+pub fn records_on_purpose(rng: &mut Rng) -> Jobs {
+    let mut list = Vec::new();
+    of_each_command(&mut list);
+    of_every_care(&mut list);
+    of_every_number(&mut list);
+    of_primes(&mut list);
+    of_lengths(&mut list);
+    let mut others: Jobs = on_purpose(rng).into_iter().map(|case| case.job).collect();
+    // Those that differ in their buffers alone leave one record.
+    others.dedup();
+    list.extend(others.into_iter().step_by(STRIDE));
+    list
+}
+
+/// The job cut behind each command from this one on, so that the record of each is seen.
+fn behind_each(list: &mut Jobs, draft: &Draft, first: usize) {
+    let ends = first..=draft.commands.len();
+    list.extend(ends.map(|end| draft.commands[..end].concat()));
+}
+
+/// The jobs of the paper and those where candidates come and go, command by command.
+fn of_each_command(list: &mut Jobs) {
+    for draft in [
+        marked('a'),
+        marked('c'),
+        seventh_term(),
+        first_term_gone(),
+        prime_gone(),
+    ] {
+        behind_each(list, &draft, 0);
+    }
+}
+
+/// Every vertex of eight inputs, by B.
+fn all_rows(pair: impl Fn(u8) -> [u8; 2]) -> Commands {
+    let first = |i: usize| (i * BLOCK) as u8;
+    let pairs = |i: usize| std::array::from_fn(|at| pair(first(i) + at as u8));
+    (0..256 / BLOCK)
+        .map(|i| block(first(i), pairs(i)))
+        .collect()
+}
+
+/// A term with each care, 64 in a job, by T and by A.
+fn of_every_care(list: &mut Jobs) {
+    for first in [0, 64, 128, 192] {
+        for by in [term, come] {
+            let terms = (first..=first + 63).map(|care| by(care, care & 0xa5, 1));
+            let parts = [all_rows(|_| [0, 1]), terms.collect()];
+            list.push(draft(8, 1, parts).job());
+        }
+    }
+}
+
+/// Of 64 candidates each one goes, and another comes; last, all of them go. No two neighbours have
+/// the same weight.
+fn of_every_number(list: &mut Jobs) {
+    let literals = |i: usize| full(1 + i % 8);
+    let standing: Commands = (0..64).map(|i| term(literals(i), 0, 1)).collect();
+    let rows = all_rows(|_| [1, 0]);
+    let job = |changes: Commands| draft(8, 1, [rows.clone(), standing.clone(), changes]);
+    for number in 0..64 {
+        list.push(job(vec![go(number)]).job());
+        list.push(job(vec![go(number), come(0, 0, 1)]).job());
+    }
+    for refused in [come(3, 0, 1), term(3, 0, 1), come(0, 1, 1), go(64), go(255)] {
+        list.push(job(vec![refused]).job());
+    }
+    // The first and one in the middle in turn.
+    let all_go = |i: u8| go(i % 2 * ((63 - i) / 2));
+    let behind_terms = 1 + rows.len() + standing.len();
+    behind_each(list, &job((0..64).map(all_go).collect()), behind_terms);
+}
+
+/// Primes of one number of literals, and of 0 to 7 in one table; there candidates go and come.
+fn of_primes(list: &mut Jobs) {
+    for n in 1..=8 {
+        behind_each(list, &odd_parity(n), 1 << (n - 1));
+    }
+    let one_vertex = draft(8, 1, [vec![row(90, 1, 0)], primes()]);
+    behind_each(list, &one_vertex, 2);
+    // Output j is wanted where the j lowest inputs are 1.
+    let wanted = |v: u8| (0..8).map(|j| u8::from(v & full(j) == full(j)) << j).sum();
+    let rows = all_rows(|v| [wanted(v), 0]);
+    let changes = vec![
+        go(2),
+        come(255, 3, 1),
+        go(0),
+        come(0, 0, 1),
+        go(4),
+        come(6, 2, 1),
+        vec![b'C'],
+        come(128, 0, 1),
+        go(0),
+        go(7),
+    ];
+    let job = draft(8, 8, [rows.clone(), primes(), changes]);
+    behind_each(list, &job, rows.len());
+}
+
+/// Jobs as long as they may be and longer, whose first commands leave a record; in the last one the
+/// answers are too long.
+fn of_lengths(list: &mut Jobs) {
+    let example = bytes(EXAMPLE);
+    for length in [LONGEST, LONGEST + 1, 2 * LONGEST + example.len()] {
+        let mut job = example.clone();
+        job.resize(length, b'E');
+        list.push(job);
+    }
+    list.push([vec![b'I', 1, 1], vec![b'C'; LONGEST - 3]].concat());
+}
+
+pub fn records_drawn(rng: &mut Rng) -> Jobs {
+    (0..DRAWN).map(|_| drawn(rng)).collect()
+}
+
+/// Sound, damaged, or sound and cut: behind one of its commands or anywhere.
+fn drawn(rng: &mut Rng) -> Vec<u8> {
+    match rng.below(12) {
+        0..=2 => sound(rng).job(),
+        3..=5 => damaged(rng).job,
+        6 => wild(rng).job,
+        7..=10 => {
+            let commands = sound(rng).commands;
+            let end = rng.between(1, commands.len() - 1);
+            commands[..end].concat()
+        }
+        _ => {
+            let mut job = sound(rng).job();
+            job.truncate(rng.below(job.len()));
+            job
+        }
+    }
+}
