@@ -39,6 +39,11 @@ does-by x bs Kind.I e g f =
     let a = g 0 (omega arith) in
     let b = g 1 (omega arith) in
     record { refusals = rw (a, b); answer = refl; after = rw (a, b) }
+does-by x bs Kind.W e g f =
+    let a = g 0 (omega arith) in
+    let b = g 1 (omega arith) in
+    let c = g 2 (omega arith) in
+    record { refusals = rw (a, b, c); answer = refl; after = rw (a, b, c) }
 does-by x bs Kind.R e g f =
     let a = g 0 (omega arith) in
     let b = g 1 (omega arith) in
@@ -72,7 +77,7 @@ pub record Alike (x y : Context) : Type 0 where
   pub after : problemAfter y (y .kind) ≡ problemAfter x (x .kind)
   pub command : commandOf y ≡ commandOf x
 
-alike : (x : Context) (bs : List ℕ) → let w = width (x .kind) in take w bs ≡ take w (x .rest) → ltb (length bs) w ≡ ltb (length (x .rest)) w
+pub alike : (x : Context) (bs : List ℕ) → let w = width (x .kind) in take w bs ≡ take w (x .rest) → ltb (length bs) w ≡ ltb (length (x .rest)) w
     → (T (is (x .kind) Kind.E) → ltb 0 (length bs) ≡ ltb 0 (length (x .rest))) → Alike x (withRest x bs)
 unfolding refusalBy refusalsBy answer
 alike x bs e m f =

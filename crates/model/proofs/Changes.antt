@@ -13,7 +13,7 @@ use Rattle.model.specs.Table.{Term, term, isOn, onCells, isDc, isOff, ce
 use Rattle.model.specs.Primes.{contains, sameTerm, containedIn, terms, prime, primes}
 use Rattle.model.specs.Sets.{irredundants, irredundant, redundant, covers, cover, coverable, cost, cheapest}
 use Rattle.model.specs.Pages.{page, more, atOrAbove}
-use Rattle.model.specs.Candidates.{termCost, basis}
+use Rattle.model.specs.Candidates.{literalsCharged, termCost, basis}
 use Rattle.model.specs.Commands.{Kind, isQueryKind, kindOf, empty, Context, problemAfter}
 use Rattle.model.specs.Answers.{answer, answerFor}
 use Rattle.model.specs.Refusals.{refusalsOf}
@@ -42,7 +42,7 @@ split zero (y ∷ ys) d l = refl
 split (suc n) (y ∷ ys) d l = ap (λ (r : List Context). y ∷ r) (split n ys d (omega arith))
 
 long : T (ltb 15 (length read))
-unfolding irredundants irredundant redundant covers cover coverable cost cheapest page more atOrAbove isOn onCells isDc isOff cells holds formed holdsNoOff legal termCost ones onesIn runBy kindOf refusalBy refusalsBy refusalsOf answer answerFor problemAfter
+unfolding irredundants irredundant redundant covers cover coverable cost cheapest page more atOrAbove isOn onCells isDc isOff cells holds formed holdsNoOff legal literalsCharged termCost ones onesIn runBy kindOf refusalBy refusalsBy refusalsOf answer answerFor problemAfter
 long = tt
 
 behind : (n : ℕ) → n < 16 → Behind (run job 199) (take n read) (nth n)
@@ -54,21 +54,21 @@ before = take 14 read
 -- ---- what stands, and the fresh job
 
 pub changed-stands : standing (map commandOf before) ≡ basis example (term 1 0 1 ∷ term 3 1 3 ∷ term 2 2 2 ∷ term 3 2 3 ∷ term 2 0 1 ∷ term 1 1 2 ∷ [])
-unfolding irredundants irredundant redundant covers cover coverable cost cheapest page more atOrAbove isOn onCells isDc isOff cells holds formed holdsNoOff legal termCost ones onesIn runBy kindOf refusalBy refusalsBy refusalsOf answer answerFor problemAfter setsTo
+unfolding irredundants irredundant redundant covers cover coverable cost cheapest page more atOrAbove isOn onCells isDc isOff cells holds formed holdsNoOff legal literalsCharged termCost ones onesIn runBy kindOf refusalBy refusalsBy refusalsOf answer answerFor problemAfter setsTo
 changed-stands = refl
 
 accepted : run job 199 .number ≡ 0
-unfolding irredundants irredundant redundant covers cover coverable cost cheapest page more atOrAbove isOn onCells isDc isOff cells holds formed holdsNoOff legal termCost ones onesIn runBy kindOf refusalBy refusalsBy refusalsOf answer answerFor problemAfter
+unfolding irredundants irredundant redundant covers cover coverable cost cheapest page more atOrAbove isOn onCells isDc isOff cells holds formed holdsNoOff legal literalsCharged termCost ones onesIn runBy kindOf refusalBy refusalsBy refusalsOf answer answerFor problemAfter
 accepted = refl
 
 pub changed-fresh : GivesAlone (answer (nth 14)) (run (freshJob (map commandOf before) (commandOf (nth 14))) 199)
-unfolding irredundants irredundant redundant covers cover coverable cost cheapest page more atOrAbove isOn onCells isDc isOff cells holds formed holdsNoOff legal termCost ones onesIn runBy kindOf refusalBy refusalsBy refusalsOf answer answerFor problemAfter
+unfolding irredundants irredundant redundant covers cover coverable cost cheapest page more atOrAbove isOn onCells isDc isOff cells holds formed holdsNoOff legal literalsCharged termCost ones onesIn runBy kindOf refusalBy refusalsBy refusalsOf answer answerFor problemAfter
 changed-fresh = fresh job 199 accepted before (nth 14) (behind 14 (omega arith)) tt 199 (omega arith) (omega arith)
 
 pub changed-bytes : freshJob (map commandOf before) (commandOf (nth 14)) ≡ 0x49 ∷ 2 ∷ 2 ∷ 0x52 ∷ 0 ∷ 0 ∷ 1 ∷ 0x52 ∷ 1 ∷ 1 ∷ 2 ∷ 0x52 ∷ 2 ∷ 3 ∷ 0 ∷ 0x52 ∷ 3 ∷ 2 ∷ 0
     ∷ 0x54 ∷ 1 ∷ 0 ∷ 1 ∷ 0x54 ∷ 3 ∷ 1 ∷ 3 ∷ 0x54 ∷ 2 ∷ 2 ∷ 2 ∷ 0x54 ∷ 3 ∷ 2 ∷ 3 ∷ 0x54 ∷ 2 ∷ 0 ∷ 1 ∷ 0x54 ∷ 1 ∷ 1 ∷ 2
     ∷ 0x4c ∷ 0 ∷ 0 ∷ 0 ∷ 0 ∷ 0 ∷ 0 ∷ 0 ∷ 0 ∷ 2 ∷ 0x45 ∷ []
-unfolding irredundants irredundant redundant covers cover coverable cost cheapest page more atOrAbove isOn onCells isDc isOff cells holds formed holdsNoOff legal termCost ones onesIn runBy kindOf refusalBy refusalsBy refusalsOf answer answerFor problemAfter setsTo
+unfolding irredundants irredundant redundant covers cover coverable cost cheapest page more atOrAbove isOn onCells isDc isOff cells holds formed holdsNoOff legal literalsCharged termCost ones onesIn runBy kindOf refusalBy refusalsBy refusalsOf answer answerFor problemAfter setsTo
 changed-bytes = refl
 
 -- ---- two pages behind the same commands
@@ -80,7 +80,7 @@ pub first-page : SetBy changes (nth 14)
 first-page = record { job = job; room = 199; before = before; behind = behind 14 (omega arith); same = refl }
 
 same : filter (λ c. not (isQueryKind (c .kind))) (map commandOf (take 15 read)) ≡ changes
-unfolding irredundants irredundant redundant covers cover coverable cost cheapest page more atOrAbove isOn onCells isDc isOff cells holds formed holdsNoOff legal termCost ones onesIn runBy kindOf refusalBy refusalsBy refusalsOf answer answerFor problemAfter
+unfolding irredundants irredundant redundant covers cover coverable cost cheapest page more atOrAbove isOn onCells isDc isOff cells holds formed holdsNoOff legal literalsCharged termCost ones onesIn runBy kindOf refusalBy refusalsBy refusalsOf answer answerFor problemAfter
 same = refl
 
 pub second-page : SetBy changes (nth 15)

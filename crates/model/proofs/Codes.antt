@@ -1,4 +1,4 @@
--- The commands: which is which, and that a query changes neither table nor candidates.
+-- The commands: which is which, and that a query changes neither table nor candidates nor prices.
 use Prim.Native.Nat.{ℕ, _<_}
 use mathlib.Core.Path.{_≡_, refl, sym, ap, _∙_, subst}
 use mathlib.Core.Logic.{_⊎_, inl, inr}
@@ -12,6 +12,7 @@ use Rattle.model.proofs.Lists.{every-e, filter-i, all-e}
 pub kind-of-code : (k : Kind) → kindOf (formOf k .code) ≡ k
 unfolding kindOf
 kind-of-code Kind.I = refl
+kind-of-code Kind.W = refl
 kind-of-code Kind.R = refl
 kind-of-code Kind.B = refl
 kind-of-code Kind.T = refl
@@ -68,7 +69,7 @@ any-query P a k t = all-e P queryKinds a (filter-i isQueryKind (kind-among k) t)
 pub code-byte : (k : Kind) → formOf k .code < 256
 code-byte k = ltb→lt (formOf k .code) 256 (every-e (λ (k : Kind). ltb (formOf k .code) 256) (kind-among k) tt)
 
--- a query changes neither table nor candidates
+-- a query changes neither table nor candidates nor prices
 pub query-keeps : (x : Context) (k : Kind) → T (isQueryKind k) → basisOf (problemAfter x k) ≡ basisOf (x .problem)
 unfolding problemAfter
 query-keeps x = any-query (λ k. basisOf (problemAfter x k) ≡ basisOf (x .problem)) (refl, (refl, tt))

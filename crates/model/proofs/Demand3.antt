@@ -12,7 +12,7 @@ use Rattle.model.specs.Base.{All}
 use Rattle.model.specs.Sets.{coverable, cost, cheapest, Best}
 use Rattle.model.specs.Pages.{PageOf}
 use Rattle.model.specs.Candidates.{Basis, covering, HoldsExactly, LegalBasis}
-use Rattle.model.specs.Commands.{Kind, is, isQueryKind, width, allowed, basisOf, Context, start, count, coveringOf}
+use Rattle.model.specs.Commands.{Kind, is, isQueryKind, width, allowed, pricesOf, basisOf, Context, start, count, coveringOf}
 use Rattle.model.specs.Answers.{Answer, hasBytes, answerFor, answer, bytesOf}
 use Rattle.model.specs.Refusals.{refuse, refusalsOf}
 use Rattle.model.specs.Rules.{engine, refusalsBy, refusalBy, refusal}
@@ -91,7 +91,7 @@ correct b x s h = subst (λ (z : Basis). T (coverable (covering z)) → Correct 
     best : T (coverable (coveringOf x)) → x .kind ≡ Kind.C → (c : ℕ) × (s : ℕ) × (answer x ≡ Answer.cheapestIs c s) × Best (coveringOf x) c s × NoCheaperList (basisOf (x .problem)) c
     best c e =
         let s = cheapest (coveringOf x) in
-        (cost (coveringOf x) s, s, rw e, cheapest-best (coveringOf x) c, λ f. no-cheaper-list (basisOf (x .problem)) cost-dearer (λ u. f u .0))
+        (cost (coveringOf x) s, s, rw e, cheapest-best (coveringOf x) c, λ n f. no-cheaper-list (basisOf (x .problem)) (cost-dearer (pricesOf (x .problem)) n) (λ u. f u .0))
 
     own : T (coverable (coveringOf x)) → Correct (basisOf (x .problem)) x (answer x)
     own c = record { page = λ l. rw (is-kind (x .kind) Kind.L l); cheapest = λ k. best c (is-kind (x .kind) Kind.C k) }
@@ -115,10 +115,10 @@ sets-exactly b x s l c = subst (λ (z : Basis). LegalBasis z → T (coverable (c
     )
 
 -- the candidates of a valid problem are legal
-abbrev Fine : Context → Type 0
+abbrev pub Fine : Context → Type 0
 Fine x = Valid (x .problem)
 
-correct-exchange : (b : Basis) (e : Exchange) → RepliedIn engine Fine e → StandsOn b e → CorrectExchange b e
+pub correct-exchange : (b : Basis) (e : Exchange) → RepliedIn engine Fine e → StandsOn b e → CorrectExchange b e
 unfolding answer
 correct-exchange b e r s = go (eqb (refusal x) 0) refl
   where
@@ -163,7 +163,7 @@ all-correct b (e ∷ es) r s = (correct-exchange b e (r .0) (s .0), all-correct 
 
 -- ---- the irredundant covers
 
-lists-covers : (b : Basis) (x : Context) → HasBasis b x → Lists engine Kind.L (coversOf b) x
+pub lists-covers : (b : Basis) (x : Context) → HasBasis b x → Lists engine Kind.L (coversOf b) x
 unfolding answer answerFor
 lists-covers b x s i z = subst (λ (y : Basis). All (PageOf (coversOf y)) (pageIn x (answer x))) s (rw (is-kind (x .kind) Kind.L i) ((refl, refl), tt))
 

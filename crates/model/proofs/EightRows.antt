@@ -10,7 +10,7 @@ use Rattle.model.specs.Base.{every, Bytes}
 use Rattle.model.specs.Table.{isOn, isDc, isOff, cells, onCells, holds, formed, holdsNoOff, legal}
 use Rattle.model.specs.Sets.{covers, cover, coverable, redundant, irredundant, irredundants, cost, cheapest}
 use Rattle.model.specs.Pages.{atOrAbove, page, more}
-use Rattle.model.specs.Candidates.{termCost}
+use Rattle.model.specs.Candidates.{literalsCharged, termCost}
 use Rattle.model.specs.Commands.{Kind, kindOf, Problem, rowsOfB, problemAfter}
 use Rattle.model.specs.Answers.{Answer, answer, answerFor}
 use Rattle.model.specs.Refusals.{refusalsOf}
@@ -38,11 +38,11 @@ traced = refl
 
 -- both are accepted and write the same
 pub both-accepted : (packed (run inOne 32768) ≡ length inOne * 2 ^ 16 + length eightRowsAnswers) × (packed (run oneByOne 32768) ≡ length oneByOne * 2 ^ 16 + length eightRowsAnswers)
-unfolding irredundants irredundant redundant cover covers coverable isOn onCells cells holds termCost cost cheapest ones onesIn legal formed holdsNoOff isOff isDc runBy kindOf rowsOfB packed written refusalBy refusalsBy refusalsOf answer answerFor problemAfter page more atOrAbove
+unfolding irredundants irredundant redundant cover covers coverable isOn onCells cells holds literalsCharged termCost cost cheapest ones onesIn legal formed holdsNoOff isOff isDc runBy kindOf rowsOfB packed written refusalBy refusalsBy refusalsOf answer answerFor problemAfter page more atOrAbove
 both-accepted = (refl, refl)
 
 pub both-write : (written (run inOne 32768) ≡ eightRowsAnswers) × (written (run oneByOne 32768) ≡ eightRowsAnswers)
-unfolding irredundants irredundant redundant cover covers coverable isOn onCells cells holds termCost cost cheapest ones onesIn legal formed holdsNoOff isOff isDc runBy kindOf rowsOfB written refusalBy refusalsBy refusalsOf answer answerFor problemAfter page more atOrAbove
+unfolding irredundants irredundant redundant cover covers coverable isOn onCells cells holds literalsCharged termCost cost cheapest ones onesIn legal formed holdsNoOff isOff isDc runBy kindOf rowsOfB written refusalBy refusalsBy refusalsOf answer answerFor problemAfter page more atOrAbove
 both-write = (refl, refl)
 
 -- what a command finds, by its bytes and the table
@@ -57,7 +57,7 @@ askedOfBoth =
 
 -- what `same-run` compares of them: these commands, each with its operands and its problem
 pub both-ask : (map found (asked (run inOne 32768)) ≡ askedOfBoth) × (map found (asked (run oneByOne 32768)) ≡ askedOfBoth)
-unfolding irredundants irredundant redundant cover covers coverable isOn onCells cells holds termCost cost cheapest ones onesIn legal formed holdsNoOff isOff isDc runBy kindOf rowsOfB refusalBy refusalsBy refusalsOf answer answerFor problemAfter page more atOrAbove
+unfolding irredundants irredundant redundant cover covers coverable isOn onCells cells holds literalsCharged termCost cost cheapest ones onesIn legal formed holdsNoOff isOff isDc runBy kindOf rowsOfB refusalBy refusalsBy refusalsOf answer answerFor problemAfter page more atOrAbove
 both-ask = (refl, refl)
 
 -- 7 at B's offset, and at that of the sixth R in its place

@@ -12,7 +12,7 @@ use Rattle.model.specs.Base.{implies, nonEmpty, filter, All}
 use Rattle.model.specs.Table.{isOn, onCells, isDc, isOff, cells, holds, formed, holdsNoOff, legal}
 use Rattle.model.specs.Sets.{irredundants, irredundant, redundant, covers, cover, coverable, cost, cheapest}
 use Rattle.model.specs.Pages.{page, more, atOrAbove, nextStart, Page, isLast, joinedSets, InOrder, Joined}
-use Rattle.model.specs.Candidates.{termCost, basis}
+use Rattle.model.specs.Candidates.{literalsCharged, termCost, basis}
 use Rattle.model.specs.Commands.{Kind, kindOf, problemAfter}
 use Rattle.model.specs.Answers.{answer, answerFor}
 use Rattle.model.specs.Refusals.{refusalsOf}
@@ -74,19 +74,19 @@ abbrev pages : List Page
 pages = pagesOf Kind.L exchanges
 
 met : All Met calls
-unfolding irredundants irredundant redundant covers cover coverable cost cheapest page more atOrAbove isOn onCells isDc isOff cells holds formed holdsNoOff legal termCost ones onesIn runBy kindOf packed written bufferAfter refusalBy refusalsBy refusalsOf answer answerFor problemAfter
+unfolding irredundants irredundant redundant covers cover coverable cost cheapest page more atOrAbove isOn onCells isDc isOff cells holds formed holdsNoOff legal literalsCharged termCost ones onesIn runBy kindOf packed written bufferAfter refusalBy refusalsBy refusalsOf answer answerFor problemAfter
 met = (record { returned = refl; after = refl }, (record { returned = refl; after = refl }, tt))
 
 stands : All (StandsOn (basis example sixTerms)) exchanges
-unfolding irredundants irredundant redundant covers cover coverable cost cheapest page more atOrAbove isOn onCells isDc isOff cells holds formed holdsNoOff legal termCost ones onesIn runBy kindOf refusalBy refusalsBy refusalsOf answer answerFor problemAfter decoded read readIn
+unfolding irredundants irredundant redundant covers cover coverable cost cheapest page more atOrAbove isOn onCells isDc isOff cells holds formed holdsNoOff legal literalsCharged termCost ones onesIn runBy kindOf refusalBy refusalsBy refusalsOf answer answerFor problemAfter decoded read readIn
 stands = ((tt, refl), ((tt, refl), ((tt, refl), ((tt, refl), tt))))
 
 in-order : T (inOrder [] pages)
-unfolding irredundants irredundant redundant covers cover coverable cost cheapest page more atOrAbove isOn onCells isDc isOff cells holds formed holdsNoOff legal termCost ones onesIn runBy kindOf refusalBy refusalsBy refusalsOf answer answerFor problemAfter decoded read readIn
+unfolding irredundants irredundant redundant covers cover coverable cost cheapest page more atOrAbove isOn onCells isDc isOff cells holds formed holdsNoOff legal literalsCharged termCost ones onesIn runBy kindOf refusalBy refusalsBy refusalsOf answer answerFor problemAfter decoded read readIn
 in-order = tt
 
 pub joined-are : joinedSets pages ≡ 11 ∷ 22 ∷ 26 ∷ 41 ∷ 52 ∷ 56 ∷ []
-unfolding irredundants irredundant redundant covers cover coverable cost cheapest page more atOrAbove isOn onCells isDc isOff cells holds formed holdsNoOff legal termCost ones onesIn runBy kindOf refusalBy refusalsBy refusalsOf answer answerFor problemAfter decoded read readIn
+unfolding irredundants irredundant redundant covers cover coverable cost cheapest page more atOrAbove isOn onCells isDc isOff cells holds formed holdsNoOff legal literalsCharged termCost ones onesIn runBy kindOf refusalBy refusalsBy refusalsOf answer answerFor problemAfter decoded read readIn
 joined-are = refl
 
 pub all-right : Demand (basis example sixTerms) exchanges

@@ -39,8 +39,8 @@ told-read : (c : Call) → map told (readIn engine c) ≡ tell (asked (ran c)) (
 unfolding readIn
 told-read c = told-pair (filter (answers engine) (ran c .contexts)) (replies c)
 
--- the page of a command that is told
-abbrev pageTold : Command → Answer → List Page
+-- the page of a command, by its operands
+abbrev pub pageTold : Command → Answer → List Page
 pageTold c Answer.nothing = []
 pageTold c (Answer.primesAre ts) = []
 pageTold c (Answer.paged ss m) = record { start = number (take 8 (c .operands)); count = getD (c .operands) 8 0; sets = ss; above = m } ∷ []
@@ -54,7 +54,7 @@ page-of-L q bs free (Answer.paged ss m) = rw (take-take 8 9 bs (omega arith), ge
 page-of-L q bs free (Answer.cheapestIs k s) = refl
 page-of-L q bs free Answer.ended = refl
 
-page-told : (x : Context) (a : Answer) → cond (is (x .kind) Kind.L) (pageIn x a) [] ≡ cond (is (x .kind) Kind.L) (pageTold (commandOf x) a) []
+pub page-told : (x : Context) (a : Answer) → cond (is (x .kind) Kind.L) (pageIn x a) [] ≡ cond (is (x .kind) Kind.L) (pageTold (commandOf x) a) []
 page-told x a = go (yes-or-no (is (x .kind) Kind.L))
   where
     at : Kind → Context

@@ -16,7 +16,7 @@ use Rattle.model.specs.Job.{Run, run}
 use Rattle.model.specs.Calls.{ran, Reads}
 use Rattle.model.specs.Invariants.{Small, Valid}
 use Rattle.model.specs.Demand3.{isQuery}
-use Rattle.model.specs.Standing.{Command, commandOf, commandBytes, Behind, setsTable, termCommand, freshJob, GivesAlone, Fresh, FreshAnswered, FreshRead}
+use Rattle.model.specs.Standing.{Command, commandOf, commandBytes, Behind, setsUp, termCommand, freshJob, GivesAlone, Fresh, FreshAnswered, FreshRead}
 use Rattle.model.proofs.Lists.{all-append, all-filter, all-take, all-drop, all-to, all-join, all-map}
 use Rattle.model.proofs.Codes.{is-kind, code-byte}
 use Rattle.model.proofs.Runs.{context, OnRuns, IfEnds, IfGoes, run-ind, run-is, judged}
@@ -29,7 +29,7 @@ use Rattle.model.proofs.Behind.{all-here, all-before}
 use Rattle.model.proofs.Standing.{stands}
 use Rattle.model.proofs.Replay.{ending}
 use Rattle.model.proofs.FreshRows.{rowsOf, rows-replayed, rows-short}
-use Rattle.model.proofs.FreshQuery.{tailOf, query-begun, query-goes, query-short, tail-given}
+use Rattle.model.proofs.FreshQuery.{tailOf, query-goes, query-short, tail-given}
 
 -- ---- room for the answers
 
@@ -74,11 +74,11 @@ module _ (job : List ℕ) (room : ℕ) (before : List Context) (x : Context) (g 
   pieces : freshJob (map commandOf before) (commandOf x) ≡ rowsOf before ++ tailOf x
   pieces = ap (λ (b : Basis). rowsOf before ++ (join (map termCommand (b .cands)) ++ (commandBytes (commandOf x) ++ ending))) (sym (stands job room before x g))
 
-  -- 3 bytes of I, 4 for each of 256 rows and of 64 candidates, the query and E
+  -- 3 bytes of I, 4 of W, 4 for each of 256 rows and of 64 candidates, the query and E
   fresh-short : T (isQuery x) → length (rowsOf before ++ tailOf x) ≤ 32768
   fresh-short i =
       let terms = join (map termCommand (x .problem .cands)) in
-      let rows = rows-short job room before x g (query-begun x i) (fair .sound .inputs) in
+      let rows = rows-short job room before x g (fair .sound .inputs) in
       let whole = length-append (rowsOf before) (tailOf x) in
       let tail = length-append terms (commandBytes (commandOf x) ++ ending) in
       omega (arith, length-append (commandBytes (commandOf x)) ending, terms-length (x .problem .cands), fair .sound .few, query-short x i)
@@ -154,7 +154,7 @@ terms-bytes ts a = all-join byte (map termCommand ts) (all-map Bytes termCommand
 -- a job of bytes has a fresh job of bytes
 pub fresh-bytes : (job : List ℕ) (room : ℕ) → Bytes job → (before : List Context) (x : Context) → Behind (run job room) before x → Bytes (freshJob (map commandOf before) (commandOf x))
 fresh-bytes job room y before x g =
-    let rows : Command → Bool = λ c. setsTable (c .kind) in
+    let rows : Command → Bool = λ c. setsUp (c .kind) in
     let ts = x .problem .cands in
     let query = command-bytes x (all-here Rest (run job room) before x g (rest-bytes job room y)) in
     subst⁻¹ Bytes (pieces job room before x g)

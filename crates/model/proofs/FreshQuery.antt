@@ -1,4 +1,4 @@
--- K2: the rest of a fresh job, behind I and the R: a T for each candidate, the query and E.
+-- K2: the rest of a fresh job, behind I, W and the rows: a T for each candidate, the query and E.
 use Prim.Native.Nat.{ℕ, suc, _+_, _≤_, _<_}
 use native.Mathlib.Omega.{arith}
 use mathlib.Core.Path.{_≡_, refl, sym, ap, ap₂, _∙_, subst, subst⁻¹}

@@ -13,6 +13,7 @@ pub mod Drives
 pub mod Order
 pub mod Costs
 pub mod Representations
+pub mod Pricing
 pub mod Legal
 pub mod Codes
 pub mod Read
@@ -27,6 +28,7 @@ pub mod Demand3
 pub mod Behind
 pub mod Spelled
 pub mod Standing
+pub mod PricesFound
 pub mod Records
 pub mod Replay
 pub mod FreshRows
@@ -40,6 +42,9 @@ pub mod RowsRun
 pub mod ExpandedCommand
 pub mod Expanded
 pub mod ExpandedCall
+pub mod Unpriced
+pub mod Listing
+pub mod ListingCall
 pub mod Marked
 pub mod EightRows
 pub mod Example

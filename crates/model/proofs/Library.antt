@@ -13,8 +13,8 @@ use Rattle.model.specs.Base.{below, some, filter, join, All}
 use Rattle.model.specs.Table.{Table, Term, formed, holdsNoOff, legal}
 use Rattle.model.specs.Sets.{coverable, irredundants}
 use Rattle.model.specs.Pages.{Rising, atOrAbove, page, more, nextStart}
-use Rattle.model.specs.Candidates.{Basis, basis, covering, HoldsExactly, LegalBasis}
-use Rattle.model.specs.Commands.{begun, Kind, allowed, Problem, Context, start, count, coveringOf, tableOf}
+use Rattle.model.specs.Candidates.{Basis, usual, basis, covering, HoldsExactly, LegalBasis}
+use Rattle.model.specs.Commands.{begun, Kind, allowed, Problem, Context, start, count, coveringOf, tableOf, pricesOf}
 use Rattle.model.specs.Answers.{Answer, answerFor, answer}
 use Rattle.model.specs.Refusals.{size, Refusal, refuse, firstOf, refusalsOf}
 use Rattle.model.specs.Rules.{engine}
@@ -22,6 +22,7 @@ use Rattle.model.specs.Library.{unpack, badVertex, refusalsOfWord, callR
 use Rattle.model.specs.Invariants.{Small, Valid}
 use Rattle.model.proofs.Lists.{twice, not-not, T-false, and-l, and-r, and-i, some-e, all-append, all-left}
 use Rattle.model.proofs.Pages.{rising, all-page, upto-got, step, more-iff}
+use Rattle.model.proofs.Pricing.{listing-untouched, coverable-untouched}
 use Rattle.model.proofs.Legal.{legal-basis, all-exactly}
 use Rattle.model.proofs.Runs.{Numbered, first-none, NoneApplies, none-first, Passed}
 use Rattle.model.proofs.Valid.{place-one}
@@ -220,6 +221,10 @@ unfolding answer answerFor refusalsOf
 page-library t e v h old n =
     let a : T (allowed Kind.L (t .problem .place)) = subst (λ (k : Kind). T (allowed k (t .problem .place))) e (h .place) in
     let w : NoneApplies (refusalsOf t Kind.L) = subst (λ (k : Kind). NoneApplies (refusalsOf t k)) e (h .own) in
-    let z = library-passes (t .problem) v (place-one Kind.L (t .problem .place) tt a) (twice (coverable (coveringOf t)) (w .0)) in
-    let d = listed-told (tableOf (t .problem)) (map pack (t .problem .cands)) (start t) old z in
-    (d .number, rw (e, d .sets, d .above, unpack-all (t .problem .cands) (v .sound .small), n))
+    let p = tableOf (t .problem) in
+    let ts = t .problem .cands in
+    let same = listing-untouched (pricesOf (t .problem)) usual p ts in
+    let c = subst (λ (b : Bool). T b) (coverable-untouched (pricesOf (t .problem)) usual p ts) (twice (coverable (coveringOf t)) (w .0)) in
+    let z = library-passes (t .problem) v (place-one Kind.L (t .problem .place) tt a) c in
+    let d = listed-told p (map pack ts) (start t) old z in
+    (d .number, rw (e, d .sets, d .above, unpack-all ts (v .sound .small), n, same))

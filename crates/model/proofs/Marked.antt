@@ -1,34 +1,37 @@
 -- The marked cases of paper 01, its primes and its job, the presence function point by point, the costs by literals, the tables of
--- refusals, the jobs with A and D, and the weights in records, by computation.
+-- refusals, the jobs with A and D, the weights in records, and prices, by computation.
 use Prim.Native.Nat.{ℕ, _+_, _-_, _*_, _^_, _<_}
 use native.Mathlib.Omega.{arith}
 use mathlib.Core.Path.{_≡_, refl}
 use mathlib.Core.List.{List, [], map}
-use lib.Dec.{T, ltb, lt→ltb}
+use lib.Dec.{T, ltb, eqb, lt→ltb}
 use lib.Arith.{le→nltb}
 use lib.Count.{ones, onesIn}
 use lib.ListN.{length}
-use Rattle.model.specs.Base.{below}
+use Rattle.model.specs.Base.{below, some}
 use Rattle.model.specs.Table.{Term, term, isOn, isDc, isOff, cells, onCells, holds, formed, holdsNoOff, legal, represents}
 use Rattle.model.specs.Primes.{contains, sameTerm, containedIn, terms, prime, primes}
 use Rattle.model.specs.Sets.{covers, cover, coverable, redundant, irredundant, irredundants, cost, cheapest}
 use Rattle.model.specs.Presence.{sumUpTo, sumAt, productUpTo, productWithDelta}
 use Rattle.model.specs.Pages.{atOrAbove, page, more}
-use Rattle.model.specs.Candidates.{termCost, listCost, basis, covering}
-use Rattle.model.specs.Commands.{Kind, kindOf, width, allowed, Problem, Context, rowsOfB, problemAfter, tableOf}
+use Rattle.model.specs.Candidates.{usual, literalsCharged, termCost, listCost, priced, basis, covering}
+use Rattle.model.specs.Commands.{Kind, kindOf, width, allowed, Problem, Context, rowsOfB, problemAfter, tableOf, pricesOf}
 use Rattle.model.specs.Answers.{answer, answerFor}
-use Rattle.model.specs.Refusals.{refusalsOf}
+use Rattle.model.specs.Refusals.{largestNumber, refusalsOf}
 use Rattle.model.specs.Rules.{refusal, refusalBy, refusalsBy}
 use Rattle.model.specs.Job.{run, runBy, packed, written}
 use Rattle.model.specs.Records.{lastRecord}
+use Rattle.model.specs.Pieces.{pieces}
+use Rattle.model.specs.Pricing.{unpriced}
 use Rattle.model.specs.Library.{callRefusals, listCovers}
 use Rattle.model.specs.Cases.{outcome, cases, walks, costsByLiterals, example, examplePrimes, exampleJob, exampleAnswers, countZeroJob}
 use Rattle.model.specs.Cases.{countZeroAnswers, stops, comeAndGo, weighings, halvesBasis, cheaperList, refusedCalls}
+use Rattle.model.specs.Cases.{charges, pricedCases, pricedJobs, pricedWeighings, pricedRecords, zeroedJobs}
 use Rattle.model.proofs.Lists.{T-true, T-false}
 
 -- a to h
-pub marked : map (λ c. outcome (c .of) (c .by)) cases ≡ map (λ c. c .gives) cases
-unfolding outcome irredundants irredundant redundant cover covers coverable isOn onCells cells holds termCost cost cheapest ones onesIn primes prime legal formed holdsNoOff isOff isDc contains sameTerm containedIn terms
+pub marked : map (λ c. outcome (basis (c .of) (c .by))) cases ≡ map (λ c. c .gives) cases
+unfolding outcome irredundants irredundant redundant cover covers coverable isOn onCells cells holds literalsCharged termCost cost cheapest ones onesIn primes prime legal formed holdsNoOff isOff isDc contains sameTerm containedIn terms
 marked = refl
 
 -- the presence function point by point, and where document 000's delta drops them
@@ -41,8 +44,8 @@ unfolding productWithDelta sumAt sumUpTo isOn onCells cells holds
 marked-delta = refl
 
 -- the cost rule
-pub marked-costs : map (λ k. termCost (term (2 ^ k - 1) 0 1)) (below 9) ≡ costsByLiterals
-unfolding termCost ones onesIn
+pub marked-costs : map (λ k. termCost usual (term (2 ^ k - 1) 0 1)) (below 9) ≡ costsByLiterals
+unfolding literalsCharged termCost ones onesIn
 marked-costs = refl
 
 -- the primes of c
@@ -52,25 +55,25 @@ marked-primes = refl
 
 -- the job: "0 55 63", and its answer bytes
 pub marked-result : packed (run exampleJob 32768) ≡ 55 * 2 ^ 16 + 63
-unfolding irredundants irredundant redundant cover covers coverable isOn onCells cells holds termCost cost cheapest ones onesIn primes prime legal formed holdsNoOff isOff isDc contains sameTerm containedIn terms runBy kindOf packed written refusalBy refusalsBy refusalsOf answer answerFor problemAfter page more atOrAbove
+unfolding irredundants irredundant redundant cover covers coverable isOn onCells cells holds literalsCharged termCost cost cheapest ones onesIn primes prime legal formed holdsNoOff isOff isDc contains sameTerm containedIn terms runBy kindOf packed written refusalBy refusalsBy refusalsOf answer answerFor problemAfter page more atOrAbove
 marked-result = refl
 
 pub marked-bytes : written (run exampleJob 32768) ≡ exampleAnswers
-unfolding irredundants irredundant redundant cover covers coverable isOn onCells cells holds termCost cost cheapest ones onesIn primes prime legal formed holdsNoOff isOff isDc contains sameTerm containedIn terms runBy kindOf written refusalBy refusalsBy refusalsOf answer answerFor problemAfter page more atOrAbove
+unfolding irredundants irredundant redundant cover covers coverable isOn onCells cells holds literalsCharged termCost cost cheapest ones onesIn primes prime legal formed holdsNoOff isOff isDc contains sameTerm containedIn terms runBy kindOf written refusalBy refusalsBy refusalsOf answer answerFor problemAfter page more atOrAbove
 marked-bytes = refl
 
 -- an L of count 0
 pub count-zero-bytes : written (run countZeroJob 4) ≡ countZeroAnswers
-unfolding irredundants irredundant redundant cover covers coverable isOn onCells cells holds termCost cost cheapest ones onesIn primes prime legal formed holdsNoOff isOff isDc contains sameTerm containedIn terms runBy kindOf written refusalBy refusalsBy refusalsOf answer answerFor problemAfter page more atOrAbove
+unfolding irredundants irredundant redundant cover covers coverable isOn onCells cells holds literalsCharged termCost cost cheapest ones onesIn primes prime legal formed holdsNoOff isOff isDc contains sameTerm containedIn terms runBy kindOf written refusalBy refusalsBy refusalsOf answer answerFor problemAfter page more atOrAbove
 count-zero-bytes = refl
 
 -- K2: jobs with A and D are accepted, and write these bytes
 pub come-and-go : map (λ c. packed (run (c .job) 32768)) comeAndGo ≡ map (λ c. length (c .job) * 2 ^ 16 + length (c .bytes)) comeAndGo
-unfolding irredundants irredundant redundant cover covers coverable isOn onCells cells holds termCost cost cheapest ones onesIn primes prime legal formed holdsNoOff isOff isDc contains sameTerm containedIn terms runBy kindOf packed written refusalBy refusalsBy refusalsOf answer answerFor problemAfter page more atOrAbove
+unfolding irredundants irredundant redundant cover covers coverable isOn onCells cells holds literalsCharged termCost cost cheapest ones onesIn primes prime legal formed holdsNoOff isOff isDc contains sameTerm containedIn terms runBy kindOf packed written refusalBy refusalsBy refusalsOf answer answerFor problemAfter page more atOrAbove
 come-and-go = refl
 
 pub come-and-go-bytes : map (λ c. written (run (c .job) 32768)) comeAndGo ≡ map (λ c. c .bytes) comeAndGo
-unfolding irredundants irredundant redundant cover covers coverable isOn onCells cells holds termCost cost cheapest ones onesIn primes prime legal formed holdsNoOff isOff isDc contains sameTerm containedIn terms runBy kindOf written refusalBy refusalsBy refusalsOf answer answerFor problemAfter page more atOrAbove
+unfolding irredundants irredundant redundant cover covers coverable isOn onCells cells holds literalsCharged termCost cost cheapest ones onesIn primes prime legal formed holdsNoOff isOff isDc contains sameTerm containedIn terms runBy kindOf written refusalBy refusalsBy refusalsOf answer answerFor problemAfter page more atOrAbove
 come-and-go-bytes = refl
 
 -- K5: the candidates in the records that jobs leave, and the weights beside them
@@ -78,17 +81,51 @@ abbrev beside : Problem → List Term × List ℕ
 beside q = (q .cands, q .weights)
 
 pub marked-weights : map (λ c. beside (lastRecord (run (c .job) (c .room)))) weighings ≡ map (λ c. (c .cands, c .weights)) weighings
-unfolding irredundants irredundant redundant cover covers coverable isOn onCells cells holds termCost cost cheapest ones onesIn primes prime legal formed holdsNoOff isOff isDc contains sameTerm containedIn terms runBy kindOf refusalBy refusalsBy refusalsOf answer answerFor problemAfter page more atOrAbove
+unfolding irredundants irredundant redundant cover covers coverable isOn onCells cells holds literalsCharged termCost cost cheapest ones onesIn primes prime legal formed holdsNoOff isOff isDc contains sameTerm containedIn terms runBy kindOf refusalBy refusalsBy refusalsOf answer answerFor problemAfter page more atOrAbove
 marked-weights = refl
+
+-- K6: what terms cost, what cases come to at other prices, jobs with W, and the weights and prices in the records that jobs leave
+pub marked-charges : map (λ c. termCost (c .at) (c .for)) charges ≡ map (λ c. c .cost) charges
+unfolding literalsCharged termCost ones onesIn
+marked-charges = refl
+
+pub marked-priced : map (λ c. outcome (priced (c .at) (c .of) (c .by))) pricedCases ≡ map (λ c. c .gives) pricedCases
+unfolding outcome irredundants irredundant redundant cover covers coverable isOn onCells cells holds literalsCharged termCost cost cheapest ones onesIn primes prime legal formed holdsNoOff isOff isDc contains sameTerm containedIn terms
+marked-priced = refl
+
+pub priced-jobs : map (λ c. packed (run (c .job) 32768)) pricedJobs ≡ map (λ c. length (c .job) * 2 ^ 16 + length (c .bytes)) pricedJobs
+unfolding irredundants irredundant redundant cover covers coverable isOn onCells cells holds literalsCharged termCost cost cheapest ones onesIn primes prime legal formed holdsNoOff isOff isDc contains sameTerm containedIn terms runBy kindOf packed written refusalBy refusalsBy refusalsOf answer answerFor problemAfter page more atOrAbove
+priced-jobs = refl
+
+pub priced-bytes : map (λ c. written (run (c .job) 32768)) pricedJobs ≡ map (λ c. c .bytes) pricedJobs
+unfolding irredundants irredundant redundant cover covers coverable isOn onCells cells holds literalsCharged termCost cost cheapest ones onesIn primes prime legal formed holdsNoOff isOff isDc contains sameTerm containedIn terms runBy kindOf written refusalBy refusalsBy refusalsOf answer answerFor problemAfter page more atOrAbove
+priced-bytes = refl
+
+pub priced-weights : map (λ c. beside (lastRecord (run (c .job) (c .room)))) pricedWeighings ≡ map (λ c. (c .cands, c .weights)) pricedWeighings
+unfolding irredundants irredundant redundant cover covers coverable isOn onCells cells holds literalsCharged termCost cost cheapest ones onesIn primes prime legal formed holdsNoOff isOff isDc contains sameTerm containedIn terms runBy kindOf refusalBy refusalsBy refusalsOf answer answerFor problemAfter page more atOrAbove
+priced-weights = refl
+
+pub priced-records : map (λ c. pricesOf (lastRecord (run (c .job) 32768))) pricedRecords ≡ map (λ c. c .prices) pricedRecords
+unfolding irredundants irredundant redundant cover covers coverable isOn onCells cells holds literalsCharged termCost cost cheapest ones onesIn primes prime legal formed holdsNoOff isOff isDc contains sameTerm containedIn terms runBy kindOf refusalBy refusalsBy refusalsOf answer answerFor problemAfter page more atOrAbove
+priced-records = refl
+
+-- jobs with zeros for W's operands: so two that differ in them alone are the same but for prices
+pub zeroed-jobs : map (λ c. unpriced (c .job)) zeroedJobs ≡ map (λ c. c .zeros) zeroedJobs
+unfolding unpriced pieces kindOf
+zeroed-jobs = refl
+
+-- the largest number is met
+pub largest-met : T (some (λ c. eqb (c .number) largestNumber) stops)
+largest-met = tt
 
 -- a list that represents the table is cheaper than the cheapest set of candidates that are not the primes
 pub rival-cheaper : T (represents (halvesBasis .table) cheaperList) × (listCost halvesBasis cheaperList < cost (covering halvesBasis) (cheapest (covering halvesBasis)))
-unfolding irredundants irredundant redundant cover covers isOn onCells cells holds termCost cost cheapest ones onesIn legal formed holdsNoOff isOff isDc represents listCost
+unfolding irredundants irredundant redundant cover covers isOn onCells cells holds literalsCharged termCost cost cheapest ones onesIn legal formed holdsNoOff isOff isDc represents listCost
 rival-cheaper = (tt, omega arith)
 
 -- jobs with their number, offset and written
 pub stopped-jobs : map (λ c. packed (run (c .job) (c .room))) stops ≡ map (λ c. c .number * 2 ^ 32 + c .offset * 2 ^ 16 + c .written) stops
-unfolding irredundants irredundant redundant cover covers coverable isOn onCells cells holds termCost cost cheapest ones onesIn primes prime legal formed holdsNoOff isOff isDc contains sameTerm containedIn terms runBy kindOf rowsOfB packed written refusalBy refusalsBy refusalsOf answer answerFor problemAfter page more atOrAbove
+unfolding irredundants irredundant redundant cover covers coverable isOn onCells cells holds literalsCharged termCost cost cheapest ones onesIn primes prime legal formed holdsNoOff isOff isDc contains sameTerm containedIn terms runBy kindOf rowsOfB packed written refusalBy refusalsBy refusalsOf answer answerFor problemAfter page more atOrAbove
 stopped-jobs = refl
 
 -- 11 is before 14 at P: with more than 64 primes it is 11, whatever the free part. No job of the table above shows it, for so many primes

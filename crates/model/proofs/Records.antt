@@ -1,71 +1,81 @@
 -- K5: the weights in every record of a job are the cost rule's, and without them the bytes are the same.
 use Prim.Native.Nat.{ℕ, zero, suc, _+_, _-_}
+use native.Mathlib.Omega.{arith}
 use mathlib.Core.Path.{_≡_, refl, sym, ap, _∙_}
-use mathlib.Core.Bool.{Bool, true, false, cond, _||_}
-use mathlib.Core.List.{List, [], _∷_, _++_, map-append}
+use mathlib.Core.Bool.{Bool, true, false, not, cond, _||_}
+use mathlib.Core.List.{List, [], _∷_, _++_, map, map-append}
 use borrow.Author.Tests.{ne-eqb}
-use lib.Dec.{eqb, ltb}
+use lib.Dec.{T, eqb, ltb}
 use lib.ListN.{length, drop}
 use Rattle.model.specs.Base.{without, All}
 use Rattle.model.specs.Table.{Term}
-use Rattle.model.specs.Candidates.{termCost}
-use Rattle.model.specs.Commands.{Kind, is, kindOf, width, Problem, Context, empty, Row, rowsOfB, addRow, addRows, addTerm, takeOut, problemAfter}
+use Rattle.model.specs.Candidates.{Prices, termCost}
+use Rattle.model.specs.Commands.{Kind, is, kindOf, width, allowed, Problem, pricesOf, Context, empty, Row, rowsOfB, withPrices, addRow, addRows, addTerm, takeOut, problemAfter}
 use Rattle.model.specs.Answers.{Answer, bytesOf, answerFor, answer}
 use Rattle.model.specs.Refusals.{rowsRefusals, refusalsOf}
 use Rattle.model.specs.Rules.{engine, refusalsBy, refusalBy}
 use Rattle.model.specs.Job.{Run, stop, answerThen, commands, runBy, written, packed, bufferAfter}
+use Rattle.model.specs.Invariants.{Valid}
 use Rattle.model.specs.Records.{Weighed, leaves, lastLeft, Leaves, FindsLeft, WeighedAt, EachWeighed, LastWeighed}
 use Rattle.model.specs.Records.{unweighted, withoutWeights, NoWeightAt, NoneWeighed, SameWithout}
-use Rattle.model.proofs.Lists.{map-without}
-use Rattle.model.proofs.Runs.{context, not-refused, Lawful, OnRuns, run-ind}
+use Rattle.model.proofs.Lists.{T-false, map-without}
+use Rattle.model.proofs.Runs.{context, Passed, not-refused, Lawful, OnRuns, IfGoes, run-ind}
 use Rattle.model.proofs.RowByRow.{rows-refused-bare}
 use Rattle.model.proofs.Sound.{engine-lawful}
+use Rattle.model.proofs.Valid.{place-last, after-valid, valid-empty}
 use Rattle.model.proofs.Behind.{behind-ind}
 
 -- ---- one command
 
 pub weighed-added : (q : Problem) (t : Term) → Weighed q → Weighed (addTerm q t)
-weighed-added q t w = ap (λ (ws : List ℕ). ws ++ (termCost t ∷ [])) w ∙ sym (map-append termCost (q .cands) (t ∷ []))
+weighed-added q t w = ap (λ (ws : List ℕ). ws ++ (termCost (pricesOf q) t ∷ [])) w ∙ sym (map-append (termCost (pricesOf q)) (q .cands) (t ∷ []))
 
 pub weighed-without : (q : Problem) (k : ℕ) → Weighed q → Weighed (takeOut q k)
-weighed-without q k w = ap (without k) w ∙ sym (map-without termCost k (q .cands))
+weighed-without q k w = ap (without k) w ∙ sym (map-without (termCost (pricesOf q)) k (q .cands))
 
 weighed-rows : (ws : List Row) (q : Problem) → Weighed q → Weighed (addRows q ws)
 weighed-rows [] q w = w
 weighed-rows (r ∷ ws) q w = weighed-rows ws (addRow q r) w
 
-pub weighed-after : (x : Context) (k : Kind) → Weighed (x .problem) → Weighed (problemAfter x k)
-unfolding problemAfter
-weighed-after x Kind.I w = refl
-weighed-after x Kind.R w = w
-weighed-after x Kind.B w = weighed-rows (rowsOfB (x .rest)) (x .problem) w
-weighed-after x Kind.T w = weighed-added (x .problem) _ w
-weighed-after x Kind.P w = refl
-weighed-after x Kind.A w = weighed-added (x .problem) _ w
-weighed-after x Kind.D w = weighed-without (x .problem) _ w
-weighed-after x Kind.L w = w
-weighed-after x Kind.C w = w
-weighed-after x Kind.E w = w
-weighed-after x Kind.none w = w
+-- W finds no candidate
+weighed-prices : (q : Problem) (p : Prices) → q .cands ≡ [] → Weighed q → Weighed (withPrices p q)
+weighed-prices q p none w = w ∙ ap (map (termCost (pricesOf q))) none ∙ sym (ap (map (termCost p)) none)
 
-weighed-at : (x : Context) → Weighed (x .problem) → WeighedAt x
-weighed-at x w = record { found = w; left = go (eqb (refusalBy engine x) 0) }
-  where
-    go : (b : Bool) → Weighed (cond b (problemAfter x (x .kind)) (x .problem))
-    go true = weighed-after x (x .kind) w
-    go false = w
+pub weighed-after : (x : Context) (k : Kind) → T (allowed k (x .problem .place)) → Valid (x .problem) → Weighed (x .problem) → Weighed (problemAfter x k)
+unfolding problemAfter
+weighed-after x Kind.I a v w = refl
+weighed-after x Kind.W a v w = weighed-prices (x .problem) _ (v .early (omega (arith, place-last Kind.W (x .problem .place) a))) w
+weighed-after x Kind.R a v w = w
+weighed-after x Kind.B a v w = weighed-rows (rowsOfB (x .rest)) (x .problem) w
+weighed-after x Kind.T a v w = weighed-added (x .problem) _ w
+weighed-after x Kind.P a v w = refl
+weighed-after x Kind.A a v w = weighed-added (x .problem) _ w
+weighed-after x Kind.D a v w = weighed-without (x .problem) _ w
+weighed-after x Kind.L a v w = w
+weighed-after x Kind.C a v w = w
+weighed-after x Kind.E a v w = w
+weighed-after x Kind.none a v w = w
+
+weighed-answered : (x : Context) → Passed engine x → refusalBy engine x ≡ 0 → Valid (x .problem) → Weighed (x .problem) → WeighedAt x
+weighed-answered x h z v w = record { found = w; left = rw z (weighed-after x (x .kind) (h .place) v w) }
+
+weighed-refused : (x : Context) → T (not (eqb (refusalBy engine x) 0)) → Weighed (x .problem) → WeighedAt x
+weighed-refused x n w = record { found = w; left = rw (T-false {b = eqb (refusalBy engine x) 0} n) w }
 
 -- ---- every job
 
 abbrev Keeps : OnRuns
-Keeps q bs free at r = Weighed q → All WeighedAt (r .contexts)
+Keeps q bs free at r = Valid q → Weighed q → All WeighedAt (r .contexts)
 
 pub each-weighed : EachWeighed
 each-weighed job room =
-    run-ind engine engine-lawful Keeps (λ q free at w. tt) (λ q b bs free at n w. (weighed-at (context q b bs free) w, tt))
-    (λ q b bs free at h z e w. (weighed-at (context q b bs free) w, tt))
-    (λ q b bs free at h z e r f w. (weighed-at (context q b bs free) w, f (weighed-after (context q b bs free) (kindOf b) w)))
-    (λ r. All WeighedAt (r .contexts)) job room (λ l. tt) (λ l m r f. f refl)
+    run-ind engine engine-lawful Keeps (λ q free at v w. tt) (λ q b bs free at n v w. (weighed-refused (context q b bs free) n w, tt))
+    (λ q b bs free at h z e v w. (weighed-answered (context q b bs free) h z v w, tt)) goes (λ r. All WeighedAt (r .contexts)) job room (λ l. tt) (λ l m r f. f valid-empty refl)
+  where
+    goes : IfGoes engine Keeps
+    goes q b bs free at h z e r f v w =
+        let x = context q b bs free in
+        (weighed-answered x h z v w, f (after-valid x (kindOf b) (h .place) (h .own) v) (weighed-after x (kindOf b) (h .place) v w))
 
 pub last-weighed : LastWeighed
 last-weighed job room = go empty (runBy engine job room .contexts) refl (each-weighed job room)
@@ -92,7 +102,7 @@ without-lawful : Lawful withoutWeights
 without-lawful = record {
   numbered = engine-lawful .numbered;
   last = engine-lawful .last;
-  sound = λ x a s. let r = engine-lawful .sound x a s in record { inputs = r .inputs; outputs = r .outputs; few = r .few; small = r .small };
+  sound = λ x a s. let r = engine-lawful .sound x a s in record { inputs = r .inputs; outputs = r .outputs; prices = r .prices; few = r .few; small = r .small };
   fits = engine-lawful .fits;
 }
 
@@ -135,6 +145,7 @@ record Unread (x : Context) (k : Kind) : Type 0 where
 unread : (x : Context) (k : Kind) → Unread x k
 unfolding refusalsOf answerFor problemAfter
 unread x Kind.I = record { refusals = refl; answer = refl; after = refl }
+unread x Kind.W = record { refusals = refl; answer = refl; after = refl }
 unread x Kind.R = record { refusals = refl; answer = refl; after = refl }
 unread x Kind.B = record { refusals = rows-refused (rowsOfB (x .rest)) (x .problem); answer = refl; after = rows-same (rowsOfB (x .rest)) (x .problem) }
 unread x Kind.T = record { refusals = refl; answer = refl; after = refl }

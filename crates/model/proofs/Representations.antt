@@ -15,7 +15,7 @@ use Rattle.model.specs.Base.{bit, every, sum}
 use Rattle.model.specs.Table.{Table, Term, isOn, onCells, holds, cells, legal, represents}
 use Rattle.model.specs.Primes.{prime}
 use Rattle.model.specs.Sets.{Covering, Within, members, covers, cover, cost, cheapest}
-use Rattle.model.specs.Candidates.{listCost, Basis, covering}
+use Rattle.model.specs.Candidates.{listCost, Basis, weigh, covering}
 use Rattle.model.proofs.Lists.{yes-or-no, and-l, and-r, every-e, filter-e, T-true, T-false}
 use Rattle.model.proofs.Bits.{bit0-e, bit0-n}
 use Rattle.model.proofs.Sets.{members-more, covers-e, cover-i, cheapest-le}
@@ -125,17 +125,17 @@ module _ {A B X : Type 0} (k : Covering A X) (held-by : B → X → Bool) (price
 
 -- ---- terms, at any weight that more literals do not lower
 
-module _ (b : Basis) (dearer : (t u : Term) → ones (t .care) ≤ ones (u .care) → b .weight t ≤ b .weight u) where
+module _ (b : Basis) (dearer : (t u : Term) → ones (t .care) ≤ ones (u .care) → weigh b t ≤ weigh b u) where
   pub no-cheaper-list : ((t : Term) → T (prime (b .table) t) → List·Memᴰ t (b .cands)) → (qs : List Term) → T (represents (b .table) qs) → cost (covering b) (cheapest (covering b)) ≤ listCost b qs
   unfolding represents onCells covers listCost
   no-cheaper-list all qs r =
       let fair = and-l (every (legal p) qs) (covers holds (onCells p) qs) r in
-      dominated (covering b) holds (b .weight) qs (λ q m. one q (prime-over p q (every-e (legal p) m fair))) (and-r (every (legal p) qs) (covers holds (onCells p) qs) r)
+      dominated (covering b) holds (weigh b) qs (λ q m. one q (prime-over p q (every-e (legal p) m fair))) (and-r (every (legal p) qs) (covers holds (onCells p) qs) r)
     where
       p : Table
       p = b .table
 
-      one : (q : Term) → Over p q → Dominated (covering b) holds (b .weight) q
+      one : (q : Term) → Over p q → Dominated (covering b) holds (weigh b) q
       one q o = record {
         by = o .top;
         listed = all (o .top) (o .prime-top);

@@ -9,8 +9,8 @@ use lib.Dec.{T, leb, eqb}
 use lib.Seq.{getD-take, drop-cons}
 use lib.ListN.{getD, length, take, drop, List·getD-map}
 use Rattle.model.specs.Base.{below, some, All}
-use Rattle.model.specs.Commands.{inRows, Problem, atPlace, withCands, tableOf, basisOf, Row, rowOfB, rowsOfB, addRow, addRows}
-use Rattle.model.specs.Candidates.{basis}
+use Rattle.model.specs.Commands.{inRows, Problem, atPlace, withCands, tableOf, pricesOf, basisOf, Row, rowOfB, rowsOfB, addRow, addRows}
+use Rattle.model.specs.Candidates.{priced}
 use Rattle.model.specs.Refusals.{Refusal, firstOf, rowRefusals, rowsRefusals}
 use Rattle.model.specs.Standing.{rowsSet}
 use Rattle.model.proofs.Lists.{from-at, below-e, all-append, all-left, all-right}
@@ -44,7 +44,7 @@ pub rows-numbered : (ws : List Row) (q : Problem) → All Numbered (rowsRefusals
 rows-numbered [] q = tt
 rows-numbered (w ∷ ws) q = all-append Numbered (rowRefusals q w) (rowsRefusals (addRow q w) ws) (omega arith, (omega arith, tt)) (rows-numbered ws (addRow q w))
 
-pub rows-set : (ws : List Row) (q : Problem) → basisOf (addRows q ws) ≡ basis (rowsSet (tableOf q) ws) (q .cands)
+pub rows-set : (ws : List Row) (q : Problem) → basisOf (addRows q ws) ≡ priced (pricesOf q) (rowsSet (tableOf q) ws) (q .cands)
 rows-set [] q = refl
 rows-set (w ∷ ws) q = rows-set ws (addRow q w)
 

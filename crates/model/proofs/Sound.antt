@@ -3,9 +3,9 @@ use Prim.Native.Nat.{ℕ, zero, suc, _*_, _/_, _^_, _≤_, _<_}
 use native.Mathlib.Omega.{arith}
 use native.Mathlib.Nat.{mul-suc}
 use mathlib.Core.Path.{_≡_, subst}
-use mathlib.Core.Bool.{Bool, true, false, cond, _&&_}
+use mathlib.Core.Bool.{Bool, true, false, not, cond, _&&_, _||_}
 use mathlib.Core.List.{List, [], _∷_, map}
-use lib.Dec.{leb, leb→le, nleb→lt, nltb→le}
+use lib.Dec.{T, leb, ltb, leb→le, nleb→lt, nltb→le}
 use lib.Pow.{pow-mono}
 use lib.ListN.{getD, length, length-take, length-append}
 use Rattle.model.specs.Base.{bit, below, join, sum, All, Bytes}
@@ -13,15 +13,15 @@ use Rattle.model.specs.Table.{Table, Term, formed}
 use Rattle.model.specs.Primes.{primes}
 use Rattle.model.specs.Sets.{Covering, members, coverable, irredundant, irredundants, cost, cheapest}
 use Rattle.model.specs.Pages.{atOrAbove, page, more}
-use Rattle.model.specs.Candidates.{termCost}
-use Rattle.model.specs.Commands.{queried, Kind, kindOf, width, Problem, empty, atPlace, Context, low, operand, operandTerm, operandNumber}
-use Rattle.model.specs.Commands.{start, count, coveringOf, Row, rowOfR, rowsOfB, addRow, addTerm, problemAfter, tableOf}
+use Rattle.model.specs.Candidates.{Prices, usual, termCost, weigh}
+use Rattle.model.specs.Commands.{queried, Kind, kindOf, width, Problem, empty, atPlace, Context, low, operand, operandTerm, operandNumber, operandPrices}
+use Rattle.model.specs.Commands.{start, count, coveringOf, Row, rowOfR, rowsOfB, addRow, addTerm, problemAfter, tableOf, pricesOf, basisOf}
 use Rattle.model.specs.Answers.{Answer, bytesOf, answerFor, answer}
-use Rattle.model.specs.Refusals.{size, candidateRefusals, refusalsOf}
+use Rattle.model.specs.Refusals.{size, dear, candidateRefusals, refusalsOf}
 use Rattle.model.specs.Rules.{Rules, engine}
 use Rattle.model.specs.Job.{runBy, written}
-use Rattle.model.specs.Invariants.{Small, Sound}
-use Rattle.model.proofs.Lists.{twice, and-l, and-r, below-e, length-without, all-append, all-filter, all-drop, all-without, all-of}
+use Rattle.model.specs.Invariants.{Small, Moderate, Sound}
+use Rattle.model.proofs.Lists.{twice, not-or-l, not-or-r, and-l, and-r, below-e, length-without, all-append, all-filter, all-drop, all-without, all-of, all-to}
 use Rattle.model.proofs.Bits.{within-le}
 use Rattle.model.proofs.Sets.{cheapest-irredundant}
 use Rattle.model.proofs.Pages.{all-page}
@@ -99,9 +99,25 @@ sum-small w most (t ∷ ts) s a = go (bit 0 s) (sum-small w most ts (s / 2) (a .
     go true h = omega (arith, a .0, mul-suc most (length ts))
     go false h = omega (arith, mul-suc most (length ts))
 
-costs-small : (ts : List Term) → All Small ts → All (λ t. termCost t ≤ 9) ts
-costs-small [] a = tt
-costs-small (t ∷ ts) a = (cost-small t (a .0 .0), costs-small ts (a .1))
+costs-small : (w : Prices) → Moderate w → (ts : List Term) → All Small ts → All (λ t. termCost w t ≤ 850) ts
+costs-small w m ts = all-to Small (λ t. termCost w t ≤ 850) (λ t. cost-small w t m) ts
+
+-- ---- prices
+
+pub usual-moderate : Moderate usual
+usual-moderate = record { term = omega arith; literal = omega arith; connection = omega arith }
+
+moderate : (w : Prices) → T (not (dear w)) → Moderate w
+moderate w n =
+    let term = ltb 50 (w .term) in
+    let literal = ltb 50 (w .literal) in
+    let connection = ltb 50 (w .connection) in
+    let others = not-or-r term (literal || connection) n in
+    record {
+      term = nltb→le 50 (w .term) (not-or-l term (literal || connection) n);
+      literal = nltb→le 50 (w .literal) (not-or-l literal connection others);
+      connection = nltb→le 50 (w .connection) (not-or-r literal connection others);
+    }
 
 -- ---- the engine's rules, command by command
 
@@ -111,10 +127,10 @@ record LawfulAt (t : Context) (k : Kind) : Type 0 where
   fits : NoneApplies (refusalsOf t k) → Sound (t .problem) → FitsBehind (t .rest) (answerFor t k)
 
 sound-at : (place : ℕ) (q : Problem) → Sound q → Sound (atPlace place q)
-sound-at place q s = record { inputs = s .inputs; outputs = s .outputs; few = s .few; small = s .small }
+sound-at place q s = record { inputs = s .inputs; outputs = s .outputs; prices = s .prices; few = s .few; small = s .small }
 
 pub sound-row : (q : Problem) (w : Row) → Sound q → Sound (addRow q w)
-sound-row q w s = record { inputs = s .inputs; outputs = s .outputs; few = s .few; small = s .small }
+sound-row q w s = record { inputs = s .inputs; outputs = s .outputs; prices = s .prices; few = s .few; small = s .small }
 
 sound-I : (t : Context) → NoneApplies (refusalsOf t Kind.I) → Sound (problemAfter t Kind.I)
 unfolding refusalsOf problemAfter
@@ -123,6 +139,7 @@ sound-I t a =
     record {
       inputs = leb→le (operand t 0) 8 (and-r (leb 1 (operand t 0)) (leb (operand t 0) 8) (and-l (size (operand t 0)) (size (operand t 1)) h));
       outputs = leb→le (operand t 1) 8 (and-r (leb 1 (operand t 1)) (leb (operand t 1) 8) (and-r (size (operand t 0)) (size (operand t 1)) h));
+      prices = usual-moderate;
       few = omega arith;
       small = tt;
     }
@@ -132,6 +149,7 @@ sound-term : (t : Context) → NoneApplies (candidateRefusals t) → Sound (t .p
 sound-term t a s = record {
   inputs = s .inputs;
   outputs = s .outputs;
+  prices = s .prices;
   few = omega (arith, nleb→lt 64 (length (t .problem .cands)) (a .1 .1 .0), length-append (t .problem .cands) (operandTerm t ∷ []));
   small =
       let p = tableOf (t .problem) in
@@ -150,12 +168,17 @@ unfolding refusalsOf answerFor cost
 fits-C t a s =
     let i = cheapest-irredundant (coveringOf t) (twice (coverable (coveringOf t)) (a .0)) in
     let h = pow-mono (s .few) in
-    let c = sum-small termCost 9 (t .problem .cands) (cheapest (coveringOf t)) (costs-small (t .problem .cands) (s .small)) in
+    let c = sum-small (weigh (basisOf (t .problem))) 850 (t .problem .cands) (cheapest (coveringOf t)) (costs-small (pricesOf (t .problem)) (s .prices) (t .problem .cands) (s .small)) in
     cheapest-fits (t .rest) (cost (coveringOf t) (cheapest (coveringOf t))) (cheapest (coveringOf t)) (omega (arith, c, s .few)) (omega (arith, i .among))
 
 lawful-at : (t : Context) (k : Kind) → LawfulAt t k
 unfolding refusalsOf problemAfter answerFor
 lawful-at t Kind.I = record { numbered = (omega arith, tt); sound = λ a s. sound-I t a; fits = λ a s. (tt, λ b. tt) }
+lawful-at t Kind.W = record {
+  numbered = (omega arith, tt);
+  sound = λ a s. record { inputs = s .inputs; outputs = s .outputs; prices = moderate (operandPrices t) (a .0); few = s .few; small = s .small };
+  fits = λ a s. (tt, λ b. tt);
+}
 lawful-at t Kind.R = record { numbered = (omega arith, (omega arith, tt)); sound = λ a s. sound-row (t .problem) (rowOfR (t .rest)) s; fits = λ a s. (tt, λ b. tt) }
 lawful-at t Kind.B = record {
   numbered = rows-numbered (rowsOfB (t .rest)) (t .problem);
@@ -168,6 +191,7 @@ lawful-at t Kind.P = record {
   sound = λ a s. record {
     inputs = s .inputs;
     outputs = s .outputs;
+    prices = s .prices;
     few = nltb→le 64 (length (primes (tableOf (t .problem)))) (a .0);
     small = primes-small (tableOf (t .problem)) (s .inputs) (s .outputs);
   };
@@ -179,6 +203,7 @@ lawful-at t Kind.D = record {
   sound = λ a s. record {
     inputs = s .inputs;
     outputs = s .outputs;
+    prices = s .prices;
     few = omega (arith, length-without (operandNumber t) (t .problem .cands) (nleb→lt (length (t .problem .cands)) (operandNumber t) (a .0)), s .few);
     small = all-without Small (operandNumber t) (t .problem .cands) (s .small);
   };
@@ -239,7 +264,7 @@ module _ (rules : Rules) (law : Lawful rules) where
       (λ r. All Fits (r .answers) × (Bytes job → Bytes (join (map bytesOf (r .answers))))) job room (λ l. (tt, λ y. tt)) (λ l m r f. f none)
     where
       none : Sound empty
-      none = record { inputs = omega arith; outputs = omega arith; few = omega arith; small = tt }
+      none = record { inputs = omega arith; outputs = omega arith; prices = usual-moderate; few = omega arith; small = tt }
 
   pub run-fits : (job : List ℕ) (room : ℕ) → All Fits (runBy rules job room .answers)
   run-fits job room = fine job room .0

@@ -11,9 +11,9 @@ use lib.Seq.{getD-take}
 use lib.ListN.{length}
 use Rattle.model.specs.Base.{some, filter, All}
 use Rattle.model.specs.Table.{term}
-use Rattle.model.specs.Candidates.{Basis, basis}
+use Rattle.model.specs.Candidates.{Basis, priced}
 use Rattle.model.specs.Commands.{atStart, begun, inRows, inTerms, queried, Kind, formOf, is, kinds, width, isQueryKind, allowed, empty}
-use Rattle.model.specs.Commands.{Problem, tableOf, basisOf, Context, operand, operandNumber, Row, rowsOfB, problemAfter}
+use Rattle.model.specs.Commands.{Problem, tableOf, pricesOf, basisOf, Context, operand, operandNumber, Row, rowsOfB, problemAfter}
 use Rattle.model.specs.Refusals.{refusalsOf}
 use Rattle.model.specs.Rules.{engine}
 use Rattle.model.specs.Demand3.{HasBasis}
@@ -29,15 +29,16 @@ use Rattle.model.proofs.Exchanges.{claim-where}
 use Rattle.model.proofs.Demand3.{query-kind, demand-3}
 use Rattle.model.proofs.Behind.{not-nil, behind-ind}
 
--- ---- the table and the candidates
+-- ---- the table, the prices and the candidates
 
 -- what a command leaves, wherever its operands are all that it reads
 sets-by : (x : Context) (k : Kind) → ((i : ℕ) → i < width k → operandOf (commandOf x) i ≡ operand x i) → basisOf (problemAfter x k) ≡ setsTo (commandOf x) k (basisOf (x .problem))
 unfolding problemAfter setsTo
 sets-by x Kind.I g = rw (g 0 (omega arith), g 1 (omega arith))
+sets-by x Kind.W g = rw (g 0 (omega arith), g 1 (omega arith), g 2 (omega arith))
 sets-by x Kind.R g = rw (g 0 (omega arith), g 1 (omega arith), g 2 (omega arith))
 sets-by x Kind.B g = rows-set (rowsOfB (x .rest)) (x .problem)
-    ∙ ap (λ (ws : List Row). basis (rowsSet (tableOf (x .problem)) ws) (x .problem .cands)) (sym (same-rows (commandOf x .operands) (x .rest) g))
+    ∙ ap (λ (ws : List Row). priced (pricesOf (x .problem)) (rowsSet (tableOf (x .problem)) ws) (x .problem .cands)) (sym (same-rows (commandOf x .operands) (x .rest) g))
 sets-by x Kind.T g = rw (g 0 (omega arith), g 1 (omega arith), g 2 (omega arith))
 sets-by x Kind.P g = refl
 sets-by x Kind.A g = rw (g 0 (omega arith), g 1 (omega arith), g 2 (omega arith))
@@ -83,6 +84,7 @@ taken-out x i z = subst (λ (k : Kind). TakenOut (operandNumber x) (x .problem .
 pub raised : (x : Context) (k : Kind) → T (allowed k (x .problem .place)) → problemAfter x k .place ≡ max (raises k) (x .problem .place)
 unfolding problemAfter rowsOfB
 raised x Kind.I a = omega (arith, place-last Kind.I (x .problem .place) a)
+raised x Kind.W a = omega (arith, place-last Kind.W (x .problem .place) a)
 raised x Kind.R a = omega (arith, place-last Kind.R (x .problem .place) a)
 raised x Kind.B a = omega (arith, place-last Kind.B (x .problem .place) a)
 raised x Kind.T a = omega arith
@@ -113,15 +115,19 @@ where-R-may place = refl
 pub raises-as-R : raises Kind.B ≡ raises Kind.R
 raises-as-R = refl
 
--- in the paper's words: which kinds raise the place beyond that of a row, and of a term
+-- in the paper's words: which kinds raise the place beyond that of I, of a row, and of a term
+
+beyond-start : (k : Kind) → leb (raises k) begun ≡ not (some (is k) (Kind.W ∷ Kind.R ∷ Kind.B ∷ Kind.T ∷ Kind.A ∷ Kind.P ∷ Kind.L ∷ Kind.C ∷ []))
+beyond-start k = all-e (λ (k : Kind). leb (raises k) begun ≡ not (some (is k) (Kind.W ∷ Kind.R ∷ Kind.B ∷ Kind.T ∷ Kind.A ∷ Kind.P ∷ Kind.L ∷ Kind.C ∷ []))) (Kind.none ∷ kinds)
+    (refl, (refl, (refl, (refl, (refl, (refl, (refl, (refl, (refl, (refl, (refl, (refl, tt)))))))))))) (kind-among k)
 
 beyond-rows : (k : Kind) → leb (raises k) inRows ≡ not (some (is k) (Kind.T ∷ Kind.A ∷ Kind.P ∷ Kind.L ∷ Kind.C ∷ []))
 beyond-rows k = all-e (λ (k : Kind). leb (raises k) inRows ≡ not (some (is k) (Kind.T ∷ Kind.A ∷ Kind.P ∷ Kind.L ∷ Kind.C ∷ []))) (Kind.none ∷ kinds)
-    (refl, (refl, (refl, (refl, (refl, (refl, (refl, (refl, (refl, (refl, (refl, tt))))))))))) (kind-among k)
+    (refl, (refl, (refl, (refl, (refl, (refl, (refl, (refl, (refl, (refl, (refl, (refl, tt)))))))))))) (kind-among k)
 
 beyond-terms : (k : Kind) → leb (raises k) inTerms ≡ not (some (is k) (Kind.P ∷ Kind.L ∷ Kind.C ∷ []))
 beyond-terms k = all-e (λ (k : Kind). leb (raises k) inTerms ≡ not (some (is k) (Kind.P ∷ Kind.L ∷ Kind.C ∷ []))) (Kind.none ∷ kinds)
-    (refl, (refl, (refl, (refl, (refl, (refl, (refl, (refl, (refl, (refl, (refl, tt))))))))))) (kind-among k)
+    (refl, (refl, (refl, (refl, (refl, (refl, (refl, (refl, (refl, (refl, (refl, (refl, tt)))))))))))) (kind-among k)
 
 max-leb : (a b m : ℕ) → leb (max a b) m ≡ leb a m && leb b m
 max-leb a b m = bool-ext (leb (max a b) m) (leb a m && leb b m)
@@ -145,6 +151,7 @@ pub places : Places
 places job room before x g l =
     let e = placed job room before x g in
     record {
+      prices = place-in-words Kind.W (Kind.W ∷ Kind.R ∷ Kind.B ∷ Kind.T ∷ Kind.A ∷ Kind.P ∷ Kind.L ∷ Kind.C ∷ []) beyond-start before (x .problem .place) e l;
       row = place-in-words Kind.R (Kind.T ∷ Kind.A ∷ Kind.P ∷ Kind.L ∷ Kind.C ∷ []) beyond-rows before (x .problem .place) e l;
       rows = place-in-words Kind.B (Kind.T ∷ Kind.A ∷ Kind.P ∷ Kind.L ∷ Kind.C ∷ []) beyond-rows before (x .problem .place) e l;
       primes = place-in-words Kind.P (Kind.T ∷ Kind.A ∷ Kind.P ∷ Kind.L ∷ Kind.C ∷ []) beyond-rows before (x .problem .place) e l;
@@ -157,6 +164,7 @@ places job room before x g l =
 settled : (x : Context) (k : Kind) → queried ≤ x .problem .place → T (allowed k (x .problem .place)) → T (not (addsOrRemoves k)) → basisOf (problemAfter x k) ≡ basisOf (x .problem)
 unfolding problemAfter
 settled x Kind.I p a n = absurd (omega (arith, place-last Kind.I (x .problem .place) a))
+settled x Kind.W p a n = absurd (omega (arith, place-last Kind.W (x .problem .place) a))
 settled x Kind.R p a n = absurd (omega (arith, place-last Kind.R (x .problem .place) a))
 settled x Kind.B p a n = absurd (omega (arith, place-last Kind.B (x .problem .place) a))
 settled x Kind.T p a n = absurd (omega (arith, place-last Kind.T (x .problem .place) a))

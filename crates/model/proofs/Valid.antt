@@ -24,7 +24,7 @@ use Rattle.model.proofs.Lists.{zero-at, twice, not-or-l, and-l, and-r, 
 use Rattle.model.proofs.Cubes.{prime-e, primes-e}
 use Rattle.model.proofs.Runs.{NoneApplies, Lawful, context, OnRuns, run-ind}
 use Rattle.model.proofs.RowByRow.{rows-keep}
-use Rattle.model.proofs.Sound.{sound-row, after-sound, engine-lawful}
+use Rattle.model.proofs.Sound.{usual-moderate, sound-row, after-sound, engine-lawful}
 
 -- ---- rows
 
@@ -90,6 +90,14 @@ valid-I t a s =
       legal = tt;
     }
 
+-- W, behind I alone
+valid-W : (t : Context) → T (allowed Kind.W (t .problem .place)) → NoneApplies (refusalsOf t Kind.W) → Valid (t .problem) → Valid (problemAfter t Kind.W)
+unfolding problemAfter
+valid-W t p a s =
+    let o = place-one Kind.W (t .problem .place) tt p in
+    let none = s .early (omega (arith, place-last Kind.W (t .problem .place) p)) in
+    record { sound = after-sound t Kind.W a (s .sound); sizes = λ l. s .sizes o; rows = λ l. s .rows o; good = s .good; early = λ l. none; legal = s .legal }
+
 -- a row, while rows may come
 pub valid-row : (q : Problem) (w : Row) → begun ≤ q .place → q .place ≤ inRows → NoneApplies (rowRefusals q w) → Valid q → Valid (addRow q w)
 valid-row q w o m a s =
@@ -139,6 +147,7 @@ primes-legal p = all-of (λ (u : Term). T (legal p u)) (primes p) (λ u m. prime
 pub after-valid : (t : Context) (k : Kind) → T (allowed k (t .problem .place)) → NoneApplies (refusalsOf t k) → Valid (t .problem) → Valid (problemAfter t k)
 unfolding refusalsOf problemAfter
 after-valid t Kind.I p a s = valid-I t a s
+after-valid t Kind.W p a s = valid-W t p a s
 after-valid t Kind.R p a s = valid-row (t .problem) (rowOfR (t .rest)) (place-one Kind.R (t .problem .place) tt p) (place-last Kind.R (t .problem .place) p) a s
 after-valid t Kind.B p a s = valid-rows (t .problem) (rowsOfB (t .rest)) (place-one Kind.B (t .problem .place) tt p) (place-last Kind.B (t .problem .place) p) a s
 after-valid t Kind.T p a s = valid-term t (place-one Kind.T (t .problem .place) tt p) a s (after-sound t Kind.T a (s .sound))
@@ -163,7 +172,7 @@ after-valid t Kind.none p a s = s
 
 pub valid-empty : Valid empty
 valid-empty = record {
-  sound = record { inputs = omega arith; outputs = omega arith; few = omega arith; small = tt };
+  sound = record { inputs = omega arith; outputs = omega arith; prices = usual-moderate; few = omega arith; small = tt };
   sizes = λ l. absurd (omega (arith, l));
   rows = λ l. absurd (omega (arith, l));
   good = λ v. zeros-good 0;

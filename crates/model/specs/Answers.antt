@@ -10,7 +10,7 @@ use Rattle.model.specs.Sets.{irredundants, cheapest, cost}
 use Rattle.model.specs.Pages.{page, more}
 use Rattle.model.specs.Commands.{Kind, Context, low, start, count, coveringOf, tableOf}
 
--- I, R, B, T, A and D answer nothing
+-- I, W, R, B, T, A and D answer nothing
 pub data Answer : Type 0 where
   nothing : Answer
   primesAre : List Term → Answer
@@ -37,6 +37,7 @@ hasBytes a = nonEmpty (bytesOf a)
 -- the answer of a command that is not refused. L: "they are the lister's for a row of count entries"
 unfoldable pub answerFor : Context → Kind → Answer
 answerFor x Kind.I = nothing
+answerFor x Kind.W = nothing
 answerFor x Kind.R = nothing
 answerFor x Kind.B = nothing
 answerFor x Kind.T = nothing

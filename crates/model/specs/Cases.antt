@@ -1,16 +1,19 @@
 -- Paper 01, "The two-output example of document 003": the marked cases as one table, the presence function on some of them, and the job
 -- with all its bytes; tables of jobs and library calls that pin the order of refusals, of jobs in which candidates come and go, of jobs with
--- eight rows in a command, and of the weights in the records that jobs leave (theorems: proofs/Marked, proofs/EightRows).
-use Prim.Native.Nat.{ℕ, zero, suc, _+_}
+-- eight rows in a command, of the weights in the records that jobs leave, and of prices (theorems: proofs/Marked, proofs/EightRows,
+-- proofs/Pricing).
+use Prim.Native.Nat.{ℕ, zero, suc, _+_, _<_}
 use mathlib.Core.Bool.{Bool, true, false, cond}
 use mathlib.Core.List.{List, [], _∷_, _++_, map}
-use lib.ListN.{length, replicate}
+use lib.Dec.{T}
+use lib.ListN.{length, take, drop, replicate}
 use Rattle.model.specs.Base.{join}
-use Rattle.model.specs.Table.{Table, Term, term}
+use Rattle.model.specs.Table.{Table, Term, term, represents}
 use Rattle.model.specs.Primes.{primes}
 use Rattle.model.specs.Sets.{coverable, irredundants, cost, cheapest}
-use Rattle.model.specs.Candidates.{Basis, basis, covering}
+use Rattle.model.specs.Candidates.{Prices, prices, Basis, priced, basis, listCost, covering}
 use Rattle.model.specs.Commands.{low}
+use Rattle.model.specs.Demand3.{ArePrimes}
 
 -- ---- cases a to h
 
@@ -19,9 +22,9 @@ pub data Outcome : Type 0 where
   listed : List ℕ → List ℕ → ℕ → ℕ → Outcome
   refused : ℕ → Outcome
 
-unfoldable pub outcome : Table → List Term → Outcome
-outcome p ts =
-    let k = covering (basis p ts) in
+unfoldable pub outcome : Basis → Outcome
+outcome b =
+    let k = covering b in
     let all = irredundants k in
     let c = cheapest k in
     let r = listed all (map (cost k) all) c (cost k c) in
@@ -167,6 +170,10 @@ d k bs = 0x44 ∷ k ∷ bs
 abbrev l : ℕ → List ℕ → List ℕ
 l count bs = 0x4c ∷ 0 ∷ 0 ∷ 0 ∷ 0 ∷ 0 ∷ 0 ∷ 0 ∷ 0 ∷ count ∷ bs
 
+-- a W
+abbrev w : ℕ → ℕ → ℕ → List ℕ → List ℕ
+w term literal connection bs = 0x57 ∷ term ∷ literal ∷ connection ∷ bs
+
 -- k times the same term
 abbrev times : ℕ → (List ℕ → List ℕ) → List ℕ → List ℕ
 times zero one bs = bs
@@ -218,6 +225,16 @@ stops =
     ∷ stopped (0x42 ∷ []) 9 4 0 0
     ∷ stopped (bothFree (t 0 0 1 (zeros 0 []))) 9 4 15 0
     ∷ stopped (goneAgain (zeros 0 [])) 9 4 17 0
+    -- 4: W before I, though its operands are missing; twice; behind R, B, T, an A whose candidate has gone, P, L and C
+    ∷ stopped (0x57 ∷ []) 9 4 0 0
+    ∷ stopped (i11 (w 1 1 0 (w 1 1 0 []))) 9 4 7 0
+    ∷ stopped (i11 (row 0 0 0 (w 1 1 0 []))) 9 4 7 0
+    ∷ stopped (0x49 ∷ 3 ∷ 1 ∷ zeros 0 (w 1 1 0 [])) 9 4 21 0
+    ∷ stopped (bothFree (t 0 0 1 (w 1 1 0 []))) 9 4 15 0
+    ∷ stopped (goneAgain (w 1 1 0 [])) 9 4 17 0
+    ∷ stopped (i11 (0x50 ∷ w 1 1 0 [])) 9 4 4 2
+    ∷ stopped (i11 (l 0 (w 1 1 0 []))) 9 4 13 3
+    ∷ stopped (i11 (0x43 ∷ w 1 1 0 [])) 20 4 4 11
     -- 5: before 6; an L of eight operand bytes
     ∷ stopped (0x49 ∷ 0 ∷ []) 9 5 0 0
     ∷ stopped (i11 (0x4c ∷ 0 ∷ 0 ∷ 0 ∷ 0 ∷ 0 ∷ 0 ∷ 0 ∷ 0 ∷ [])) 9 5 3 0
@@ -226,6 +243,8 @@ stops =
     ∷ stopped (i11 (0x44 ∷ [])) 9 5 3 0
     -- 5: a B of sixteen operand bytes, before 7
     ∷ stopped (i11 (b 200 (replicate 15 0) [])) 9 5 3 0
+    -- 5: a W of two operand bytes, before 16
+    ∷ stopped (i11 (0x57 ∷ 51 ∷ 51 ∷ [])) 9 5 3 0
     -- 15: nothing stands; one past the last; the last taken out before; 64 of 64; 255; the finished C stands
     ∷ stopped (i11 (d 0 [])) 0 15 3 0
     ∷ stopped (bothFree (t 0 0 1 (d 1 []))) 9 15 15 0
@@ -236,6 +255,17 @@ stops =
     -- 6
     ∷ stopped (0x49 ∷ 0 ∷ 1 ∷ []) 9 6 0 0
     ∷ stopped (0x49 ∷ 1 ∷ 9 ∷ []) 9 6 0 0
+    -- 16: each price at 51; 255; a second W of that kind is at a wrong place
+    ∷ stopped (i11 (w 51 0 0 [])) 9 16 3 0
+    ∷ stopped (i11 (w 50 51 50 [])) 9 16 3 0
+    ∷ stopped (i11 (w 50 50 51 [])) 9 16 3 0
+    ∷ stopped (i11 (w 255 255 255 [])) 0 16 3 0
+    ∷ stopped (i11 (w 0 0 0 (w 51 51 51 []))) 9 4 7 0
+    -- 0: all at 50, all at 0; behind W a row and a term, a P
+    ∷ stopped (i11 (w 50 50 50 (0x45 ∷ []))) 9 0 8 1
+    ∷ stopped (i11 (w 0 0 0 (0x45 ∷ []))) 9 0 8 1
+    ∷ stopped (i11 (w 1 2 3 (row 0 0 1 (t 1 0 1 (0x45 ∷ []))))) 9 0 16 1
+    ∷ stopped (i11 (w 1 2 3 (0x50 ∷ 0x45 ∷ []))) 9 0 9 3
     -- 7: before 8; a second row of a vertex
     ∷ stopped (i11 (row 2 1 1 [])) 9 7 3 0
     ∷ stopped (i11 (row 1 0 0 (row 1 0 0 []))) 9 7 7 0
@@ -446,6 +476,139 @@ weighings =
     ∷ weighs (exampleRows (a 3 1 3 (0x50 ∷ []))) (term 3 1 3 ∷ []) (3 ∷ [])
     ∷ record { job = exampleRows (0x50 ∷ []); room = 19; cands = []; weights = [] }
     ∷ []
+
+-- ---- K6: what terms cost, what cases come to at other prices, and jobs with W; all worked out by hand
+
+pub record Charge : Type 0 where
+  pub at : Prices
+  pub for : Term
+  pub cost : ℕ
+
+abbrev charge : Prices → Term → ℕ → Charge
+charge w t c = record { at = w; for = t; cost = c }
+
+-- no literal; one; two, with one output and with three; apart from each other; eight of both; all prices at 50, at 0
+abbrev pub charges : List Charge
+charges =
+    charge (prices 3 5 7) (term 0 0 1) 10
+    ∷ charge (prices 3 5 7) (term 4 4 2) 10
+    ∷ charge (prices 3 5 7) (term 6 2 1) 20
+    ∷ charge (prices 3 5 7) (term 6 2 7) 34
+    ∷ charge (prices 3 5 7) (term 5 1 5) 27
+    ∷ charge (prices 3 5 7) (term 165 5 73) 44
+    ∷ charge (prices 3 5 7) (term 255 0 255) 99
+    ∷ charge (prices 50 50 50) (term 255 0 255) 850
+    ∷ charge (prices 0 0 0) (term 255 0 255) 0
+    ∷ []
+
+pub record PricedCase : Type 0 where
+  pub at : Prices
+  pub of : Table
+  pub by : List Term
+  pub gives : Outcome
+
+abbrev pricedCase : Prices → Table → List Term → Outcome → PricedCase
+pricedCase w p ts o = record { at = w; of = p; by = ts; gives = o }
+
+-- the two halves of a table, and the term that is both
+abbrev wholeAndHalves : List Term
+wholeAndHalves = term 1 0 1 ∷ term 1 1 1 ∷ term 0 0 1 ∷ []
+
+-- a and b, d, e and g; one table by its halves and by the whole; a table whose one prime drives eight outputs. Where all costs are equal the
+-- smallest number is the cheapest; at cost 0 it is irredundant too
+abbrev pub pricedCases : List PricedCase
+pricedCases =
+    pricedCase (prices 37 23 11) example sixTerms (listed (11 ∷ 22 ∷ 26 ∷ 41 ∷ 52 ∷ 56 ∷ []) (201 ∷ 258 ∷ 258 ∷ 144 ∷ 201 ∷ 201 ∷ []) 41 144)
+    ∷ pricedCase (prices 50 50 50) example sixTerms (listed (11 ∷ 22 ∷ 26 ∷ 41 ∷ 52 ∷ 56 ∷ []) (450 ∷ 600 ∷ 600 ∷ 300 ∷ 450 ∷ 450 ∷ []) 41 300)
+    ∷ pricedCase (prices 0 1 0) example sixTerms (listed (11 ∷ 22 ∷ 26 ∷ 41 ∷ 52 ∷ 56 ∷ []) (2 ∷ 4 ∷ 4 ∷ 0 ∷ 2 ∷ 2 ∷ []) 41 0)
+    ∷ pricedCase (prices 1 0 0) example sixTerms (listed (11 ∷ 22 ∷ 26 ∷ 41 ∷ 52 ∷ 56 ∷ []) (3 ∷ 3 ∷ 3 ∷ 3 ∷ 3 ∷ 3 ∷ []) 11 3)
+    ∷ pricedCase (prices 0 0 0) example sixTerms (listed (11 ∷ 22 ∷ 26 ∷ 41 ∷ 52 ∷ 56 ∷ []) (0 ∷ 0 ∷ 0 ∷ 0 ∷ 0 ∷ 0 ∷ []) 11 0)
+    ∷ pricedCase (prices 50 1 0) crawled sixTerms (listed (11 ∷ 23 ∷ 45 ∷ 52 ∷ 58 ∷ []) (152 ∷ 204 ∷ 200 ∷ 152 ∷ 204 ∷ []) 11 152)
+    ∷ pricedCase (prices 0 0 1) crawled sixTerms (listed (11 ∷ 23 ∷ 45 ∷ 52 ∷ 58 ∷ []) (4 ∷ 6 ∷ 4 ∷ 4 ∷ 6 ∷ []) 11 4)
+    ∷ pricedCase (prices 50 50 50) noRows [] (listed (0 ∷ []) (0 ∷ []) 0 0)
+    ∷ pricedCase (prices 0 0 50) bothOn (term 0 0 1 ∷ term 0 0 1 ∷ []) (listed (1 ∷ 2 ∷ []) (50 ∷ 50 ∷ []) 1 50)
+    ∷ pricedCase (prices 1 50 0) bothOn wholeAndHalves (listed (3 ∷ 4 ∷ []) (2 ∷ 1 ∷ []) 4 1)
+    ∷ pricedCase (prices 0 50 0) bothOn wholeAndHalves (listed (3 ∷ 4 ∷ []) (0 ∷ 0 ∷ []) 3 0)
+    ∷ pricedCase (prices 1 1 2) (table 1 8 (255 ∷ 255 ∷ []) (0 ∷ 0 ∷ [])) (term 0 0 255 ∷ []) (listed (1 ∷ []) (17 ∷ []) 1 17)
+    ∷ []
+
+-- jobs with W, with the bytes that they write: the example's; its rows with the primes, behind which one is put in and one taken out
+abbrev pub pricedJobs : List AnsweredJob
+pricedJobs =
+    writes (take 3 exampleHead ++ w 37 23 11 (drop 3 exampleHead ++ (0x43 ∷ l 6 (0x45 ∷ []))))
+    (join (leastBytes 144 41 ∷ pageBytes (11 ∷ 22 ∷ 26 ∷ 41 ∷ 52 ∷ 56 ∷ []) ∷ (0x65 ∷ []) ∷ []))
+    ∷ writes (i11 (w 2 3 4 (row 0 1 0 (row 1 1 0 (0x50 ∷ 0x43 ∷ a 1 0 1 (a 1 1 1 (d 0 (ask (0x45 ∷ [])))))))))
+    (join ((0x70 ∷ 1 ∷ 0 ∷ 0 ∷ 1 ∷ []) ∷ leastBytes 6 1 ∷ pageBytes (3 ∷ []) ∷ leastBytes 12 3 ∷ (0x65 ∷ []) ∷ []))
+    ∷ []
+
+-- the weights beside the candidates follow the prices: by T, by P, by A; the dearest of all
+abbrev pub pricedWeighings : List Weighing
+pricedWeighings =
+    weighs (take 3 exampleHead ++ w 37 23 11 (drop 3 exampleHead)) sixTerms (48 ∷ 105 ∷ 48 ∷ 48 ∷ 105 ∷ 48 ∷ [])
+    ∷ weighs (i11 (w 2 3 4 (row 0 1 0 (row 1 1 0 (0x50 ∷ a 1 0 1 []))))) (term 0 0 1 ∷ term 1 0 1 ∷ []) (6 ∷ 6 ∷ [])
+    ∷ weighs (0x49 ∷ 8 ∷ 8 ∷ w 50 50 50 (row 255 255 0 (t 255 255 255 []))) (term 255 255 255 ∷ []) (850 ∷ [])
+    -- a W behind them is refused
+    ∷ weighs (i11 (w 2 3 4 (row 0 1 0 (t 1 0 1 (w 5 6 7 []))))) (term 1 0 1 ∷ []) (6 ∷ [])
+    ∷ []
+
+-- the prices in the records that jobs leave: without W; set; a refused W leaves those before it
+pub record Priced : Type 0 where
+  pub job : List ℕ
+  pub prices : Prices
+
+abbrev pricedAs : List ℕ → Prices → Priced
+pricedAs job w = record { job = job; prices = w }
+
+abbrev pub pricedRecords : List Priced
+pricedRecords =
+    pricedAs [] (prices 1 1 0)
+    ∷ pricedAs exampleJob (prices 1 1 0)
+    ∷ pricedAs (i11 (w 2 3 4 [])) (prices 2 3 4)
+    ∷ pricedAs (i11 (w 2 3 4 (row 0 1 0 (t 1 0 1 (0x43 ∷ d 0 (a 1 0 1 (0x45 ∷ []))))))) (prices 2 3 4)
+    ∷ pricedAs (i11 (w 2 3 4 (w 5 6 7 []))) (prices 2 3 4)
+    ∷ pricedAs (i11 (w 2 51 4 [])) (prices 1 1 0)
+    ∷ []
+
+-- jobs, and the same with zeros for the operands of W
+pub record Zeroed : Type 0 where
+  pub job : List ℕ
+  pub zeros : List ℕ
+
+abbrev zeroedTo : List ℕ → List ℕ → Zeroed
+zeroedTo job bs = record { job = job; zeros = bs }
+
+-- the example's with W, with other prices, wherever a W stands, with an operand missing; no W: the vertex of an R, behind E, behind a byte
+-- that is no command
+abbrev exampleAt : ℕ → ℕ → ℕ → List ℕ
+exampleAt term literal connection = take 3 exampleHead ++ w term literal connection (drop 3 exampleHead ++ ask (0x45 ∷ []))
+
+abbrev pub zeroedJobs : List Zeroed
+zeroedJobs =
+    zeroedTo (exampleAt 37 23 11) (exampleAt 0 0 0)
+    ∷ zeroedTo (exampleAt 0 50 7) (exampleAt 0 0 0)
+    ∷ zeroedTo (i11 (w 1 2 3 (t 0 0 1 (w 4 5 6 [])))) (i11 (w 0 0 0 (t 0 0 1 (w 0 0 0 []))))
+    ∷ zeroedTo (i11 (0x57 ∷ 5 ∷ 6 ∷ [])) (i11 (0x57 ∷ 0 ∷ 0 ∷ []))
+    ∷ zeroedTo (0x49 ∷ 7 ∷ 2 ∷ row 0x57 1 2 (row 3 0 1 [])) (0x49 ∷ 7 ∷ 2 ∷ row 0x57 1 2 (row 3 0 1 []))
+    ∷ zeroedTo (i11 (0x45 ∷ w 1 2 3 [])) (i11 (0x45 ∷ w 1 2 3 []))
+    ∷ zeroedTo (i11 (0 ∷ w 1 2 3 [])) (i11 (0 ∷ w 1 2 3 []))
+    ∷ []
+
+-- "a prime may drive more outputs than the rival pays for": output 0 wanted everywhere, output 1 free. The one prime drives both, and this
+-- list has its term for output 0 alone
+abbrev pub freeBeside : Table
+freeBeside = table 1 2 (1 ∷ 1 ∷ []) (2 ∷ 2 ∷ [])
+
+abbrev pub lone : List Term
+lone = term 0 0 1 ∷ []
+
+abbrev pub atItsPrimes : Prices → Basis
+atItsPrimes w = priced w freeBeside (primes freeBeside)
+
+-- the candidates are the primes, the list represents the table, and it is cheaper than the cheapest set
+pub record Undercut (b : Basis) (qs : List Term) : Type 0 where
+  pub all-primes : ArePrimes b
+  pub representing : T (represents (b .table) qs)
+  pub cheaper : listCost b qs < cost (covering b) (cheapest (covering b))
 
 -- ---- library calls that are refused, each with its number. Where two refusals apply, the first in the paper's order is given
 

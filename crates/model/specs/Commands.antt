@@ -1,4 +1,4 @@
--- Paper 01, "Job stream", and K2, K3 and K5: the commands, the problem so far, and what a command makes of it.
+-- Paper 01, "Job stream", and K2, K3, K5 and K6: the commands, the problem so far, and what a command makes of it.
 use Prim.Native.Nat.{ℕ, zero, suc, _+_, _*_, _/_, _%_, _^_, max}
 use mathlib.Core.Bool.{Bool, true, false, cond, _&&_}
 use mathlib.Core.List.{List, [], _∷_, _++_, map}
@@ -8,7 +8,7 @@ use Rattle.model.specs.Base.{below, filter, without}
 use Rattle.model.specs.Table.{Table, Cell, Term, term}
 use Rattle.model.specs.Primes.{primes}
 use Rattle.model.specs.Sets.{Covering}
-use Rattle.model.specs.Candidates.{termCost, Basis, basis, covering}
+use Rattle.model.specs.Candidates.{Prices, prices, usual, termCost, Basis, priced, covering}
 
 -- ---- numbers as bytes
 
@@ -23,27 +23,30 @@ number (b ∷ bs) = b + 256 * number bs
 
 -- ---- places
 
--- the place in a job, by the furthest that came: nothing, I, a row (R or B), a term (T or A), or a P, L or C. Each is behind those before it
+-- the place in a job, by the furthest that came: nothing, I, W, a row (R or B), a term (T or A), or a P, L or C. Each is behind those before it
 abbrev pub atStart : ℕ
 atStart = 0
 
 abbrev pub begun : ℕ
 begun = 1
 
+abbrev pub inPrices : ℕ
+inPrices = 2
+
 abbrev pub inRows : ℕ
-inRows = 2
+inRows = 3
 
 abbrev pub inTerms : ℕ
-inTerms = 3
+inTerms = 4
 
 abbrev pub queried : ℕ
-queried = 4
+queried = 5
 
 -- ---- commands
 
 -- "commands of one byte"; `none` is a byte that is no command
 pub data Kind : Type 0 where
-  I R B T P A D L C E none : Kind
+  I W R B T P A D L C E none : Kind
 
 -- "one byte with operands of fixed widths": the byte, the width, the last place at which the command may stand, and whether it is a
 -- query, which asks for covers
@@ -56,10 +59,12 @@ pub record Form : Type 0 where
 abbrev form : ℕ → ℕ → ℕ → Bool → Form
 form code width last query = record { code = code; width = width; last = last; query = query }
 
--- I "first, once"; R "after I, before any T, P, L or C"; B "stands where R may stand"; T "after I and any R, not after P, L or C"; P "at most
--- once, no T before it, not after L or C"; A and D "may stand anywhere after I and before E"; L, C and E "after I"
+-- I "first, once"; W "may stand once, after I and before any R, B, T, A, P, L or C"; R "after I, before any T, P, L or C"; B "stands where R may
+-- stand"; T "after I and any R, not after P, L or C"; P "at most once, no T before it, not after L or C"; A and D "may stand anywhere after I and
+-- before E"; L, C and E "after I"
 abbrev pub formOf : Kind → Form
 formOf I = form 0x49 2 atStart false
+formOf W = form 0x57 3 begun false
 formOf R = form 0x52 3 inRows false
 formOf B = form 0x42 17 inRows false
 formOf T = form 0x54 3 inTerms false
@@ -87,7 +92,7 @@ firstKind b (k ∷ ks) = let r = firstKind b ks in cond (eqb b (formOf k .code))
 
 -- all commands
 abbrev pub kinds : List Kind
-kinds = I ∷ R ∷ B ∷ T ∷ P ∷ A ∷ D ∷ L ∷ C ∷ E ∷ []
+kinds = I ∷ W ∷ R ∷ B ∷ T ∷ P ∷ A ∷ D ∷ L ∷ C ∷ E ∷ []
 
 unfoldable pub kindOf : ℕ → Kind
 kindOf b = firstKind b kinds
@@ -101,10 +106,11 @@ queryKinds = filter isQueryKind kinds
 
 -- ---- the problem so far
 
--- what I sets: "n, m"
+-- what I sets: "n, m"; and the prices, which W sets
 pub record Settings : Type 0 where
   pub n : ℕ
   pub m : ℕ
+  pub prices : Prices
 
 -- the rows: on and dc of vertex v stand at v, 0 and 0 for "a vertex with no row"; given are the vertices that have one
 pub record TableRows : Type 0 where
@@ -124,9 +130,9 @@ pub record Problem : Type 0 where
 abbrev pub emptyRows : ℕ → TableRows
 emptyRows k = record { on = replicate k 0; dc = replicate k 0; given = [] }
 
--- n inputs and m outputs, with no row for any of so many vertices
+-- n inputs and m outputs, with no row for any of so many vertices. K6: "Without it the prices are 1, 1 and 0"
 abbrev pub started : ℕ → ℕ → ℕ → ℕ → Problem
-started place n m vertices = record { place = place; settings = record { n = n; m = m }; rows = emptyRows vertices; cands = []; weights = [] }
+started place n m vertices = record { place = place; settings = record { n = n; m = m; prices = usual }; rows = emptyRows vertices; cands = []; weights = [] }
 
 abbrev pub empty : Problem
 empty = started atStart 0 0 0
@@ -135,8 +141,12 @@ empty = started atStart 0 0 0
 abbrev pub tableOf : Problem → Table
 tableOf q = record { n = q .settings .n; m = q .settings .m; on = q .rows .on; dc = q .rows .dc }
 
+-- the prices set
+abbrev pub pricesOf : Problem → Prices
+pricesOf q = q .settings .prices
+
 abbrev pub basisOf : Problem → Basis
-basisOf q = basis (tableOf q) (q .cands)
+basisOf q = priced (pricesOf q) (tableOf q) (q .cands)
 
 -- the context of a command: the problem it finds, its kind, the job's bytes behind the command byte, and the length of the free
 -- part of the answer buffer
@@ -154,6 +164,10 @@ coveringOf x = covering (basisOf (x .problem))
 
 abbrev pub operand : Context → ℕ → ℕ
 operand x i = getD (x .rest) i 0
+
+-- W: "three bytes: price of a term, of a literal, of an output connection"
+abbrev pub operandPrices : Context → Prices
+operandPrices x = prices (operand x 0) (operand x 1) (operand x 2)
 
 -- a row: "vertex, on, dc". The vertex is a number: that of a B may be "a vertex above 255"
 pub record Row : Type 0 where
@@ -199,6 +213,15 @@ atPlace place q = record { place = place; settings = q .settings; rows = q .rows
 abbrev pub withRows : TableRows → Problem → Problem
 withRows rows q = record { place = q .place; settings = q .settings; rows = rows; cands = q .cands; weights = q .weights }
 
+abbrev pub withPrices : Prices → Problem → Problem
+withPrices w q = record {
+  place = q .place;
+  settings = record { n = q .settings .n; m = q .settings .m; prices = w };
+  rows = q .rows;
+  cands = q .cands;
+  weights = q .weights;
+}
+
 -- with other candidates, and other weights beside them
 abbrev pub withCands : List Term → List ℕ → Problem → Problem
 withCands ts ws q = record { place = q .place; settings = q .settings; rows = q .rows; cands = ts; weights = ws }
@@ -215,11 +238,11 @@ addRows q (w ∷ ws) = addRows (addRow q w) ws
 -- T, and A, which "adds a candidate at the end, also after P, L or C". "For the place of R and P, an A counts as a T, even if its candidate
 -- has gone again": the place is that of a term at least, and D leaves it
 abbrev pub addTerm : Problem → Term → Problem
-addTerm q t = atPlace (max (q .place) inTerms) (withCands (q .cands ++ (t ∷ [])) (q .weights ++ (termCost t ∷ [])) q)
+addTerm q t = atPlace (max (q .place) inTerms) (withCands (q .cands ++ (t ∷ [])) (q .weights ++ (termCost (pricesOf q) t ∷ [])) q)
 
 -- P, which puts the primes in the place of the candidates
 abbrev pub withPrimes : Problem → List Term → Problem
-withPrimes q ts = atPlace queried (withCands ts (map termCost ts) q)
+withPrimes q ts = atPlace queried (withCands ts (map (termCost (pricesOf q)) ts) q)
 
 -- D "takes it out; those above move down by one", each with its weight
 abbrev pub takeOut : Problem → ℕ → Problem
@@ -227,6 +250,7 @@ takeOut q k = withCands (without k (q .cands)) (without k (q .weights)) q
 
 unfoldable pub problemAfter : Context → Kind → Problem
 problemAfter x I = started begun (operand x 0) (operand x 1) (2 ^ operand x 0)
+problemAfter x W = atPlace inPrices (withPrices (operandPrices x) (x .problem))
 problemAfter x R = addRow (x .problem) (rowOfR (x .rest))
 problemAfter x B = addRows (x .problem) (rowsOfB (x .rest))
 problemAfter x T = addTerm (x .problem) (operandTerm x)

@@ -27,11 +27,11 @@ isQuery x = isQueryKind (x .kind) && allowed (x .kind) (x .problem .place)
 abbrev pub isAsked : Exchange → Bool
 isAsked e = isQuery (e .context)
 
--- the command finds this table and these candidates
+-- the command finds this table, these candidates and these prices
 abbrev pub HasBasis : Basis → Context → Type 0
 HasBasis b x = basisOf (x .problem) ≡ b
 
--- "the list stands on one table and the candidates that the commands before it set"
+-- "the list stands on one table and the candidates that the commands before it set"; at one setting of prices (at any: `AtAnyPrices`)
 abbrev pub StandsOn : Basis → Exchange → Type 0
 StandsOn b e = T (isAsked e) × HasBasis b (e .context)
 
@@ -45,9 +45,10 @@ coversOf b = irredundants (covering b)
 abbrev pub ArePrimes : Basis → Type 0
 ArePrimes b = (t : Term) → T (prime (b .table) t) ↔ List·Memᴰ t (b .cands)
 
--- where they are, no list of product terms that represents the table is cheaper than c
+-- where they are, no list of product terms that represents the table is cheaper than c. K6: "A rival's own terms are brought into the
+-- comparison only at connection price 0" (law `condition-needed`)
 abbrev pub NoCheaperList : Basis → ℕ → Type 0
-NoCheaperList b c = ArePrimes b → (qs : List Term) → T (represents (b .table) qs) → c ≤ listCost b qs
+NoCheaperList b c = b .prices .connection ≡ 0 → ArePrimes b → (qs : List Term) → T (represents (b .table) qs) → c ≤ listCost b qs
 
 -- neither 5, 12 nor 14 applies (3 and 4 do not: it is an L or a C behind I)
 pub record Acceptable (b : Basis) (x : Context) : Type 0 where
@@ -86,7 +87,7 @@ pub record Demand (b : Basis) (es : List Exchange) : Type 0 where
   -- and the pages joined
   pub pages : Gives Kind.L (coversOf b) es
 
--- for every list of calls that each meet their contract, and every table and candidates, however the jobs came by them: "a further job
+-- for every list of calls that each meet their contract, and every table, candidates and prices, however the jobs came by them: "a further job
 -- sets the same table and candidates anew"
 abbrev pub Demand3 : Type 0
 Demand3 = (b : Basis) (calls : List Call) → All Met calls → Claim engine (StandsOn b) (Demand b) calls

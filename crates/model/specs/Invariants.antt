@@ -7,7 +7,8 @@ use lib.Dec.{T}
 use lib.ListN.{length}
 use Rattle.model.specs.Base.{All}
 use Rattle.model.specs.Table.{Term, legal}
-use Rattle.model.specs.Commands.{begun, inRows, Problem, tableOf}
+use Rattle.model.specs.Candidates.{Prices}
+use Rattle.model.specs.Commands.{begun, inRows, Problem, tableOf, pricesOf}
 use Rattle.model.specs.Refusals.{size}
 use Rattle.model.specs.Library.{badVertex}
 
@@ -15,10 +16,17 @@ use Rattle.model.specs.Library.{badVertex}
 abbrev pub Small : Term → Type 0
 Small t = (t .care < 256) × (t .value < 256) × (t .outputs < 256)
 
+-- no price is above 50
+pub record Moderate (w : Prices) : Type 0 where
+  pub term : w .term ≤ 50
+  pub literal : w .literal ≤ 50
+  pub connection : w .connection ≤ 50
+
 -- the sizes
 pub record Sound (q : Problem) : Type 0 where
   pub inputs : q .settings .n ≤ 8
   pub outputs : q .settings .m ≤ 8
+  pub prices : Moderate (pricesOf q)
   pub few : length (q .cands) ≤ 64
   pub small : All Small (q .cands)
 

@@ -19,6 +19,7 @@ pub mod Standing
 pub mod Records
 pub mod Pieces
 pub mod Expanded
+pub mod Pricing
 pub mod Library
 pub mod Cases
 pub mod Invariants

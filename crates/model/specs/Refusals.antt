@@ -1,4 +1,4 @@
--- Paper 01, "When a job stops", and K2 and K3: the refusals of a command, as data. 1 and 2 are the job's own (`Job`).
+-- Paper 01, "When a job stops", and K2, K3 and K6: the refusals of a command, as data. 1 and 2 are the job's own (`Job`).
 use Prim.Native.Nat.{ℕ, _^_}
 use mathlib.Core.Bool.{Bool, not, cond, _&&_, _||_}
 use mathlib.Core.List.{List, [], _∷_, _++_}
@@ -9,11 +9,12 @@ use Rattle.model.specs.Base.{some}
 use Rattle.model.specs.Table.{formed, holdsNoOff}
 use Rattle.model.specs.Primes.{primes}
 use Rattle.model.specs.Sets.{coverable}
-use Rattle.model.specs.Commands.{Kind, Problem, Context, operand, Row, rowOfR, rowsOfB, addRow, operandTerm, operandNumber, coveringOf, tableOf}
+use Rattle.model.specs.Candidates.{Prices}
+use Rattle.model.specs.Commands.{Kind, Problem, Context, operand, Row, rowOfR, rowsOfB, addRow, operandTerm, operandNumber, coveringOf, tableOf, operandPrices}
 
 -- the largest number
 abbrev pub largestNumber : ℕ
-largestNumber = 15
+largestNumber = 16
 
 -- a refusal's number, and whether it applies
 pub record Refusal : Type 0 where
@@ -31,6 +32,10 @@ firstOf (r ∷ rs) = let q = firstOf rs in cond (r .applies) (r .no) q
 -- "1 to 8"
 abbrev pub size : ℕ → Bool
 size k = leb 1 k && leb k 8
+
+-- "a price above 50"
+abbrev pub dear : Prices → Bool
+dear w = ltb 50 (w .term) || (ltb 50 (w .literal) || ltb 50 (w .connection))
 
 -- "on and dc share a bit, or one has bit m or above", for m outputs
 abbrev pub badRow : ℕ → ℕ → ℕ → Bool
@@ -56,13 +61,14 @@ candidateRefusals x =
     ∷ refuse 11 (leb 64 (length (x .problem .cands)))
     ∷ []
 
--- 6 to 13 and 15, by command:
--- 6 "I has n or m outside 1 to 8"
+-- 6 to 13, 15 and 16, by command:
+-- 6 "I has n or m outside 1 to 8"; 16 "after 6, W has a price above 50"
 -- 7 and 8 of R's row, and of B's eight; "missing operands of B itself give 5 before any of these" (`Rules`)
 -- 11 ".. or there are more than 64 primes"; 15 "after 5, D names a number that is not standing"
 -- 12 "at L or C a wanted cell is held by no candidate"; 13 "bytes follow E"
 unfoldable pub refusalsOf : Context → Kind → List Refusal
 refusalsOf x Kind.I = refuse 6 (not (size (operand x 0) && size (operand x 1))) ∷ []
+refusalsOf x Kind.W = refuse 16 (dear (operandPrices x)) ∷ []
 refusalsOf x Kind.R = rowRefusals (x .problem) (rowOfR (x .rest))
 refusalsOf x Kind.B = rowsRefusals (x .problem) (rowsOfB (x .rest))
 refusalsOf x Kind.T = candidateRefusals x

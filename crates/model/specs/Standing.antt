@@ -1,4 +1,4 @@
--- Paper 02, K2, with K3's B: the standing candidates, the place behind an A, pages behind the same commands, and the fresh job of a query.
+-- Paper 02, K2, with K3's B and K6's W: the standing candidates, the place behind an A, pages behind the same commands, and the fresh job of a query.
 use Prim.Native.Nat.{ℕ, suc, _^_, _≤_, _<_, max}
 use mathlib.Core.Path.{_≡_}
 use mathlib.Core.Logic.{_↔_}
@@ -9,8 +9,9 @@ use lib.ListN.{getD, length, take, set, replicate}
 use Rattle.model.specs.Base.{without, every, some, filter, join, All}
 use Rattle.model.specs.Table.{Table, Term, term}
 use Rattle.model.specs.Primes.{primes}
-use Rattle.model.specs.Candidates.{Basis, basis}
-use Rattle.model.specs.Commands.{atStart, begun, inRows, inTerms, queried, Kind, formOf, is, kindOf, isQueryKind, width, allowed, empty, basisOf, Context, operandNumber, Row, rowOfR, rowsOfB, problemAfter}
+use Rattle.model.specs.Candidates.{Prices, prices, Basis, priced, basis}
+use Rattle.model.specs.Commands.{atStart, begun, inPrices, inRows, inTerms, queried, Kind, formOf, is, kindOf, isQueryKind, width, allowed}
+use Rattle.model.specs.Commands.{empty, basisOf, Context, operandNumber, Row, rowOfR, rowsOfB, problemAfter}
 use Rattle.model.specs.Answers.{Answer, bytesOf, termBytes, hasBytes, answer}
 use Rattle.model.specs.Rules.{engine, refusal}
 use Rattle.model.specs.Job.{Run, run, written}
@@ -44,13 +45,16 @@ pub record Spells (job : List ℕ) (before : List Context) (x : Context) : Type 
 abbrev pub Spelled : Type 0
 Spelled = (job : List ℕ) (room : ℕ) (before : List Context) (x : Context) → Behind (run job room) before x → Spells job before x
 
--- ---- the table and the candidates that commands set
+-- ---- the table, the prices and the candidates that commands set
 
 abbrev pub operandOf : Command → ℕ → ℕ
 operandOf c i = getD (c .operands) i 0
 
 abbrev pub termOf : Command → Term
 termOf c = term (operandOf c 0) (operandOf c 1) (operandOf c 2)
+
+abbrev pub pricesIn : Command → Prices
+pricesIn c = prices (operandOf c 0) (operandOf c 1) (operandOf c 2)
 
 -- a table without a row, with a row, and with rows one by one
 abbrev pub noRowsYet : ℕ → ℕ → Table
@@ -63,16 +67,17 @@ abbrev pub rowsSet : Table → List Row → Table
 rowsSet p [] = p
 rowsSet p (w ∷ ws) = rowsSet (rowSet p w) ws
 
--- I, R and B set the table; T and A add a candidate "at the end", P puts the primes in their place, D takes one out and "those above move down
+-- I, R and B set the table, W the prices; T and A add a candidate "at the end", P puts the primes in their place, D takes one out and "those above move down
 -- by one"; the others set nothing
 unfoldable pub setsTo : Command → Kind → Basis → Basis
 setsTo c Kind.I b = basis (noRowsYet (operandOf c 0) (operandOf c 1)) []
-setsTo c Kind.R b = basis (rowSet (b .table) (rowOfR (c .operands))) (b .cands)
-setsTo c Kind.B b = basis (rowsSet (b .table) (rowsOfB (c .operands))) (b .cands)
-setsTo c Kind.T b = basis (b .table) (b .cands ++ (termOf c ∷ []))
-setsTo c Kind.P b = basis (b .table) (primes (b .table))
-setsTo c Kind.A b = basis (b .table) (b .cands ++ (termOf c ∷ []))
-setsTo c Kind.D b = basis (b .table) (without (operandOf c 0) (b .cands))
+setsTo c Kind.W b = priced (pricesIn c) (b .table) (b .cands)
+setsTo c Kind.R b = priced (b .prices) (rowSet (b .table) (rowOfR (c .operands))) (b .cands)
+setsTo c Kind.B b = priced (b .prices) (rowsSet (b .table) (rowsOfB (c .operands))) (b .cands)
+setsTo c Kind.T b = priced (b .prices) (b .table) (b .cands ++ (termOf c ∷ []))
+setsTo c Kind.P b = priced (b .prices) (b .table) (primes (b .table))
+setsTo c Kind.A b = priced (b .prices) (b .table) (b .cands ++ (termOf c ∷ []))
+setsTo c Kind.D b = priced (b .prices) (b .table) (without (operandOf c 0) (b .cands))
 setsTo c Kind.L b = b
 setsTo c Kind.C b = b
 setsTo c Kind.E b = b
@@ -83,7 +88,7 @@ abbrev pub setFrom : Basis → List Command → Basis
 setFrom b [] = b
 setFrom b (c ∷ cs) = setFrom (setsTo c (c .kind) b) cs
 
--- "the standing candidates in the standing order", with their table
+-- "the standing candidates in the standing order", with their table and the prices
 abbrev pub standing : List Command → Basis
 standing cs = setFrom (basisOf empty) cs
 
@@ -105,6 +110,7 @@ TakesOut = (x : Context) → T (is (x .kind) Kind.D) → refusal x ≡ 0 → Tak
 -- the place that a command raises the job to at least: "for the place of R and P, an A counts as a T, even if its candidate has gone again"
 abbrev pub raises : Kind → ℕ
 raises Kind.I = begun
+raises Kind.W = inPrices
 raises Kind.R = inRows
 raises Kind.B = inRows
 raises Kind.T = inTerms
@@ -128,8 +134,9 @@ Placed = (job : List ℕ) (room : ℕ) (before : List Context) (x : Context) →
 abbrev pub noneCame : List Kind → List Context → Bool
 noneCame ks before = every (λ y. not (some (is (y .kind)) ks)) before
 
--- so, behind I: R, B and P stand where no T, A, P, L or C came, T where no P, L or C came (law `places`)
+-- so, behind I: W stands where no W came and no R, B, T, A, P, L or C; R, B and P stand where no T, A, P, L or C came, T where no P, L or C came (law `places`)
 pub record PlacesBehind (before : List Context) (place : ℕ) : Type 0 where
+  pub prices : T (allowed Kind.W place) ↔ T (noneCame (Kind.W ∷ Kind.R ∷ Kind.B ∷ Kind.T ∷ Kind.A ∷ Kind.P ∷ Kind.L ∷ Kind.C ∷ []) before)
   pub row : T (allowed Kind.R place) ↔ T (noneCame (Kind.T ∷ Kind.A ∷ Kind.P ∷ Kind.L ∷ Kind.C ∷ []) before)
   pub rows : T (allowed Kind.B place) ↔ T (noneCame (Kind.T ∷ Kind.A ∷ Kind.P ∷ Kind.L ∷ Kind.C ∷ []) before)
   pub primes : T (allowed Kind.P place) ↔ T (noneCame (Kind.T ∷ Kind.A ∷ Kind.P ∷ Kind.L ∷ Kind.C ∷ []) before)
@@ -140,7 +147,7 @@ Places = (job : List ℕ) (room : ℕ) (before : List Context) (x : Context) →
 
 -- ---- the same commands
 
--- in one job, behind a query: only A and D change the candidates, and nothing the table. So where no A and no D stands between, a later
+-- in one job, behind a query: only A and D change the candidates, and nothing the table or the prices. So where no A and no D stands between, a later
 -- command finds what the query finds (law `same-between`)
 abbrev pub addsOrRemoves : Kind → Bool
 addsOrRemoves k = is k Kind.A || is k Kind.D
@@ -151,7 +158,7 @@ SameBetween = (job : List ℕ) (room : ℕ) (before : List Context) (x : Context
     → basisOf (y .problem) ≡ basisOf (x .problem)
 
 -- in one job or two: some job reads x, and cs are the commands before it that are no queries, with their operands. Where two commands
--- stand so behind the same, they find the same table and candidates (laws `same-set`, `same-found`)
+-- stand so behind the same, they find the same table, candidates and prices (laws `same-set`, `same-found`)
 pub record SetBy (cs : List Command) (x : Context) : Type 0 where
   pub job : List ℕ
   pub room : ℕ
@@ -170,15 +177,16 @@ StandingDemand3 = (cs : List Command) (calls : List Call) → All Met calls → 
 
 -- ---- "a fresh job with the standing candidates in the standing order"
 
-abbrev pub setsTable : Kind → Bool
-setsTable k = is k Kind.I || (is k Kind.R || is k Kind.B)
+-- the settings and the table
+abbrev pub setsUp : Kind → Bool
+setsUp k = is k Kind.I || (is k Kind.W || (is k Kind.R || is k Kind.B))
 
 abbrev pub termCommand : Term → List ℕ
 termCommand t = formOf Kind.T .code ∷ termBytes t
 
--- I, the R and the B as they came, a T for each standing candidate, the query and E
+-- I, the W, the R and the B as they came, a T for each standing candidate, the query and E
 abbrev pub freshJob : List Command → Command → List ℕ
-freshJob cs query = join (map commandBytes (filter (λ c. setsTable (c .kind)) cs)) ++ (join (map termCommand (standing cs .cands)) ++ (commandBytes query ++ (formOf Kind.E .code ∷ [])))
+freshJob cs query = join (map commandBytes (filter (λ c. setsUp (c .kind)) cs)) ++ (join (map termCommand (standing cs .cands)) ++ (commandBytes query ++ (formOf Kind.E .code ∷ [])))
 
 -- a job is accepted, and gives this answer, E's and no other
 pub record GivesAlone (a : Answer) (r : Run) : Type 0 where

@@ -1,7 +1,7 @@
 // The papers' words as definitions (specs/), and the theorems over them (proofs/).
 //
 // What a reader must believe is in specs/, in the order of paper 01; docs/REVIEW.md leads from each sentence of the paper to
-// its definition and its theorem. The only code here is the term, which other crates pass around.
+// its definition and its theorem. The only code here is the term and the prices, which other crates pass around.
 ghost use mathlib.Core.Path.{_≡_};
 ghost use Rattle.model.specs.Table.{inCube};
 
@@ -10,6 +10,13 @@ pub struct Term {
     pub care: u8,
     pub value: u8,
     pub outputs: u8,
+}
+
+// What a part charges for a term, for a literal and for an output connection.
+pub struct Prices {
+    pub term: u8,
+    pub literal: u8,
+    pub connection: u8,
 }
 
 impl Term {
