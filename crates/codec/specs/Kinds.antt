@@ -8,10 +8,11 @@ use Rattle.model.specs.Commands as model
 use Rattle.model.specs.Refusals.{refuse, firstOf}
 use Rattle.codec.specs.declared.kinds.Form.{Form}
 use Rattle.codec.specs.declared.kinds.Kind.{Kind}
-use Rattle.codec.specs.declared.kinds.Kind.the-variants.{I, R, B, T, P, A, D, L, C, E, None}
+use Rattle.codec.specs.declared.kinds.Kind.the-variants.{I, W, R, B, T, P, A, D, L, C, E, None}
 
 abbrev pub kindIs : Kind → model.Kind
 kindIs I = model.Kind.I
+kindIs W = model.Kind.W
 kindIs R = model.Kind.R
 kindIs B = model.Kind.B
 kindIs T = model.Kind.T

@@ -8,6 +8,7 @@ ghost use Rattle.codec.specs.Kinds.{kindIs, formed, Describes, earlyRefu
 // The commands by their letters; None is a byte that is no command.
 pub enum Kind {
     I,
+    W,
     R,
     B,
     T,
@@ -26,6 +27,7 @@ pub fn kind_of(b: u8) -> Kind
 {
     match b {
         0x49 => Kind::I,
+        0x57 => Kind::W,
         0x52 => Kind::R,
         0x42 => Kind::B,
         0x54 => Kind::T,
@@ -58,21 +60,22 @@ fn described(code: u8, width: usize, last: u8, query: bool) -> Form
     }
 }
 
-// The one place that describes each command. Places: 0 nothing, 1 I, 2 rows, 3 terms, 4 a P, L or C came.
+// The one place that describes each command. Places: 0 nothing, 1 I, 2 W, 3 rows, 4 terms, 5 a P, L or C came.
 pub fn form_of(k: Kind) -> Form
     ensures { λ r. ⌜ Describes (kindIs k) r ⌝ }
 {
     match k {
         Kind::I => described(0x49, 2, 0, false),
-        Kind::R => described(0x52, 3, 2, false),
-        Kind::B => described(0x42, 17, 2, false),
-        Kind::T => described(0x54, 3, 3, false),
-        Kind::P => described(0x50, 0, 2, false),
-        Kind::A => described(0x41, 3, 4, false),
-        Kind::D => described(0x44, 1, 4, false),
-        Kind::L => described(0x4c, 9, 4, true),
-        Kind::C => described(0x43, 0, 4, true),
-        Kind::E => described(0x45, 0, 4, false),
+        Kind::W => described(0x57, 3, 1, false),
+        Kind::R => described(0x52, 3, 3, false),
+        Kind::B => described(0x42, 17, 3, false),
+        Kind::T => described(0x54, 3, 4, false),
+        Kind::P => described(0x50, 0, 3, false),
+        Kind::A => described(0x41, 3, 5, false),
+        Kind::D => described(0x44, 1, 5, false),
+        Kind::L => described(0x4c, 9, 5, true),
+        Kind::C => described(0x43, 0, 5, true),
+        Kind::E => described(0x45, 0, 5, false),
         Kind::None => described(0, 0, 0, false),
     }
 }

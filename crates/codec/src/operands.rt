@@ -3,7 +3,9 @@ ghost use mathlib.Core.Path.{_≡_};
 ghost use Prim.Native.Nat.{_+_, _≤_};
 ghost use lib.ListN.{getD, length, take, drop};
 ghost use Rattle.model.specs.Table.{term};
+ghost use Rattle.model.specs.Candidates.{prices};
 ghost use Rattle.model.specs.Commands.{number};
+use model::Prices;
 use model::Term;
 
 // A byte as a 64-bit number.
@@ -25,6 +27,18 @@ pub fn number_at(job: &[u8], at: usize) -> u64
         x = x * 256 + long(job[at + i]);
     }
     x
+}
+
+// The 3 bytes at `at` as prices.
+pub fn prices_at(job: &[u8], at: usize) -> Prices
+    requires { ⌜ at + 3 ≤ length (now job) ⌝ }
+    ensures { λ r. ⌜ r ≡ prices (getD (now (job .entry)) at 0) (getD (now (job .entry)) (at + 1) 0) (getD (now (job .entry)) (at + 2) 0) ⌝ }
+{
+    Prices {
+        term: job[at],
+        literal: job[at + 1],
+        connection: job[at + 2],
+    }
 }
 
 // The 3 bytes at `at` as a term.

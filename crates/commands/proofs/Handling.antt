@@ -9,11 +9,12 @@ use borrow.Author.Tests.{lt-ltb, le-ltb, le-leb, lt-leb}
 use lib.Dec.{ltb, leb}
 use lib.ListN.{length, drop, take, length-take}
 use Rattle.model.specs.declared.Term.{Term}
+use Rattle.model.specs.declared.Prices.{Prices}
 use Rattle.model.specs.Primes.{primes}
 use Rattle.model.specs.Commands as model
-use Rattle.model.specs.Commands.{Context, tableOf, operand, Row, rowOfR, operandTerm, operandNumber, problemAfter}
+use Rattle.model.specs.Commands.{Context, tableOf, operand, Row, rowOfR, operandTerm, operandNumber, operandPrices, problemAfter}
 use Rattle.model.specs.Answers.{Answer, bytesOf, answerFor}
-use Rattle.model.specs.Refusals.{refuse, firstOf, refusalsOf, size}
+use Rattle.model.specs.Refusals.{refuse, firstOf, refusalsOf, size, dear}
 use Rattle.model.proofs.Runs.{first-none, first-before, first-behind}
 use Rattle.model.proofs.Sound.{refusalsOf-no}
 use Rattle.table.specs.declared.prime_list.PrimeList.{PrimeList}
@@ -25,12 +26,12 @@ use Rattle.answers.specs.declared.writers.Reply.{Reply}
 use Rattle.answers.specs.declared.writers.Reply.the-variants.{Written, TooLong}
 use Rattle.answers.specs.Writers.{Replied}
 use Rattle.problem.specs.declared.Problem.{Problem}
-use Rattle.problem.specs.Problems.{startedWith, atPlace, withCandidates, termPut, termTaken, WithPrimes, Sized, Holds, Reached}
+use Rattle.problem.specs.Problems.{startedWith, atPlace, withPrices, withCandidates, termPut, termTaken, WithPrimes, Sized, Holds, Reached}
 use Rattle.problem.specs.Refusing.{rowRefusals, termRefusals, TermRefusal}
 use Rattle.problem.proofs.Refusing.{row-refusal, held-bytes, term-here}
-use Rattle.problem.proofs.Keeping.{after-I, withRow, after-row, row-within, after-term, after-P, after-D}
+use Rattle.problem.proofs.Keeping.{after-I, after-W, withRow, after-row, row-within, after-term, after-P, after-D}
 use Rattle.commands.specs.declared.Effect.{Effect}
-use Rattle.commands.specs.Effects.{refusedAs, answerBytes, lateRefusal, Handled, Found, HandlesI, HandlesR, RefusesTerm, HandlesTerm, HandlesP, HandlesD, HandlesE}
+use Rattle.commands.specs.Effects.{refusedAs, answerBytes, lateRefusal, Handled, Found, HandlesI, HandlesW, HandlesR, RefusesTerm, HandlesTerm, HandlesP, HandlesD, HandlesE}
 
 -- ---- 14 stands behind the command's own refusals
 
@@ -85,7 +86,7 @@ module _ (x : Context) (k : model.Kind) where
       let w' : Replied (answerBytes x k) old new TooLong = subst (Replied (answerBytes x k) old new) s w in
       rw q record { number = late-long o (omega (arith, w' .0)); refused = λ d. record { bytes = w' .1; problem = h }; answered = λ z. absurd (omega (arith, z)) }
 
--- ---- I and R
+-- ---- I, W and R
 
 pub init-refused : (p : Problem) (n m r : ℕ) (e : Effect) → r ≡ firstOf (refuse 6 (not (size n && size m)) ∷ []) → (r ≡ 0 → ⊥) → e ≡ refusedAs p r → HandlesI p n m e
 unfolding refusalsOf
@@ -95,6 +96,20 @@ pub init-good : (p : Problem) (n m r : ℕ) (q : Problem) → r ≡ firstOf (ref
     → HandlesI p n m (record { number = 0; written = 0; problem = q })
 unfolding refusalsOf answerFor
 init-good p n m r q o z s x free h a b = handled-silent x model.Kind.I free q refl (rw (a, b) (sym z ∙ o)) (subst⁻¹ (λ (y : Problem). Holds y (problemAfter x model.Kind.I)) s (after-I x n m a b))
+
+module _ (p : Problem) (w : Prices) (r : ℕ) (o : r ≡ firstOf (refuse 16 (dear w) ∷ [])) where
+  prices-here : (x : Context) → operandPrices x ≡ w → r ≡ firstOf (refusalsOf x model.Kind.W)
+  unfolding refusalsOf
+  prices-here x a = o ∙ ap (λ (v : Prices). firstOf (refuse 16 (dear v) ∷ [])) (sym a)
+
+  pub prices-refused : (e : Effect) → (r ≡ 0 → ⊥) → e ≡ refusedAs p r → HandlesW p w e
+  prices-refused e d q x free f l a = handled-refused x model.Kind.W free p r e (f .holds) q (late-own x model.Kind.W r (prices-here x a) d) d
+
+  pub prices-kept : (q : Problem) → r ≡ 0 → q ≡ atPlace model.inPrices (withPrices w p) → HandlesW p w (record { number = 0; written = 0; problem = q })
+  unfolding answerFor
+  prices-kept q z s x free f l a =
+      let none = f .valid .early (omega (arith, l)) in
+      handled-silent x model.Kind.W free q refl (sym z ∙ prices-here x a) (subst⁻¹ (λ (y : Problem). Holds y (problemAfter x model.Kind.W)) s (after-W x p w (f .holds) none a))
 
 -- a row: the vertex is that of a context's R, or of a row of its B
 module _ (p : Problem) (sizes : Sized p) (v on dc r : ℕ) (o : r ≡ firstOf (rowRefusals (p .settings .n) (p .settings .m) (p .rows .given) v on dc)) where
@@ -158,7 +173,7 @@ module _ (p : Problem) (t : Term) (r : ℕ) (o : RefusesTerm p t r) where
       let own : 11 ≡ firstOf (refusalsOf x model.Kind.T) = sym (behind x f a z ∙ rw (le-leb 64 (length (x .problem .cands)) (omega (arith, f .holds .cands .terms .counted)))) in
       both x free e (handled-refused x model.Kind.T free p 11 e (f .holds) q (late-own x model.Kind.T 11 own (λ n. omega (arith, n))) (λ n. omega (arith, n)))
 
-  pub term-kept : (q : Problem) → r ≡ 0 → p .candidates .count < 64 → q ≡ atPlace (max (p .place) model.inTerms) (withCandidates (termPut (p .candidates) t) p)
+  pub term-kept : (q : Problem) → r ≡ 0 → p .candidates .count < 64 → q ≡ atPlace (max (p .place) model.inTerms) (withCandidates (termPut (p .settings .prices) (p .candidates) t) p)
       → HandlesTerm p t (record { number = 0; written = 0; problem = q })
   unfolding answerFor problemAfter
   term-kept q z l s x free f a =

@@ -10,7 +10,8 @@ use lib.Seq.{take-at}
 use Rattle.model.specs.Base.{bit}
 use Rattle.model.specs.Sets.{Covering, members, Best, cover, coverable, cheapest, cost, ofRows}
 use Rattle.model.specs.Pages.{page, atOrAbove}
-use Rattle.model.specs.Candidates.{termCost}
+use Rattle.model.specs.declared.Prices.{Prices}
+use Rattle.model.specs.Candidates.{termCost, weigh}
 use Rattle.model.specs.Commands as model
 use Rattle.model.specs.Commands.{Context, isQueryKind, basisOf, coveringOf, start, count, problemAfter}
 use Rattle.model.specs.Answers.{Answer, bytesOf, answerFor}
@@ -113,8 +114,10 @@ module _ (p : Problem) (rows : List ℕ) (b : Bool) (s k : ℕ) where
 -- ---- C
 
 module _ (p : Problem) (rows costs : List ℕ) (b : Bool) (weights-are : costs ≡ take (p .candidates .count) (p .candidates .weights)) where
-  costs-here : (x : Context) → Found p x → costs ≡ map termCost (x .problem .cands)
-  costs-here x f = weights-are ∙ f .holds .cands .weighed ∙ ap (map termCost) (f .holds .cands .terms .same)
+  costs-here : (x : Context) → Found p x → costs ≡ map (weigh (basisOf (x .problem))) (x .problem .cands)
+  costs-here x f =
+      weights-are ∙ f .holds .cands .weighed ∙ ap (map (termCost (p .settings .prices))) (f .holds .cands .terms .same)
+      ∙ ap (λ (w : Prices). map (termCost w) (x .problem .cands)) (f .holds .settings .prices)
 
   -- where each on cell is held there is a cover
   pub cheapest-none : (old : List ℕ) (o : Optimum) (e : Effect) → b ≡ true → o ≡ Nothing → Optimal rows costs o → HandlesC p rows b old old e

@@ -6,9 +6,10 @@ use mathlib.Core.List.{List, [], _∷_, _++_}
 use lib.Dec.{ltb}
 use lib.ListN.{length, drop}
 use Rattle.model.specs.declared.Term.{Term}
+use Rattle.model.specs.declared.Prices.{Prices}
 use Rattle.model.specs.Pages.{page, more}
 use Rattle.model.specs.Commands as model
-use Rattle.model.specs.Commands.{Context, tableOf, basisOf, operand, Row, rowsOfB, operandTerm, operandNumber, start, count, problemAfter}
+use Rattle.model.specs.Commands.{Context, tableOf, basisOf, operand, Row, rowsOfB, operandTerm, operandNumber, operandPrices, start, count, problemAfter}
 use Rattle.model.specs.Answers.{Answer, bytesOf, answerFor}
 use Rattle.model.specs.Refusals.{refuse, firstOf, refusalsOf}
 use Rattle.model.specs.Invariants.{Valid}
@@ -67,6 +68,10 @@ pub record Found (p : Problem) (x : Context) : Type 0 where
 
 abbrev pub HandlesI : Problem → ℕ → ℕ → Effect → Type 0
 HandlesI p n m e = (x : Context) (free : List ℕ) → Holds p (x .problem) → operand x 0 ≡ n → operand x 1 ≡ m → Handled x model.Kind.I free free e
+
+-- W, behind I alone
+abbrev pub HandlesW : Problem → Prices → Effect → Type 0
+HandlesW p w e = (x : Context) (free : List ℕ) → Found p x → x .problem .place ≤ model.begun → operandPrices x ≡ w → Handled x model.Kind.W free free e
 
 abbrev pub HandlesR : Problem → ℕ → ℕ → ℕ → Effect → Type 0
 HandlesR p v on dc e = (x : Context) (free : List ℕ) → Found p x → operand x 0 ≡ v → operand x 1 ≡ on → operand x 2 ≡ dc → Handled x model.Kind.R free free e

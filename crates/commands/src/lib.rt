@@ -8,10 +8,11 @@ ghost use lib.ListN.{length, drop};
 ghost use Rattle.model.specs.Commands as model;
 ghost use Rattle.model.specs.Commands.{rowsOfB};
 ghost use Rattle.problem.specs.Problems.{Sized, Reached};
-ghost use Rattle.commands.specs.Effects.{refusedAs, RefusesTerm, HandlesI, HandlesR, HandlesB, HandlesTerm, HandlesP, HandlesD, HandlesE};
+ghost use Rattle.commands.specs.Effects.{refusedAs, RefusesTerm, HandlesI, HandlesW, HandlesR, HandlesB, HandlesTerm, HandlesP, HandlesD, HandlesE};
 use answers::writers;
 use answers::writers::Reply;
 use bits::byte;
+use model::Prices;
 use model::Term;
 use problem::Problem;
 use problem::refusals;
@@ -50,6 +51,21 @@ pub fn init(p: Problem, n: u8, m: u8) -> Effect
         number: 0,
         written: 0,
         problem: problem::started(n, m, 1),
+    }
+}
+
+// W with its prices.
+pub fn prices(p: Problem, w: Prices) -> Effect
+    ensures { λ r. ⌜ HandlesW p w r ⌝ }
+{
+    let number = refusals::prices_refusal(w);
+    if number != 0 {
+        return refused(p, number);
+    }
+    Effect {
+        number: 0,
+        written: 0,
+        problem: problem::with_prices(p, w),
     }
 }
 

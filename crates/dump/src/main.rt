@@ -1,17 +1,19 @@
 // Runs the job on standard input as `covers` does, and prints its result and the record that its last command left, in lines like these. A
 // refused command leaves the record as it found it; a job that is too long leaves the empty one.
 //
-//     number 0 offset 28 written 32
-//     place 4
+//     number 0 offset 32 written 32
+//     place 5
 //     inputs 2 outputs 2
+//     prices 37 23 11
 //     row 0 on 00 dc 01
-//     candidate 0 care 01 value 00 outputs 01 weight 1
+//     candidate 0 care 01 value 00 outputs 01 weight 48
 //
-// The place is the furthest that came: 0 nothing, 1 I, 2 a row, 3 a term, 4 a P, L or C. A line for each vertex that has a row, and for each
-// candidate, with the weight that stands beside it. Bytes are in hexadecimal, all other numbers in decimal.
+// The place is the furthest that came: 0 nothing, 1 I, 2 W, 3 a row, 4 a term, 5 a P, L or C. The prices are those of a term, a literal and
+// an output connection. A line for each vertex that has a row, and for each candidate, with the weight that stands beside it. Bytes are in
+// hexadecimal, all other numbers in decimal.
 //
 // No function here has an `ensures`: what stands on standard output is in no contract of `io`. What is printed is asked for by `requires`: the
-// record is the job's, and each weight is what its term costs.
+// record is the job's, and each weight is what its term costs at the record's prices.
 ghost use mathlib.Core.Path.{_≡_};
 ghost use mathlib.Core.List.{map};
 ghost use lib.ListN.{length, take};
@@ -21,6 +23,7 @@ ghost use Rattle.model.specs.Records.{lastRecord};
 ghost use Rattle.problem.specs.Problems.{Holds};
 use libc::STDIN_FILENO;
 use libc::STDOUT_FILENO;
+use model::Prices;
 use model::Term;
 use problem::Candidates;
 use problem::Problem;
@@ -60,8 +63,8 @@ fn print_rows(rows: TableRows) {
     }
 }
 
-fn print_candidate(i: usize, t: Term, weight: u16)
-    requires { ⌜ weight ≡ termCost t ⌝ }
+fn print_candidate(w: Prices, i: usize, t: Term, weight: u16)
+    requires { ⌜ weight ≡ termCost w t ⌝ }
 {
     print_number(b"candidate ", i);
     print_byte(b" care ", t.care);
@@ -72,9 +75,9 @@ fn print_candidate(i: usize, t: Term, weight: u16)
 }
 
 // A line for each candidate.
-fn print_candidates(candidates: Candidates)
+fn print_candidates(w: Prices, candidates: Candidates)
     requires { ⌜ length (candidates .terms) ≡ 64 ⌝ }
-    requires { ⌜ take (candidates .count) (candidates .weights) ≡ map termCost (take (candidates .count) (candidates .terms)) ⌝ }
+    requires { ⌜ take (candidates .count) (candidates .weights) ≡ map (termCost w) (take (candidates .count) (candidates .terms)) ⌝ }
 {
     let terms = candidates.terms;
     let weights = candidates.weights;
@@ -82,10 +85,17 @@ fn print_candidates(candidates: Candidates)
     while i < 64 {
         if i < candidates.count {
             let t = terms[i];
-            print_candidate(i, t, weights[i]);
+            print_candidate(w, i, t, weights[i]);
         }
         i += 1;
     }
+}
+
+fn print_prices(w: Prices) {
+    print_number(b"prices ", w.term as usize);
+    print_number(b" ", w.literal as usize);
+    print_number(b" ", w.connection as usize);
+    end_line();
 }
 
 // The whole record, which is the one that this job leaves.
@@ -97,8 +107,9 @@ fn print_record(job: &[u8], p: Problem)
     print_number(b"inputs ", p.settings.n as usize);
     print_number(b" outputs ", p.settings.m as usize);
     end_line();
+    print_prices(p.settings.prices);
     print_rows(p.rows);
-    print_candidates(p.candidates);
+    print_candidates(p.settings.prices, p.candidates);
 }
 
 fn main() {

@@ -2,7 +2,7 @@
 use Prim.Native.Nat.{ℕ, suc, _+_, _-_, _≤_, _<_}
 use native.Mathlib.Omega.{arith}
 use native.Mathlib.Decide.{decLt}
-use mathlib.Core.Path.{_≡_, refl, sym, ap, _∙_, subst, subst⁻¹}
+use mathlib.Core.Path.{_≡_, refl, ap, _∙_, subst, subst⁻¹}
 use mathlib.Core.Bool.{Bool, false}
 use mathlib.Core.List.{List, _++_}
 use borrow.Author.Tests.{lt-ltb, le-ltb}
@@ -130,12 +130,13 @@ module _ {s : Settings} {job : List ℕ} {at i : ℕ} {rows now : TableRows} (d 
         (reading-then g (f .reading (placeBehind at i place) cs (reading-reached r g) (g .behind-I) (g .in-rows)));
   }
 
--- in the record, right behind I
-pub reads-record : {p : Problem} {job : List ℕ} {at end : ℕ} {after : TableRows} {place : ℕ} → Reached p → p .place ≡ model.begun → ReadsInto (p .settings) job at (p .rows) end after
-    → place ≡ placeBehind at end model.begun → ReadsRows p job at (recordOf place (p .settings) after (p .candidates)) end
-reads-record {p} {job} {at} {end} {after} {place} r b d e =
-    let g = d .reading (p .place) (p .candidates) r (omega (arith, b)) (omega (arith, b)) in
-    subst⁻¹ (λ (k : ℕ). ReadsRows p job at (recordOf k (p .settings) after (p .candidates)) end) (e ∙ ap (placeBehind at end) (sym b)) (g .reads)
+-- in the record, right behind I or W
+pub reads-record : {p : Problem} {job : List ℕ} {at end : ℕ} {after : TableRows} {place : ℕ} → Reached p → model.begun ≤ p .place
+    → p .place ≤ model.inPrices → ReadsInto (p .settings) job at (p .rows) end after
+    → place ≡ placeBehind at end (p .place) → ReadsRows p job at (recordOf place (p .settings) after (p .candidates)) end
+reads-record {p} {job} {at} {end} {after} {place} r b m d e =
+    let g = d .reading (p .place) (p .candidates) r b (omega (arith, m)) in
+    subst⁻¹ (λ (k : ℕ). ReadsRows p job at (recordOf k (p .settings) after (p .candidates)) end) e (g .reads)
 
 -- ---- the job's loop behind the block
 

@@ -13,9 +13,11 @@ use lib.ListN.{getD, length, take, drop, length-drop}
 use lib.Seq.{getD-drop}
 use Rattle.model.specs.Base.{All}
 use Rattle.model.specs.declared.Term.{Term}
+use Rattle.model.specs.declared.Prices.{Prices}
 use Rattle.model.specs.Table.{term}
+use Rattle.model.specs.Candidates.{prices}
 use Rattle.model.specs.Commands as model
-use Rattle.model.specs.Commands.{Context, basisOf, kindOf, is, isQueryKind, width, allowed, operand, rowsOfB, operandTerm, number}
+use Rattle.model.specs.Commands.{Context, basisOf, kindOf, is, isQueryKind, width, allowed, operand, rowsOfB, operandTerm, operandPrices, number}
 use Rattle.model.specs.Answers.{bytesOf, answer}
 use Rattle.model.specs.Refusals.{Refusal, refuse, firstOf, refusalsOf}
 use Rattle.model.specs.Rules.{refusalsBy, refusalBy, refusal}
@@ -30,7 +32,7 @@ use Rattle.problem.specs.declared.Problem.{Problem}
 use Rattle.problem.specs.Problems.{Holds}
 use Rattle.problem.specs.Matrix.{MatrixOf}
 use Rattle.commands.specs.declared.Effect.{Effect}
-use Rattle.commands.specs.Effects.{refusedAs, lateRefusal, Handled, Found, HandlesI, HandlesR, HandlesB, HandlesTerm, HandlesP, HandlesD, HandlesL, HandlesC, HandlesE}
+use Rattle.commands.specs.Effects.{refusedAs, lateRefusal, Handled, Found, HandlesI, HandlesW, HandlesR, HandlesB, HandlesTerm, HandlesP, HandlesD, HandlesL, HandlesC, HandlesE}
 use Rattle.engine.specs.Steps.{Stepped, Steps, contextAt}
 
 -- ---- what passing 3, 4 and 5 says
@@ -48,20 +50,21 @@ early-e k place rest e = go (is k model.Kind.none) (allowed k place) (ltb rest (
 
 -- a T or an A, by what the match knows of it: the places of the two among the kinds
 abbrev pub AddsTerm : Kind → Type 0
-AddsTerm k = OneOf (3 ∷ 5 ∷ []) (tagOf the-type k)
+AddsTerm k = OneOf (4 ∷ 6 ∷ []) (tagOf the-type k)
 
 adds-term : (k : Kind) → AddsTerm k → (kindIs k ≡ model.Kind.T) ⊎ (kindIs k ≡ model.Kind.A)
 adds-term variant.T h = inl refl
 adds-term variant.A h = inr refl
-adds-term variant.I h = absurd (miss (3 ∷ 5 ∷ []) 0 tt h)
-adds-term variant.R h = absurd (miss (3 ∷ 5 ∷ []) 1 tt h)
-adds-term variant.B h = absurd (miss (3 ∷ 5 ∷ []) 2 tt h)
-adds-term variant.P h = absurd (miss (3 ∷ 5 ∷ []) 4 tt h)
-adds-term variant.D h = absurd (miss (3 ∷ 5 ∷ []) 6 tt h)
-adds-term variant.L h = absurd (miss (3 ∷ 5 ∷ []) 7 tt h)
-adds-term variant.C h = absurd (miss (3 ∷ 5 ∷ []) 8 tt h)
-adds-term variant.E h = absurd (miss (3 ∷ 5 ∷ []) 9 tt h)
-adds-term variant.None h = absurd (miss (3 ∷ 5 ∷ []) 10 tt h)
+adds-term variant.I h = absurd (miss (4 ∷ 6 ∷ []) 0 tt h)
+adds-term variant.W h = absurd (miss (4 ∷ 6 ∷ []) 1 tt h)
+adds-term variant.R h = absurd (miss (4 ∷ 6 ∷ []) 2 tt h)
+adds-term variant.B h = absurd (miss (4 ∷ 6 ∷ []) 3 tt h)
+adds-term variant.P h = absurd (miss (4 ∷ 6 ∷ []) 5 tt h)
+adds-term variant.D h = absurd (miss (4 ∷ 6 ∷ []) 7 tt h)
+adds-term variant.L h = absurd (miss (4 ∷ 6 ∷ []) 8 tt h)
+adds-term variant.C h = absurd (miss (4 ∷ 6 ∷ []) 9 tt h)
+adds-term variant.E h = absurd (miss (4 ∷ 6 ∷ []) 10 tt h)
+adds-term variant.None h = absurd (miss (4 ∷ 6 ∷ []) 11 tt h)
 
 -- ---- the context
 
@@ -150,11 +153,20 @@ module _ {p : Problem} {job : List ℕ} {at : ℕ} {k : Kind} {n rest : ℕ} (d 
     op-term : {t : Term} → t ≡ term (getD job (at + 1) 0) (getD job (at + 1 + 1) 0) (getD job (at + 1 + 2) 0) → (x : Context) → x .rest ≡ drop (at + 1) job → operandTerm x ≡ t
     op-term s x r = rw (op x r 0 (at + 1) (omega arith), op x r 1 (at + 1 + 1) refl, op x r 2 (at + 1 + 2) refl) (sym s)
 
+    op-prices : {w : Prices} → w ≡ prices (getD job (at + 1) 0) (getD job (at + 1 + 1) 0) (getD job (at + 1 + 2) 0) → (x : Context) → x .rest ≡ drop (at + 1) job → operandPrices x ≡ w
+    op-prices s x r = rw (op x r 0 (at + 1) (omega arith), op x r 1 (at + 1 + 1) refl, op x r 2 (at + 1 + 2) refl) (sym s)
+
     -- ---- each kind
 
     module _ {rows old : List ℕ} {covered : Bool} {e : Effect} where
       pub step-I : kindIs k ≡ model.Kind.I → HandlesI p (getD job (at + 1) 0) (getD job (at + 2) 0) e → Steps p rows covered job at old old e
       step-I g w = record { in-problem = λ q h v f. as-kind model.Kind.I g q h (w (contextAt q job at (length old)) old h (at-op 0 (at + 1) (omega arith)) (at-op 1 (at + 2) (omega arith))) }
+
+      pub step-W : {w : Prices} → kindIs k ≡ model.Kind.W → w ≡ prices (getD job (at + 1) 0) (getD job (at + 1 + 1) 0) (getD job (at + 1 + 2) 0)
+          → HandlesW p w e → Steps p rows covered job at old old e
+      step-W g s w =
+          let last = place-last model.Kind.W (p .place) (subst (λ (c : model.Kind). T (allowed c (p .place))) g (passed .1)) in
+          behind-I model.Kind.W g tt (λ x f m r a. w x old f (omega (arith, last, f .holds .place)) (op-prices s x r))
 
       pub step-R : {v : ℕ} → kindIs k ≡ model.Kind.R → v ≡ getD job (at + 1) 0 → HandlesR p v (getD job (at + 2) 0) (getD job (at + 3) 0) e → Steps p rows covered job at old old e
       step-R g i w = behind-I model.Kind.R g tt (λ x f m r a. w x old f (op x r 0 (at + 1) (omega arith) ∙ sym i) (op x r 1 (at + 2) (omega arith)) (op x r 2 (at + 3) (omega arith)))

@@ -90,7 +90,7 @@ module _ (p : Problem) {job : List ℕ} {at : ℕ} (reached : Reached p) (behind
         here = omega (arith, a .room);
         kind = sym (a .kind);
         left = refl;
-        early = rw (le-leb 1 (p .place) behind-I, le-leb (p .place) 2 in-rows, le-ltb (length job - at - 1) 3 (omega (arith, a .room)));
+        early = rw (le-leb 1 (p .place) behind-I, le-leb (p .place) model.inRows in-rows, le-ltb (length job - at - 1) 3 (omega (arith, a .room)));
       }
 
       kept : HandlesR p (getD job (at + 1) 0) (getD job (at + 2) 0) (getD job (at + 3) 0) (record { number = 0; written = 0; problem = behindRow p job at v })
@@ -113,7 +113,7 @@ module _ (p : Problem) {job : List ℕ} {at : ℕ} (reached : Reached p) (behind
         here = omega (arith, a .room);
         kind = sym (a .kind);
         left = refl;
-        early = rw (le-leb 1 (p .place) behind-I, le-leb (p .place) 2 in-rows, le-ltb (length job - at - 1) 17 (omega (arith, a .room)));
+        early = rw (le-leb 1 (p .place) behind-I, le-leb (p .place) model.inRows in-rows, le-ltb (length job - at - 1) 17 (omega (arith, a .room)));
       }
 
 -- ---- the run behind it

@@ -53,8 +53,8 @@ fn refresh(p: Problem, k: Kind, ready: bool, m: Matrix, rows: &mut [u64]) -> Mat
     m
 }
 
-// The commands one by one, but the rows behind I in one go, until one is refused, E is answered or the job's bytes end. The covering matrix
-// is kept from query to query. p is set right behind the step: so the compiler copies the record once, and not twice.
+// The commands one by one, but the rows behind I and W in one go, until one is refused, E is answered or the job's bytes end. The covering
+// matrix is kept from query to query. p is set right behind the step: so the compiler copies the record once, and not twice.
 pub fn run(job: &[u8], answers: &mut [u8]) -> Ended
     requires { ⌜ (length (now job) ≤ 32768) × (length (now answers) ≤ 32768) ⌝ }
     ensures { λ r. ⌜ EndsAs (now (job .entry)) (now (answers .entry)) (now (answers .exit)) r ⌝ }

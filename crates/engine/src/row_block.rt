@@ -1,4 +1,4 @@
-// The R and B commands of a job, which stand in one block right behind I.
+// The R and B commands of a job, which stand in one block right behind I and W.
 //
 // `step` takes any command, and copies the whole record for it. Here the record is copied once for all the rows that are accepted; the
 // command behind them, a refused R or B too, is left to `step`.
@@ -22,12 +22,12 @@ pub struct Block {
     pub at: usize,
 }
 
-// Whether a block starts at `at`: I came last, and the byte is that of an R or a B. Only a yes is promised to mean something: a no leaves
-// the command to `step`.
+// Whether a block starts at `at`: I or W came last, and the byte is that of an R or a B. Only a yes is promised to mean something: a no
+// leaves the command to `step`.
 pub fn starts(place: u8, job: &[u8], at: usize) -> bool
-    ensures { λ r. ⌜ (T r → place ≡ model.begun) ⌝ }
+    ensures { λ r. ⌜ (T r → (model.begun ≤ place) × (place ≤ model.inPrices)) ⌝ }
 {
-    if place == 1 {
+    if 1 <= place && place <= 2 {
         if at < job.len() {
             let b = job[at];
             return b == 0x52 || b == 0x42;
@@ -36,14 +36,14 @@ pub fn starts(place: u8, job: &[u8], at: usize) -> bool
     false
 }
 
-// The place behind a block from `at` to `end`: where it has no row, that behind I.
-fn place_behind(at: usize, end: usize) -> u8
-    ensures { λ r. ⌜ r ≡ placeBehind at end model.begun ⌝ }
+// The place behind a block from `at` to `end`: where it has no row, the one before it.
+fn place_behind(at: usize, end: usize, place: u8) -> u8
+    ensures { λ r. ⌜ r ≡ placeBehind at end place ⌝ }
 {
     if at < end {
-        return 2;
+        return 3;
     }
-    1
+    place
 }
 
 // Whether an R stands at `at` that is accepted. Here too a no only leaves the command to `step`.
@@ -110,9 +110,10 @@ fn read_eights(
 // The accepted R and B commands from `at` on, in turn, until neither is accepted.
 pub fn read_rows(p: Problem, job: &[u8], at: usize) -> Block
     requires { ⌜ Reached p ⌝ }
-    requires { ⌜ (p .place ≡ model.begun) × (at ≤ length (now job)) ⌝ }
+    requires { ⌜ (model.begun ≤ p .place) × (p .place ≤ model.inPrices) × (at ≤ length (now job)) ⌝ }
     ensures { λ r. ⌜ ReadsRows p (now (job .entry)) at (r .problem) (r .at) ⌝ }
 {
+    let place = p.place;
     let s = p.settings;
     let candidates = p.candidates;
     let mut on = p.rows.on;
@@ -130,7 +131,7 @@ pub fn read_rows(p: Problem, job: &[u8], at: usize) -> Block
         given: given,
     };
     let problem = Problem {
-        place: place_behind(at, end),
+        place: place_behind(at, end, place),
         settings: s,
         rows: rows,
         candidates: candidates,

@@ -34,6 +34,7 @@ pub fn step(
     }
     match k {
         Kind::I => commands::init(p, job[at + 1], job[at + 2]),
+        Kind::W => commands::prices(p, operands::prices_at(job, at + 1)),
         Kind::R => commands::row(p, byte::wide(job[at + 1]), job[at + 2], job[at + 3]),
         Kind::B => commands::eight_rows(p, job, at + 1),
         Kind::T | Kind::A => commands::term(p, operands::term_at(job, at + 1)),

@@ -14,7 +14,8 @@ use Rattle.model.specs.Base.{from, below, some, join, All}
 use Rattle.model.specs.declared.Term.{Term}
 use Rattle.model.specs.Table.{Table}
 use Rattle.model.specs.Sets.{coverable}
-use Rattle.model.specs.Candidates.{termCost, basis, covering}
+use Rattle.model.specs.declared.Prices.{Prices}
+use Rattle.model.specs.Candidates.{usual, termCost, basis, covering}
 use Rattle.model.specs.Commands as model
 use Rattle.model.specs.Commands.{basisOf, tableOf}
 use Rattle.model.specs.Refusals.{Refusal, refuse, firstOf, size, badRow}
@@ -169,18 +170,18 @@ padded-at row all f v = ap (λ (l : List ℕ). getD l v 0) (f .bytes)
 padded-size : (row all : List ℕ) → length row ≤ 256 → Padded row all → length all ≡ 256
 padded-size row all h f = same-long row (replicate 256 0) all (length row) f (omega (arith, length-replicate {A = ℕ} 256 0)) ∙ length-replicate {A = ℕ} 256 0
 
-pub call-holds : (words : List ℕ) {n m : ℕ} {on dc on' dc' : List ℕ} {terms : List Term} {weights : List ℕ} → length on ≤ 256 → length dc ≤ 256 → Padded on on'
-    → Padded dc dc' → Filled 64 (map unpack words) terms (length words) → Filled 64 (map termCost (take (length words) terms)) weights (length words)
+pub call-holds : (words : List ℕ) {n m : ℕ} {prices : Prices} {on dc on' dc' : List ℕ} {terms : List Term} {weights : List ℕ} → prices ≡ usual → length on ≤ 256 → length dc ≤ 256 → Padded on on'
+    → Padded dc dc' → Filled 64 (map unpack words) terms (length words) → Filled 64 (map (termCost prices) (take (length words) terms)) weights (length words)
     → Holds (record {
       place = model.queried;
-      settings = record { n = n; m = m };
+      settings = record { n = n; m = m; prices = prices };
       rows = record { on = on'; dc = dc'; given = replicate 256 0 };
       candidates = listed terms weights (length words);
     }) (problemOf
     (calledTable n m on dc) words)
-call-holds words {n} {m} {on} {dc} {on'} {dc'} {terms} {weights} h k f g t w = record {
+call-holds words {n} {m} {prices} {on} {dc} {on'} {dc'} {terms} {weights} e h k f g t w = record {
   place = refl;
-  settings = record { inputs = refl; outputs = refl };
+  settings = record { inputs = refl; outputs = refl; prices = e };
   rows = record {
     on-size = padded-size on on' h f;
     dc-size = padded-size dc dc' k g;
@@ -189,7 +190,8 @@ call-holds words {n} {m} {on} {dc} {on'} {dc'} {terms} {weights} h k f g t w = r
     dc-bytes = λ v l. padded-at dc dc' g v;
     given = λ v l. none-given v;
   };
-  cands = holds-cands t (subst (λ (ts : List Term). Filled 64 (map termCost ts) weights (length words)) (t .same) w) refl;
+  cands = holds-cands prices t (subst (λ (v : Prices). Filled 64 (map (termCost v) (map unpack words)) weights (length words)) e
+      (subst (λ (ts : List Term). Filled 64 (map (termCost prices) ts) weights (length words)) (t .same) w)) (ap (λ (v : Prices). map (termCost v) (map unpack words)) (sym e));
 }
 
 module _ {p : Table} {count : ℕ} (a : Admitted p count) where

@@ -8,7 +8,7 @@ use lib.ListN.{getD, length, replicate}
 use Rattle.model.specs.Base.{below, some, join}
 use Rattle.model.specs.Table.{Table}
 use Rattle.model.specs.Sets.{irredundants}
-use Rattle.model.specs.Candidates.{termCost, covering}
+use Rattle.model.specs.Candidates.{usual, termCost, covering}
 use Rattle.model.specs.Commands as model
 use Rattle.model.specs.Commands.{basisOf, tableOf}
 use Rattle.model.specs.Refusals.{Refusal, refuse, firstOf, size, badRow}
@@ -90,14 +90,14 @@ pub record TableRefusal (p : Table) (count r : ℕ) : Type 0 where
 
 -- ---- the problem of a call
 
--- the problem that an L would find
+-- the problem that an L would find. The call sets no prices, and no answer depends on them
 abbrev pub problemOf : Table → List ℕ → model.Problem
 problemOf p words = record {
   place = model.queried;
-  settings = record { n = p .n; m = p .m };
+  settings = record { n = p .n; m = p .m; prices = usual };
   rows = record { on = p .on; dc = p .dc; given = [] };
   cands = map unpack words;
-  weights = map termCost (map unpack words);
+  weights = map (termCost usual) (map unpack words);
 }
 
 -- a row in front of zeros, in an array of 256

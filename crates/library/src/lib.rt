@@ -126,9 +126,14 @@ fn problem_of(n: u8, m: u8, on: &[u8], dc: &[u8], words: &[u32]) -> Problem
     let dc_bytes = padded(dc);
     let terms = terms_of(words);
     let count = words.len();
+    let prices = problem::usual_prices();
     Problem {
-        place: 4,
-        settings: Settings { n: n, m: m },
+        place: 5,
+        settings: Settings {
+            n: n,
+            m: m,
+            prices: prices,
+        },
         rows: TableRows {
             on: on_bytes,
             dc: dc_bytes,
@@ -136,7 +141,7 @@ fn problem_of(n: u8, m: u8, on: &[u8], dc: &[u8], words: &[u32]) -> Problem
         },
         candidates: Candidates {
             terms: terms,
-            weights: weights::weights(terms, count),
+            weights: weights::weights(prices, terms, count),
             count: count,
         },
     }

@@ -84,7 +84,7 @@ fn show_cheapest(on: &[u8; 256], terms: [Term; 64], count: usize)
 {
     let mut all = [0u64; 2048];
     let k = rows::rows(on, terms, count, 7, 1, &mut all);
-    let weights = problem::weights::weights(terms, count);
+    let weights = problem::weights::weights(problem::usual_prices(), terms, count);
     if k <= 2048 {
         if let Optimum::Cover(set, cost) = search::cheapest(&all[..k], &weights[..count]) {
             io::write_all(STDOUT_FILENO, b"parity of 7 inputs, cheapest and cost: ");

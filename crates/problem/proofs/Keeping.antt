@@ -12,10 +12,11 @@ use lib.Pow.{pow-mono}
 use lib.Seq.{getD-set-same, getD-set-other}
 use Rattle.model.specs.Base.{some}
 use Rattle.model.specs.declared.Term.{Term}
+use Rattle.model.specs.declared.Prices.{Prices}
 use Rattle.model.specs.Primes.{primes}
-use Rattle.model.specs.Candidates.{termCost}
+use Rattle.model.specs.Candidates.{usual, termCost}
 use Rattle.model.specs.Commands as model
-use Rattle.model.specs.Commands.{Context, operand, operandNumber, Row, tableOf, isQueryKind, addRow, addRows, addTerm, problemAfter}
+use Rattle.model.specs.Commands.{Context, operand, operandNumber, operandPrices, Row, tableOf, isQueryKind, addRow, addRows, addTerm, problemAfter}
 use Rattle.model.specs.Refusals.{rowRefusals, rowsRefusals}
 use Rattle.model.specs.Records.{Weighed}
 use Rattle.model.specs.Invariants.{Valid}
@@ -31,7 +32,7 @@ use Rattle.table.specs.declared.prime_list.PrimeList.{PrimeList}
 use Rattle.problem.specs.declared.TableRows.{TableRows}
 use Rattle.problem.specs.declared.Candidates.{Candidates}
 use Rattle.problem.specs.declared.Problem.{Problem}
-use Rattle.problem.specs.Problems.{noRows, listed, startedWith, noProblem, atPlace, withRows, withCandidates, rowPut, rowsPut, termPut, entriesWithout}
+use Rattle.problem.specs.Problems.{noRows, listed, startedWith, noProblem, atPlace, withPrices, withRows, withCandidates, rowPut, rowsPut, termPut, entriesWithout}
 use Rattle.problem.specs.Problems.{termTaken, WithPrimes, Sized, HoldsRows, HoldsCands, Holds, Reached}
 
 sized : (p : Problem) (q : model.Problem) → Holds p q → Valid q → Sized p
@@ -47,20 +48,21 @@ reached-sized p r = sized p (r .problem) (r .holds) (r .valid)
 -- ---- the weights
 
 -- candidates with their weights, where these are the cost rule's; and what a record holds is weighed so
-pub holds-cands : {terms ts : List Term} {weights ws : List ℕ} {count : ℕ} → Filled 64 ts terms count → Filled 64 ws weights count
-    → ws ≡ map termCost ts → HoldsCands (listed terms weights count) ts ws
-holds-cands f g w = record { terms = f; weights = g; weighed = g .same ∙ w ∙ ap (map termCost) (sym (f .same)) }
+pub holds-cands : (w : Prices) {terms ts : List Term} {weights ws : List ℕ} {count : ℕ} → Filled 64 ts terms count → Filled 64 ws weights count
+    → ws ≡ map (termCost w) ts → HoldsCands w (listed terms weights count) ts ws
+holds-cands w f g e = record { terms = f; weights = g; weighed = g .same ∙ e ∙ ap (map (termCost w)) (sym (f .same)) }
 
 pub held-weighed : (p : Problem) (q : model.Problem) → Holds p q → Weighed q
-held-weighed p q h = sym (h .cands .weights .same) ∙ h .cands .weighed ∙ ap (map termCost) (h .cands .terms .same)
+held-weighed p q h =
+    rw (← h .settings .prices) (sym (h .cands .weights .same) ∙ h .cands .weighed ∙ ap (map (termCost (p .settings .prices))) (h .cands .terms .same))
 
 -- and so each by itself
-pub weight-at : (n i : ℕ) (ws : List ℕ) (ts : List Term) (d : Term) → take n ws ≡ map termCost (take n ts) → i < n → i < length ts → getD ws i 0 ≡ termCost (getD ts i d)
-weight-at zero i ws ts d e l m = absurd (omega arith)
-weight-at (suc n) i ws [] d e l m = absurd (omega arith)
-weight-at (suc n) i [] (t ∷ ts) d e l m = absurd (omega (arith, ap length e))
-weight-at (suc n) zero (w ∷ ws) (t ∷ ts) d e l m = cc
-weight-at (suc n) (suc i) (w ∷ ws) (t ∷ ts) d e l m = weight-at n i ws ts d (cc) (omega arith) (omega arith)
+pub weight-at : (p : Prices) (n i : ℕ) (ws : List ℕ) (ts : List Term) (d : Term) → take n ws ≡ map (termCost p) (take n ts) → i < n → i < length ts → getD ws i 0 ≡ termCost p (getD ts i d)
+weight-at p zero i ws ts d e l m = absurd (omega arith)
+weight-at p (suc n) i ws [] d e l m = absurd (omega arith)
+weight-at p (suc n) i [] (t ∷ ts) d e l m = absurd (omega (arith, ap length e))
+weight-at p (suc n) zero (w ∷ ws) (t ∷ ts) d e l m = cc
+weight-at p (suc n) (suc i) (w ∷ ws) (t ∷ ts) d e l m = weight-at p n i ws ts d (cc) (omega arith) (omega arith)
 
 -- ---- the start, and I
 
@@ -82,9 +84,9 @@ holds-started : (n m k place : ℕ) → Holds (startedWith n m place) (model.sta
 unfolding startedWith
 holds-started n m k place = record {
   place = refl;
-  settings = record { inputs = refl; outputs = refl };
+  settings = record { inputs = refl; outputs = refl; prices = refl };
   rows = holds-none k;
-  cands = holds-cands (record { size = refl; counted = refl; same = refl }) (record { size = refl; counted = refl; same = refl }) refl;
+  cands = holds-cands usual (record { size = refl; counted = refl; same = refl }) (record { size = refl; counted = refl; same = refl }) refl;
 }
 
 pub holds-empty : Holds noProblem model.empty
@@ -93,6 +95,18 @@ holds-empty = holds-started 0 0 0 model.atStart
 pub after-I : (x : Context) (n m : ℕ) → operand x 0 ≡ n → operand x 1 ≡ m → Holds (startedWith n m model.begun) (problemAfter x model.Kind.I)
 unfolding problemAfter
 after-I x n m e f = rw (e, f) (holds-started n m (2 ^ n) model.begun)
+
+-- ---- W, before any candidate
+
+pub after-W : (x : Context) (p : Problem) (w : Prices) → Holds p (x .problem) → x .problem .cands ≡ [] → operandPrices x ≡ w
+    → Holds (atPlace model.inPrices (withPrices w p)) (problemAfter x model.Kind.W)
+unfolding problemAfter
+after-W x p w h none e = record {
+  place = refl;
+  settings = record { inputs = h .settings .inputs; outputs = h .settings .outputs; prices = sym e };
+  rows = h .rows;
+  cands = holds-cands w (h .cands .terms) (h .cands .weights) (held-weighed p (x .problem) h ∙ rw none refl);
+}
 
 -- ---- R and B
 
@@ -151,25 +165,37 @@ after-rows (w ∷ ws) p q h v o m a =
 
 -- ---- other candidates: T and A, P, D
 
-holds-candidates : (place : ℕ) (p : Problem) (q : model.Problem) (cs : Candidates) (ts : List Term) (ws : List ℕ) → Holds p q → HoldsCands cs ts ws
+holds-candidates : (place : ℕ) (p : Problem) (q : model.Problem) (cs : Candidates) (ts : List Term) (ws : List ℕ) → Holds p q → HoldsCands (p .settings .prices) cs ts ws
     → Holds (atPlace place (withCandidates cs p)) (model.atPlace place (model.withCands ts ws q))
 holds-candidates place p q cs ts ws h c = record { place = refl; settings = h .settings; rows = h .rows; cands = c }
 
 pub after-term : (p : Problem) (q : model.Problem) (t : Term) → Holds p q → p .candidates .count < 64
-    → Holds (atPlace (max (p .place) model.inTerms) (withCandidates (termPut (p .candidates) t) p)) (addTerm q t)
+    → Holds (atPlace (max (p .place) model.inTerms) (withCandidates (termPut (p .settings .prices) (p .candidates) t) p)) (addTerm q t)
 unfolding termPut
-after-term p q t h l = rw (h .place) (holds-candidates (max (q .place) model.inTerms) p q (termPut (p .candidates) t) (q .cands ++ (t ∷ [])) (q .weights ++ (termCost t ∷ [])) h
-    (holds-cands (filled-next 64 (p .candidates .terms) (p .candidates .count) (q .cands) t (h .cands .terms) l)
-    (filled-next 64 (p .candidates .weights) (p .candidates .count) (q .weights) (termCost t) (h .cands .weights) l) (weighed-added q t (held-weighed p q h))))
+after-term p q t h l =
+    let w = p .settings .prices in
+    let c = termCost w t in
+    let ts = q .cands ++ (t ∷ []) in
+    let cs = termPut w (p .candidates) t in
+    let beside = holds-cands w (filled-next 64 (p .candidates .terms) (p .candidates .count) (q .cands) t (h .cands .terms) l)
+    (filled-next 64 (p .candidates .weights) (p .candidates .count) (q .weights) c (h .cands .weights) l)
+    (subst⁻¹ (λ (v : Prices). q .weights ++ (termCost v t ∷ []) ≡ map (termCost v) ts) (h .settings .prices) (weighed-added q t (held-weighed p q h))) in
+    rw (h .place)
+    (subst (λ (v : Prices). Holds (atPlace (max (q .place) model.inTerms) (withCandidates cs p))
+    (model.atPlace (max (q .place) model.inTerms) (model.withCands ts (q .weights ++ (termCost v t ∷ [])) q)))
+    (h .settings .prices) (holds-candidates (max (q .place) model.inTerms) p q cs ts (q .weights ++ (c ∷ [])) h beside))
 
 pub after-P : (x : Context) (p : Problem) (list : PrimeList) (r : Problem) → Holds p (x .problem) → Filled 64 (primes (tableOf (x .problem))) (list .terms) (list .count) → WithPrimes p list r
     → Holds r (problemAfter x model.Kind.P)
 unfolding problemAfter
 after-P x p list r h f w =
     let ts = primes (tableOf (x .problem)) in
+    let cost = termCost (p .settings .prices) in
+    let cs = listed (list .terms) (r .candidates .weights) (list .count) in
+    let beside = holds-cands (p .settings .prices) f (subst (λ (us : List Term). Filled 64 (map cost us) (r .candidates .weights) (list .count)) (f .same) (w .weights)) refl in
     subst⁻¹ (λ (y : Problem). Holds y (problemAfter x model.Kind.P)) (w .is)
-    (holds-candidates model.queried p (x .problem) (listed (list .terms) (r .candidates .weights) (list .count)) ts (map termCost ts) h
-    (holds-cands f (subst (λ (us : List Term). Filled 64 (map termCost us) (r .candidates .weights) (list .count)) (f .same) (w .weights)) refl))
+    (subst (λ (v : Prices). Holds (atPlace model.queried (withCandidates cs p)) (model.atPlace model.queried (model.withCands ts (map (termCost v) ts) (x .problem))))
+    (h .settings .prices) (holds-candidates model.queried p (x .problem) cs ts (map cost ts) h beside))
 
 pub after-D : (x : Context) (p : Problem) (k : ℕ) → Holds p (x .problem) → operandNumber x ≡ k → k < p .candidates .count → p .candidates .count ≤ 64
     → Holds (withCandidates (termTaken (p .candidates) k) p) (problemAfter x model.Kind.D)
@@ -180,8 +206,8 @@ after-D x p k h e l m =
       place = h .place;
       settings = h .settings;
       rows = h .rows;
-      cands = holds-cands (filled-without 64 (p .candidates .terms) (p .candidates .count) (q .cands) k (h .cands .terms) l m)
-          (filled-without 64 (p .candidates .weights) (p .candidates .count) (q .weights) k (h .cands .weights) l m) (weighed-without q k (held-weighed p q h));
+      cands = holds-cands (p .settings .prices) (filled-without 64 (p .candidates .terms) (p .candidates .count) (q .cands) k (h .cands .terms) l m)
+          (filled-without 64 (p .candidates .weights) (p .candidates .count) (q .weights) k (h .cands .weights) l m) (rw (h .settings .prices) (weighed-without q k (held-weighed p q h)));
     }
 
 -- ---- queries

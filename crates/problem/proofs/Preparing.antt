@@ -10,12 +10,13 @@ use Rattle.model.specs.Base.{bit, below}
 use Rattle.model.specs.declared.Term.{Term}
 use Rattle.model.specs.Table.{holds, onCells}
 use Rattle.model.specs.Sets.{covers, cover, irredundants, cheapest, ofRows, rowOf, members}
-use Rattle.model.specs.Presence.{presence}
-use Rattle.model.specs.Candidates.{Basis, basis, covering}
+use Rattle.model.specs.Presence.{presence, allOf}
+use Rattle.model.specs.Candidates.{Basis, usual, weigh, basis, covering}
 use Rattle.model.specs.Commands as model
-use Rattle.model.specs.Commands.{basisOf, tableOf}
+use Rattle.model.specs.Commands.{basisOf, tableOf, pricesOf}
 use Rattle.model.proofs.Matrix.{irredundants-same, rows-irredundants, rows-cheapest, rows-coverable, from-length}
 use Rattle.model.proofs.Presence.{presence-all}
+use Rattle.model.proofs.Pricing.{presence-untouched}
 use Rattle.rows.specs.Reduction.{Reduced}
 use Rattle.rows.proofs.Same.{reduced-irredundants, reduced-cheapest, reduced-coverable}
 use Rattle.rows.specs.Covers.{rowCovers}
@@ -40,6 +41,7 @@ pub covered : (p : Problem) (all : ℕ) (r : Bool) → Sized p → all ≡ 2 ^ p
 covered p all r z e c q h =
     c (tableOf q) (held-on p q z h)
     ∙ ap₂ (λ (ts : List Term) (s : ℕ). presence (covering (basis (tableOf q) ts)) s) (held-cands p q h) (e ∙ ap (λ (k : ℕ). 2 ^ k - 1) (h .cands .terms .counted))
+    ∙ presence-untouched usual (pricesOf q) (tableOf q) (q .cands) (allOf (covering (basisOf q)))
 
 -- ---- costs play no part in the listing
 
@@ -56,13 +58,13 @@ module _ (b : Basis) where
   all-rows = map (rowOf holds (b .cands)) (onCells (b .table))
 
   all-costs : List ℕ
-  all-costs = map (b .weight) (b .cands)
+  all-costs = map (weigh b) (b .cands)
 
   rows-of : (rows out : List ℕ) (r : ℕ) → rows ≡ map (rowOf holds (b .cands)) (onCells (b .table)) → Reduced rows out r → RowsOf b (take r out)
   unfolding all-rows all-costs
   rows-of rows out r e d = record {
     listed = sym (rows-irredundants (covering b)) ∙ reduced-irredundants all-costs all-rows out r d' ∙ costs-apart all-costs
-        (replicate (length (b .cands)) 0) (take r out) (length-map (b .cands) (b .weight) ∙ sym (length-replicate (length (b .cands)) 0));
+        (replicate (length (b .cands)) 0) (take r out) (length-map (b .cands) (weigh b) ∙ sym (length-replicate (length (b .cands)) 0));
     cheapest = sym (rows-cheapest (covering b)) ∙ reduced-cheapest all-costs all-rows out r d';
     covered = sym (rows-coverable (covering b)) ∙ reduced-coverable all-costs all-rows out r d';
   }

@@ -11,11 +11,12 @@ use lib.Dec.{T, leb, ltb}
 use lib.ListN.{getD}
 use lib.Pow.{pow-mono}
 use Rattle.model.specs.declared.Term.{Term}
+use Rattle.model.specs.declared.Prices.{Prices}
 use Rattle.model.specs.Table.{Table, formed, holdsNoOff}
 use Rattle.model.specs.Commands as model
 use Rattle.model.specs.Commands.{Context, Row, tableOf}
 use Rattle.model.specs.Refusals as model·refusals
-use Rattle.model.specs.Refusals.{refuse, firstOf, size, badRow}
+use Rattle.model.specs.Refusals.{refuse, firstOf, size, dear, badRow}
 use Rattle.model.specs.Invariants.{Valid}
 use Rattle.model.specs.Library.{badVertex}
 use Rattle.model.proofs.Cubes.{formed-e}
@@ -41,6 +42,21 @@ init-outputs n m a b e f p q = rw (← e, ← f, p, q)
 
 pub init-inputs : (n m : ℕ) (a : Bool) → a ≡ size n → a ≡ false → 6 ≡ firstOf (refuse 6 (not (size n && size m)) ∷ [])
 init-inputs n m a e p = rw (← e, p)
+
+-- ---- prices
+
+module _ (w : Prices) where
+  pub dear-term : 50 < w .term → 16 ≡ firstOf (refuse 16 (dear w) ∷ [])
+  dear-term l = rw (lt-ltb 50 (w .term) l)
+
+  pub dear-literal : w .term ≤ 50 → 50 < w .literal → 16 ≡ firstOf (refuse 16 (dear w) ∷ [])
+  dear-literal k l = rw (le-ltb 50 (w .term) k, lt-ltb 50 (w .literal) l)
+
+  pub dear-connection : w .term ≤ 50 → w .literal ≤ 50 → 50 < w .connection → 16 ≡ firstOf (refuse 16 (dear w) ∷ [])
+  dear-connection k h l = rw (le-ltb 50 (w .term) k, le-ltb 50 (w .literal) h, lt-ltb 50 (w .connection) l)
+
+  pub dear-none : w .term ≤ 50 → w .literal ≤ 50 → w .connection ≤ 50 → 0 ≡ firstOf (refuse 16 (dear w) ∷ [])
+  dear-none k h l = rw (le-ltb 50 (w .term) k, le-ltb 50 (w .literal) h, le-ltb 50 (w .connection) l)
 
 -- ---- rows
 

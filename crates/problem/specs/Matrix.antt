@@ -6,7 +6,7 @@ use mathlib.Core.List.{List, map}
 use lib.ListN.{length, take, replicate}
 use Rattle.model.specs.Sets.{coverable, irredundants, cheapest, ofRows}
 use Rattle.model.specs.Presence.{presence, allOf}
-use Rattle.model.specs.Candidates.{Basis, covering}
+use Rattle.model.specs.Candidates.{Basis, weigh, covering}
 use Rattle.model.specs.Commands as model
 use Rattle.model.specs.Commands.{basisOf}
 use Rattle.problem.specs.declared.Problem.{Problem}
@@ -16,8 +16,8 @@ use Rattle.problem.specs.Problems.{Holds}
 -- the rows have the covers and the cheapest of a table and its candidates
 pub record RowsOf (b : Basis) (rows : List ℕ) : Type 0 where
   pub listed : irredundants (covering b) ≡ irredundants (ofRows (replicate (length (b .cands)) 0) rows)
-  pub cheapest : cheapest (covering b) ≡ cheapest (ofRows (map (b .weight) (b .cands)) rows)
-  pub covered : coverable (covering b) ≡ coverable (ofRows (map (b .weight) (b .cands)) rows)
+  pub cheapest : cheapest (covering b) ≡ cheapest (ofRows (map (weigh b) (b .cands)) rows)
+  pub covered : coverable (covering b) ≡ coverable (ofRows (map (weigh b) (b .cands)) rows)
 
 -- the covering matrix: its rows, and whether each on cell is held by a candidate
 pub record MatrixOf (b : Basis) (rows : List ℕ) (covered : Bool) : Type 0 where

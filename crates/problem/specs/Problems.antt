@@ -6,8 +6,9 @@ use lib.Dec.{ltb, eqb}
 use lib.ListN.{getD, length, take, drop, set, replicate}
 use Rattle.model.specs.Base.{some, without}
 use Rattle.model.specs.declared.Term.{Term}
+use Rattle.model.specs.declared.Prices.{Prices}
 use Rattle.model.specs.Table.{term}
-use Rattle.model.specs.Candidates.{termCost}
+use Rattle.model.specs.Candidates.{usual, termCost}
 use Rattle.model.specs.Commands as model
 use Rattle.model.specs.Commands.{Row}
 use Rattle.model.specs.Invariants.{Valid}
@@ -28,7 +29,7 @@ abbrev pub listed : List Term → List ℕ → ℕ → Candidates
 listed terms weights count = record { terms = terms; weights = weights; count = count }
 
 unfoldable pub startedWith : ℕ → ℕ → ℕ → Problem
-startedWith n m place = record { place = place; settings = record { n = n; m = m }; rows = noRows; candidates = listed (replicate 64 (term 0 0 0)) (replicate 64 0) 0 }
+startedWith n m place = record { place = place; settings = record { n = n; m = m; prices = usual }; rows = noRows; candidates = listed (replicate 64 (term 0 0 0)) (replicate 64 0) 0 }
 
 abbrev pub noProblem : Problem
 noProblem = startedWith 0 0 0
@@ -37,6 +38,9 @@ noProblem = startedWith 0 0 0
 
 abbrev pub atPlace : ℕ → Problem → Problem
 atPlace place p = record { place = place; settings = p .settings; rows = p .rows; candidates = p .candidates }
+
+abbrev pub withPrices : Prices → Problem → Problem
+withPrices w p = record { place = p .place; settings = record { n = p .settings .n; m = p .settings .m; prices = w }; rows = p .rows; candidates = p .candidates }
 
 abbrev pub withRows : TableRows → Problem → Problem
 withRows rows p = record { place = p .place; settings = p .settings; rows = rows; candidates = p .candidates }
@@ -52,8 +56,8 @@ abbrev pub rowsPut : TableRows → List Row → TableRows
 rowsPut rows [] = rows
 rowsPut rows (w ∷ ws) = rowsPut (rowPut rows (w .vertex) (w .on) (w .dc)) ws
 
-unfoldable pub termPut : Candidates → Term → Candidates
-termPut cs t = listed (set (cs .terms) (cs .count) t) (set (cs .weights) (cs .count) (termCost t)) (cs .count + 1)
+unfoldable pub termPut : Prices → Candidates → Term → Candidates
+termPut w cs t = listed (set (cs .terms) (cs .count) t) (set (cs .weights) (cs .count) (termCost w t)) (cs .count + 1)
 
 -- the first count entries without entry k, which leaves one fewer; the rest of the array stays
 unfoldable pub entriesWithout : {A : Type 0} → ℕ → ℕ → List A → List A
@@ -65,7 +69,7 @@ termTaken cs k = listed (entriesWithout k (cs .count) (cs .terms)) (entriesWitho
 -- r is p behind a P: the primes of the list are its candidates, and their weights stand beside them
 pub record WithPrimes (p : Problem) (list : PrimeList) (r : Problem) : Type 0 where
   pub is : r ≡ atPlace model.queried (withCandidates (listed (list .terms) (r .candidates .weights) (list .count)) p)
-  pub weights : Filled 64 (map termCost (take (list .count) (list .terms))) (r .candidates .weights) (list .count)
+  pub weights : Filled 64 (map (termCost (p .settings .prices)) (take (list .count) (list .terms))) (r .candidates .weights) (list .count)
 
 -- ---- what it holds
 
@@ -78,6 +82,7 @@ pub record Sized (p : Problem) : Type 0 where
 pub record HoldsSettings (s : Settings) (t : model.Settings) : Type 0 where
   pub inputs : s .n ≡ t .n
   pub outputs : s .m ≡ t .m
+  pub prices : s .prices ≡ t .prices
 
 -- the bytes of each vertex, and whether it has a row
 pub record HoldsRows (r : TableRows) (t : model.TableRows) : Type 0 where
@@ -88,18 +93,18 @@ pub record HoldsRows (r : TableRows) (t : model.TableRows) : Type 0 where
   pub dc-bytes : (v : ℕ) → v < 256 → getD (r .dc) v 0 ≡ getD (t .dc) v 0
   pub given : (v : ℕ) → v < 256 → ltb 0 (getD (r .given) v 0) ≡ some (eqb v) (t .given)
 
--- the candidates, and the weights beside them. K5: "each weight equals the cost rule for its term"
-pub record HoldsCands (cs : Candidates) (ts : List Term) (ws : List ℕ) : Type 0 where
+-- the candidates, and the weights beside them. K5: "each weight equals the cost rule for its term", at these prices
+pub record HoldsCands (w : Prices) (cs : Candidates) (ts : List Term) (ws : List ℕ) : Type 0 where
   pub terms : Filled 64 ts (cs .terms) (cs .count)
   pub weights : Filled 64 ws (cs .weights) (cs .count)
-  pub weighed : take (cs .count) (cs .weights) ≡ map termCost (take (cs .count) (cs .terms))
+  pub weighed : take (cs .count) (cs .weights) ≡ map (termCost w) (take (cs .count) (cs .terms))
 
 -- p holds the problem q of the definitions
 pub record Holds (p : Problem) (q : model.Problem) : Type 0 where
   pub place : p .place ≡ q .place
   pub settings : HoldsSettings (p .settings) (q .settings)
   pub rows : HoldsRows (p .rows) (q .rows)
-  pub cands : HoldsCands (p .candidates) (q .cands) (q .weights)
+  pub cands : HoldsCands (p .settings .prices) (p .candidates) (q .cands) (q .weights)
 
 -- p holds a problem that a job can come to
 pub record Reached (p : Problem) : Type 0 where

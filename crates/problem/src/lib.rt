@@ -4,8 +4,10 @@
 // proofs/Keeping says that the record goes on holding the problem of the definitions.
 ghost use mathlib.Core.Path.{_≡_};
 ghost use Prim.Native.Nat.{_≤_, _<_, max};
+ghost use Rattle.model.specs.Candidates.{usual};
 ghost use Rattle.model.specs.Commands as model;
-ghost use Rattle.problem.specs.Problems.{noProblem, startedWith, atPlace, withRows, withCandidates, listed, termPut, termTaken, WithPrimes};
+ghost use Rattle.problem.specs.Problems.{noProblem, startedWith, atPlace, withPrices, withRows, withCandidates, listed, termPut, termTaken, WithPrimes};
+use model::Prices;
 use model::Term;
 use table::prime_list::PrimeList;
 
@@ -13,10 +15,11 @@ pub mod matrix;
 pub mod refusals;
 pub mod weights;
 
-// What I sets: n inputs, m outputs.
+// What I sets: n inputs, m outputs; and the prices, which W sets.
 pub struct Settings {
     pub n: u8,
     pub m: u8,
+    pub prices: Prices,
 }
 
 // The rows by vertex, with `given` at 1 for each vertex that has one.
@@ -48,13 +51,28 @@ pub fn empty() -> Problem
     started(0, 0, 0)
 }
 
+// The prices without a W.
+pub fn usual_prices() -> Prices
+    ensures { λ r. ⌜ r ≡ usual ⌝ }
+{
+    Prices {
+        term: 1,
+        literal: 1,
+        connection: 0,
+    }
+}
+
 // n inputs and m outputs, with no row and no candidate.
 pub fn started(n: u8, m: u8, place: u8) -> Problem
     ensures { λ r. ⌜ r ≡ startedWith n m place ⌝ }
 {
     Problem {
         place: place,
-        settings: Settings { n: n, m: m },
+        settings: Settings {
+            n: n,
+            m: m,
+            prices: usual_prices(),
+        },
         rows: TableRows {
             on: [0; 256],
             dc: [0; 256],
@@ -72,6 +90,21 @@ pub fn started(n: u8, m: u8, place: u8) -> Problem
     }
 }
 
+// With these prices: what W leaves.
+pub fn with_prices(p: Problem, w: Prices) -> Problem
+    ensures { λ r. ⌜ r ≡ atPlace model.inPrices (withPrices w p) ⌝ }
+{
+    let settings = Settings {
+        n: p.settings.n,
+        m: p.settings.m,
+        prices: w,
+    };
+    let mut q = p;
+    q.settings = settings;
+    q.place = 2;
+    q
+}
+
 // With these rows: what a row of R or B leaves.
 pub fn with_rows(p: Problem, rows: TableRows) -> Problem
     ensures { λ r. ⌜ r ≡ atPlace model.inRows (withRows rows p) ⌝ }
@@ -79,7 +112,7 @@ pub fn with_rows(p: Problem, rows: TableRows) -> Problem
     let settings = p.settings;
     let candidates = p.candidates;
     Problem {
-        place: 2,
+        place: 3,
         settings: settings,
         rows: rows,
         candidates: candidates,
@@ -90,8 +123,8 @@ pub fn with_rows(p: Problem, rows: TableRows) -> Problem
 fn term_place(place: u8) -> u8
     ensures { λ r. ⌜ r ≡ max place model.inTerms ⌝ }
 {
-    if place < 3 {
-        return 3;
+    if place < 4 {
+        return 4;
     }
     place
 }
@@ -99,12 +132,13 @@ fn term_place(place: u8) -> u8
 // With one candidate more and its weight, behind the others: what T and A leave.
 pub fn with_term(p: Problem, t: Term) -> Problem
     requires { ⌜ p .candidates .count < 64 ⌝ }
-    ensures { λ r. ⌜ r ≡ atPlace (max (p .place) model.inTerms) (withCandidates (termPut (p .candidates) t) p) ⌝ }
+    ensures { λ r. ⌜ r ≡ atPlace (max (p .place) model.inTerms) (withCandidates (termPut (p .settings .prices) (p .candidates) t) p) ⌝ }
 {
+    let prices = p.settings.prices;
     let mut candidates = p.candidates;
     let i = candidates.count;
     candidates.terms[i] = t;
-    candidates.weights[i] = weights::weight(t);
+    candidates.weights[i] = weights::weight(prices, t);
     candidates.count = i + 1;
     let place = term_place(p.place);
     let mut q = p;
@@ -153,11 +187,11 @@ pub fn with_primes(p: Problem, primes: PrimeList) -> Problem
 {
     let terms = primes.terms;
     let count = primes.count;
-    let weights = weights::weights(terms, count);
     let settings = p.settings;
+    let weights = weights::weights(settings.prices, terms, count);
     let rows = p.rows;
     Problem {
-        place: 4,
+        place: 5,
         settings: settings,
         rows: rows,
         candidates: Candidates {
@@ -173,6 +207,6 @@ pub fn after_query(p: Problem) -> Problem
     ensures { λ r. ⌜ r ≡ atPlace model.queried p ⌝ }
 {
     let mut q = p;
-    q.place = 4;
+    q.place = 5;
     q
 }

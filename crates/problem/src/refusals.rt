@@ -1,12 +1,13 @@
 // The refusals that a command's operands can meet, each tested in the paper's order. 0 is none. A test takes what it reads of the record.
 ghost use mathlib.Core.Path.{_≡_};
 ghost use Prim.Native.Nat.{_≤_};
-ghost use Rattle.model.specs.Refusals.{badRow, firstOf, refuse, size};
+ghost use Rattle.model.specs.Refusals.{badRow, dear, firstOf, refuse, size};
 ghost use mathlib.Core.Bool.{not, _&&_};
 ghost use mathlib.Core.List.{[], _∷_};
 ghost use Rattle.problem.specs.Refusing.{isTaken, rowRefusals, TermRefusal};
 use crate::Settings;
 use bits::byte;
+use model::Prices;
 use model::Term;
 use table::terms;
 
@@ -31,6 +32,22 @@ pub fn init_refusal(n: u8, m: u8) -> u8
         return 6;
     }
     6
+}
+
+// W: 16.
+pub fn prices_refusal(w: Prices) -> u8
+    ensures { λ r. ⌜ r ≡ firstOf (refuse 16 (dear w) ∷ []) ⌝ }
+{
+    if 50 < w.term {
+        return 16;
+    }
+    if 50 < w.literal {
+        return 16;
+    }
+    if 50 < w.connection {
+        return 16;
+    }
+    0
 }
 
 // Whether on and dc share a bit, or one has bit m or above.

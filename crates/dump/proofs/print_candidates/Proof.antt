@@ -6,10 +6,10 @@ use Rattle.dump.proofs.print_candidates.Statement.{statement}
 use Rattle.dump.proofs.print_candidates.Tie as tie
 
 abbrev Inv-loop : tie.InvT-loop
-Inv-loop candidates terms weights i₀ i = i ≤ 64
+Inv-loop w candidates terms weights i₀ i = i ≤ 64
 
 abbrev μ-loop : tie.MeasureT-loop
-μ-loop candidates terms weights i₀ i = 64 - i
+μ-loop w candidates terms weights i₀ i = 64 - i
 
 loop-holds : tie.Need-loop-holds Inv-loop μ-loop
 loop-holds c = omega arith
@@ -28,7 +28,7 @@ array-read-print-candidate c = c .before .before .before .loop-test .taken
 
 print-candidate-requires : tie.Need-print-candidate-requires Inv-loop μ-loop
 print-candidate-requires c κs = let c4 = c .before .before .before .before in let c7 = c4 .before .before .before in let cs = c7 .args .candidates in
-    weight-at (cs .count) (c4 .loop .i) (cs .weights) (cs .terms) _ (c7 .pre .1) (c .before .if1 .taken) (omega (arith, c7 .pre .0, array-copy-out-t (c .before)))
+    weight-at (c7 .args .w) (cs .count) (c4 .loop .i) (cs .weights) (cs .terms) _ (c7 .pre .1) (c .before .if1 .taken) (omega (arith, c7 .pre .0, array-copy-out-t (c .before)))
 
 add-i : tie.Need-add-i Inv-loop μ-loop
 add-i c = omega (arith, c .before .before .loop-test .taken)

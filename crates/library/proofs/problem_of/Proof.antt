@@ -14,12 +14,16 @@ padded-requires-2 c κs = search needs
 terms-of-requires : tie.Need-terms-of-requires
 terms-of-requires c κs = search needs
 
+usual-prices-requires : tie.Need-usual-prices-requires
+usual-prices-requires c κs = search needs
+
 weights-requires : tie.Need-weights-requires
 weights-requires c κs = search needs
 
 returns : tie.Need-returns
-returns c = let c2 = c .before .before in let c7 = c2 .before .before .before .before .before in
-    call-holds (now (c7 .args .words)) (c7 .pre .0) (c7 .pre .1) (c2 .before .padded .ensures) (c2 .padded2 .ensures) (c .before .terms-of .ensures) (c .weights .ensures)
+returns c = let c3 = c .before .before .before in let c8 = c3 .before .before .before .before .before in
+    call-holds (now (c8 .args .words)) (c .before .usual-prices .ensures) (c8 .pre .0) (c8 .pre .1) (c3 .before .padded .ensures) (c3 .padded2 .ensures) (c .before .before .terms-of .ensures)
+    (c .weights .ensures)
 
 pub problem-of-spec : {M : Type 1} → statement M
-problem-of-spec = tie.close (tie.spec padded-requires padded-requires-2 terms-of-requires weights-requires returns)
+problem-of-spec = tie.close (tie.spec padded-requires padded-requires-2 terms-of-requires usual-prices-requires weights-requires returns)

@@ -12,6 +12,9 @@ slice-aggregate-rows c = search needs
 rows-requires : tie.Need-rows-requires
 rows-requires c κs = search needs
 
+usual-prices-requires : tie.Need-usual-prices-requires
+usual-prices-requires c κs = search needs
+
 weights-requires : tie.Need-weights-requires
 weights-requires c κs = search needs
 
@@ -29,7 +32,7 @@ slice-aggregate-cheapest-2 c = sym (length-take-le _ _ (array-share-prefix-weigh
 
 cheapest-requires : tie.Need-cheapest-requires
 cheapest-requires c κs = let c2 = c .before .before in
-    (omega (arith, slice-aggregate-cheapest (c .before), array-share-prefix-all c2), omega (arith, slice-aggregate-cheapest-2 c, c2 .before .before .before .before .before .pre))
+    (omega (arith, slice-aggregate-cheapest (c .before), array-share-prefix-all c2), omega (arith, slice-aggregate-cheapest-2 c, c2 .before .before .before .before .before .before .pre))
 
 enum-known-set : tie.Need-enum-known-set
 enum-known-set c = search needs
@@ -65,6 +68,6 @@ returns-3 : tie.Need-returns-3
 returns-3 c = search needs
 
 pub show-cheapest-spec : {M : Type 1} → statement M
-show-cheapest-spec = tie.close (tie.spec slice-aggregate-rows rows-requires weights-requires array-share-prefix-all slice-aggregate-cheapest
+show-cheapest-spec = tie.close (tie.spec slice-aggregate-rows rows-requires usual-prices-requires weights-requires array-share-prefix-all slice-aggregate-cheapest
     array-share-prefix-weights slice-aggregate-cheapest-2 cheapest-requires enum-known-set slice-aggregate-write-all write-all-requires
     print-number-requires print-number-requires-2 slice-aggregate-write-all-2 write-all-requires-2 enum-told returns returns-2 returns-3)

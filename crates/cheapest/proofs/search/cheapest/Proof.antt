@@ -19,7 +19,7 @@ value-requires : tie.Need-value-requires
 value-requires c κs =
     let c3 = c .before .before .before in
     let start = c3 .before .before in
-    (start .pre .0, ((c .before .unit .ensures), priced-start _ _ _ _ (start .pre .1) (small-entries (start .args .costs .now) (c3 .shared-slice-known2 .given)) (c .start .ensures)))
+    (start .pre .0, ((c .before .unit .ensures .unit), priced-start _ _ _ _ (start .pre .1) (small-entries (start .args .costs .now) (c3 .shared-slice-known2 .given)) (c .start .ensures)))
 
 returns : tie.Need-returns
 returns c =
@@ -39,7 +39,7 @@ first-requires c κs =
     let start = c5 .before .before .before in (
       start .pre .0,
       (
-        (c4 .unit .ensures),
+        (c4 .unit .ensures .unit),
         (start .pre .1, (start .pre .1, least-cost _ _ _ _ _ _ (c5 .low-mask .ensures) (c3 .start .ensures) (c .before .before .value .ensures) (c .if1 .left))),
       ),
     )

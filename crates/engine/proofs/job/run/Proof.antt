@@ -166,7 +166,8 @@ starts-requires : tie.Need-starts-requires Inv-loop μ-loop
 starts-requires c κs = tt
 
 read-rows-requires : tie.Need-read-rows-requires Inv-loop μ-loop
-read-rows-requires c κs = let w = next (c .before .before) in (reached w, (c .before .starts .ensures (subst⁻¹ (λ (b : Bool). T b) (c .if3 .taken) tt), w .within))
+read-rows-requires c κs = let w = next (c .before .before) in
+    let place = c .before .starts .ensures (subst⁻¹ (λ (b : Bool). T b) (c .if3 .taken) tt) in (reached w, (place .0, place .1, w .within))
 
 loop-less : tie.Need-loop-less Inv-loop μ-loop
 loop-less c = omega (

@@ -11,14 +11,14 @@ use Rattle.engine.proofs.row_block.read_rows.Tie as tie
 
 -- read up to `end`, the last B commands from i on
 abbrev Inv-loop : tie.InvT-loop
-Inv-loop job at s candidates on₀ dc₀ given₀ i₀ end₀ on dc given i end = (i ≤ end) × ReadsInto s job end₀ (rowsOf on₀ dc₀ given₀) end (rowsOf on dc given)
+Inv-loop job at place s candidates on₀ dc₀ given₀ i₀ end₀ on dc given i end = (i ≤ end) × ReadsInto s job end₀ (rowsOf on₀ dc₀ given₀) end (rowsOf on dc given)
 
 abbrev μ-loop : tie.MeasureT-loop
-μ-loop job at s candidates on₀ dc₀ given₀ i₀ end₀ on dc given i end = length job - i
+μ-loop job at place s candidates on₀ dc₀ given₀ i₀ end₀ on dc given i end = length job - i
 
 read-ones-requires : tie.Need-read-ones-requires Inv-loop μ-loop
 read-ones-requires c κs = let c9 = c .before .before .before .before .before .before .before .before .before in
-    let start = c9 in let z = reached-sized _ (start .pre .0) in ((z .inputs, z .outputs), start .pre .1 .1)
+    let start = c9 in let z = reached-sized _ (start .pre .0) in ((z .inputs, z .outputs), start .pre .1 .2)
 
 read-eights-requires : tie.Need-read-eights-requires Inv-loop μ-loop
 read-eights-requires c κs = let c3 = c .before .before .before in
@@ -50,7 +50,8 @@ place-behind-requires c κs = search needs
 
 returns : tie.Need-returns Inv-loop μ-loop
 returns c = let c3 = c .before .before .before in let c7 = c3 .before .before .before .before in let start = c7 .before .before .before .before .before .before .before .before .before .before in
-    reads-record (start .pre .0) (start .pre .1 .0) (reads-then (reads-then (c7 .read-ones .ensures) (c3 .read-eights .ensures)) (c .before .before .loop .inv .1)) (c .place-behind .ensures)
+    reads-record (start .pre .0) (start .pre .1 .0) (start .pre .1 .1)
+    (reads-then (reads-then (c7 .read-ones .ensures) (c3 .read-eights .ensures)) (c .before .before .loop .inv .1)) (c .place-behind .ensures)
 
 pub read-rows-spec : {M : Type 1} → statement M
 read-rows-spec = tie.close (tie.spec Inv-loop μ-loop read-ones-requires read-eights-requires loop-holds read-ones-requires-2

@@ -6,7 +6,7 @@ use denote.Ref.{now}
 use lib.ListN.{length}
 use Rattle.model.specs.Commands.{width}
 use Rattle.codec.specs.Kinds.{kindIs}
-use Rattle.engine.proofs.Dispatching.{Read, operands-there, term-there, rows-may-come, step-early, step-I, step-R, step-B, step-term, step-P, step-D, step-L, step-C, step-E, step-none}
+use Rattle.engine.proofs.Dispatching.{Read, operands-there, term-there, rows-may-come, step-early, step-I, step-W, step-R, step-B, step-term, step-P, step-D, step-L, step-C, step-E, step-none}
 use borrow.Author.Needs.{needs}
 use Rattle.engine.proofs.step.step.Statement.{statement}
 use Rattle.engine.proofs.step.step.Tie as tie
@@ -63,11 +63,23 @@ init-requires c κs = search needs
 enum-told-2 : tie.Need-enum-told-2
 enum-told-2 c = search needs
 
+add-prices-at : tie.Need-add-prices-at
+add-prices-at c = search needs
+
+prices-at-requires : tie.Need-prices-at-requires
+prices-at-requires c κs = omega (arith, room (c .before .before), ap width (ap kindIs (c .enum-told2 .given .1)))
+
+prices-requires : tie.Need-prices-requires
+prices-requires c κs = search needs
+
+enum-told-3 : tie.Need-enum-told-3
+enum-told-3 c = search needs
+
 add-wide : tie.Need-add-wide
 add-wide c = search needs
 
 shared-slice-read-wide : tie.Need-shared-slice-read-wide
-shared-slice-read-wide c = omega (arith, room (c .before .before .before), ap width (ap kindIs (c .before .enum-told2 .given .1)))
+shared-slice-read-wide c = omega (arith, room (c .before .before .before), ap width (ap kindIs (c .before .enum-told3 .given .1)))
 
 wide-requires : tie.Need-wide-requires
 wide-requires c κs = search needs
@@ -76,87 +88,87 @@ add-row : tie.Need-add-row
 add-row c = search needs
 
 shared-slice-read-row : tie.Need-shared-slice-read-row
-shared-slice-read-row c = omega (arith, room (c .before .before .before .before .before), ap width (ap kindIs (c .before .before .before .enum-told2 .given .1)))
+shared-slice-read-row c = omega (arith, room (c .before .before .before .before .before), ap width (ap kindIs (c .before .before .before .enum-told3 .given .1)))
 
 add-row-2 : tie.Need-add-row-2
 add-row-2 c = search needs
 
 shared-slice-read-row-2 : tie.Need-shared-slice-read-row-2
-shared-slice-read-row-2 c = omega (arith, room (c .before .before .before .before .before .before), ap width (ap kindIs (c .before .before .before .before .enum-told2 .given .1)))
+shared-slice-read-row-2 c = omega (arith, room (c .before .before .before .before .before .before), ap width (ap kindIs (c .before .before .before .before .enum-told3 .given .1)))
 
 row-requires : tie.Need-row-requires
 row-requires c κs = search needs
 
-enum-told-3 : tie.Need-enum-told-3
-enum-told-3 c = search needs
+enum-told-4 : tie.Need-enum-told-4
+enum-told-4 c = search needs
 
 add-eight-rows : tie.Need-add-eight-rows
 add-eight-rows c = search needs
 
 eight-rows-requires : tie.Need-eight-rows-requires
 eight-rows-requires c κs = let c2 = c .before .before in
-    let b = ap kindIs (c .enum-told3 .given .1) in
+    let b = ap kindIs (c .enum-told4 .given .1) in
     (c2 .before .before .before .before .before .before .before .pre .0, (rows-may-come (read (c2 .before)) (c2 .if1 .left) b, omega (arith, room c2, ap width b)))
 
 add-term-at : tie.Need-add-term-at
 add-term-at c = search needs
 
 term-at-requires : tie.Need-term-at-requires
-term-at-requires c κs = term-there (read (c .before .before)) (c .before .if1 .left) (c .match .keys4)
+term-at-requires c κs = term-there (read (c .before .before)) (c .before .if1 .left) (c .match .keys5)
 
 term-requires : tie.Need-term-requires
 term-requires c κs = search needs
 
-enum-told-4 : tie.Need-enum-told-4
-enum-told-4 c = search needs
+enum-told-5 : tie.Need-enum-told-5
+enum-told-5 c = search needs
 
 primes-requires : tie.Need-primes-requires
 primes-requires c κs = search needs
 
-enum-told-5 : tie.Need-enum-told-5
-enum-told-5 c = search needs
+enum-told-6 : tie.Need-enum-told-6
+enum-told-6 c = search needs
 
 add-remove : tie.Need-add-remove
 add-remove c = search needs
 
 shared-slice-read-remove : tie.Need-shared-slice-read-remove
-shared-slice-read-remove c = omega (arith, room (c .before .before .before), ap width (ap kindIs (c .before .enum-told5 .given .1)))
+shared-slice-read-remove c = omega (arith, room (c .before .before .before), ap width (ap kindIs (c .before .enum-told6 .given .1)))
 
 remove-requires : tie.Need-remove-requires
 remove-requires c κs = search needs
 
-enum-told-6 : tie.Need-enum-told-6
-enum-told-6 c = search needs
+enum-told-7 : tie.Need-enum-told-7
+enum-told-7 c = search needs
 
 add-number-at : tie.Need-add-number-at
 add-number-at c = search needs
 
 number-at-requires : tie.Need-number-at-requires
-number-at-requires c κs = omega (arith, room (c .before .before), ap width (ap kindIs (c .enum-told6 .given .1)))
+number-at-requires c κs = omega (arith, room (c .before .before), ap width (ap kindIs (c .enum-told7 .given .1)))
 
 add-list : tie.Need-add-list
 add-list c = search needs
 
 shared-slice-read-list : tie.Need-shared-slice-read-list
-shared-slice-read-list c = omega (arith, room (c .before .before .before .before), ap width (ap kindIs (c .before .before .enum-told6 .given .1)))
+shared-slice-read-list c = omega (arith, room (c .before .before .before .before), ap width (ap kindIs (c .before .before .enum-told7 .given .1)))
 
 list-requires : tie.Need-list-requires
 list-requires c κs = search needs
 
-enum-told-7 : tie.Need-enum-told-7
-enum-told-7 c = search needs
+enum-told-8 : tie.Need-enum-told-8
+enum-told-8 c = search needs
 
 least-cost-requires : tie.Need-least-cost-requires
 least-cost-requires c κs = search needs
 
-enum-told-8 : tie.Need-enum-told-8
-enum-told-8 c = search needs
+enum-told-9 : tie.Need-enum-told-9
+enum-told-9 c = search needs
 
 end-requires : tie.Need-end-requires
 end-requires c κs = search needs
 
-enum-told-9 : tie.Need-enum-told-9
-enum-told-9 c = search needs
+enum-told-10 : tie.Need-enum-told-10
+enum-told-10 c = search needs
 
 refused-requires-2 : tie.Need-refused-requires-2
 refused-requires-2 c κs = search needs
@@ -166,57 +178,61 @@ returns-2 c = let c3 = c .before .before .before in let c5 = c3 .before .before 
     step-I (read (c5 .before)) (c5 .if1 .left) (ap kindIs (c3 .enum-told .given .1)) (c .init .ensures)
 
 returns-3 : tie.Need-returns-3
-returns-3 c = let c5 = c .before .before .before .before .before in let c7 = c5 .before .before in
-    step-R (read (c7 .before)) (c7 .if1 .left) (ap kindIs (c5 .enum-told2 .given .1)) (c .before .before .before .wide .ensures) (c .row .ensures)
+returns-3 c = let c4 = c .before .before .before .before in
+    step-W (read (c4 .before)) (c4 .if1 .left) (ap kindIs (c .before .before .enum-told2 .given .1)) (c .before .prices-at .ensures) (c .prices .ensures)
 
 returns-4 : tie.Need-returns-4
-returns-4 c = let c3 = c .before .before .before in
-    step-B (read (c3 .before)) (c3 .if1 .left) (ap kindIs (c .before .enum-told3 .given .1)) (c .eight-rows .ensures)
+returns-4 c = let c5 = c .before .before .before .before .before in let c7 = c5 .before .before in
+    step-R (read (c7 .before)) (c7 .if1 .left) (ap kindIs (c5 .enum-told3 .given .1)) (c .before .before .before .wide .ensures) (c .row .ensures)
 
 returns-5 : tie.Need-returns-5
 returns-5 c = let c3 = c .before .before .before in
-    step-term (read (c3 .before)) (c3 .if1 .left) (c .before .before .match .keys4) (c .before .term-at .ensures) (c .term .ensures)
+    step-B (read (c3 .before)) (c3 .if1 .left) (ap kindIs (c .before .enum-told4 .given .1)) (c .eight-rows .ensures)
+
+returns-6 : tie.Need-returns-6
+returns-6 c = let c3 = c .before .before .before in
+    step-term (read (c3 .before)) (c3 .if1 .left) (c .before .before .match .keys5) (c .before .term-at .ensures) (c .term .ensures)
 
 same-length : tie.Need-same-length
 same-length c = search needs
 
-returns-6 : tie.Need-returns-6
-returns-6 c = let c4 = c .before .before .before .before in let c6 = c4 .before .before in
-    step-P (read (c6 .before)) (c6 .if1 .left) (ap kindIs (c4 .enum-told4 .given .1)) (c .before .before .primes .ensures)
-
 returns-7 : tie.Need-returns-7
-returns-7 c = let c4 = c .before .before .before .before in
-    step-D (read (c4 .before)) (c4 .if1 .left) (ap kindIs (c .before .before .enum-told5 .given .1)) (c .remove .ensures)
+returns-7 c = let c4 = c .before .before .before .before in let c6 = c4 .before .before in
+    step-P (read (c6 .before)) (c6 .if1 .left) (ap kindIs (c4 .enum-told5 .given .1)) (c .before .before .primes .ensures)
+
+returns-8 : tie.Need-returns-8
+returns-8 c = let c4 = c .before .before .before .before in
+    step-D (read (c4 .before)) (c4 .if1 .left) (ap kindIs (c .before .before .enum-told6 .given .1)) (c .remove .ensures)
 
 same-length-2 : tie.Need-same-length-2
 same-length-2 c = search needs
 
-returns-8 : tie.Need-returns-8
-returns-8 c = let c5 = c .before .before .before .before .before in let c8 = c5 .before .before .before in
-    step-L (read (c8 .before)) (c8 .if1 .left) (ap kindIs (c5 .before .enum-told6 .given .1)) (c5 .number-at .ensures) refl (c .before .before .list .ensures)
+returns-9 : tie.Need-returns-9
+returns-9 c = let c5 = c .before .before .before .before .before in let c8 = c5 .before .before .before in
+    step-L (read (c8 .before)) (c8 .if1 .left) (ap kindIs (c5 .before .enum-told7 .given .1)) (c5 .number-at .ensures) refl (c .before .before .list .ensures)
 
 same-length-3 : tie.Need-same-length-3
 same-length-3 c = search needs
 
-returns-9 : tie.Need-returns-9
-returns-9 c = let c4 = c .before .before .before .before in let c6 = c4 .before .before in
-    step-C (read (c6 .before)) (c6 .if1 .left) (ap kindIs (c4 .enum-told7 .given .1)) (c .before .before .least-cost .ensures)
+returns-10 : tie.Need-returns-10
+returns-10 c = let c4 = c .before .before .before .before in let c6 = c4 .before .before in
+    step-C (read (c6 .before)) (c6 .if1 .left) (ap kindIs (c4 .enum-told8 .given .1)) (c .before .before .least-cost .ensures)
 
 same-length-4 : tie.Need-same-length-4
 same-length-4 c = search needs
 
-returns-10 : tie.Need-returns-10
-returns-10 c = let c4 = c .before .before .before .before in let c6 = c4 .before .before in
-    step-E (read (c6 .before)) (c6 .if1 .left) (ap kindIs (c4 .enum-told8 .given .1)) (c .before .before .end .ensures)
-
 returns-11 : tie.Need-returns-11
-returns-11 c = step-none (read (c .before .before .before .before)) (c .before .before .before .if1 .left) (ap kindIs (c .before .enum-told9 .given .1))
+returns-11 c = let c4 = c .before .before .before .before in let c6 = c4 .before .before in
+    step-E (read (c6 .before)) (c6 .if1 .left) (ap kindIs (c4 .enum-told9 .given .1)) (c .before .before .end .ensures)
+
+returns-12 : tie.Need-returns-12
+returns-12 c = step-none (read (c .before .before .before .before)) (c .before .before .before .if1 .left) (ap kindIs (c .before .enum-told10 .given .1))
 
 pub step-spec : {M : Type 1} → statement M
 step-spec = tie.close (tie.spec shared-slice-read-kind-of kind-of-requires sub-rest sub-rest-2 early-refusal-requires refused-requires returns
-    enum-told add-init shared-slice-read-init add-init-2 shared-slice-read-init-2 init-requires enum-told-2 add-wide shared-slice-read-wide wide-requires
-    add-row shared-slice-read-row add-row-2 shared-slice-read-row-2 row-requires enum-told-3 add-eight-rows eight-rows-requires add-term-at
-    term-at-requires term-requires enum-told-4 primes-requires enum-told-5 add-remove shared-slice-read-remove remove-requires enum-told-6 add-number-at
-    number-at-requires add-list shared-slice-read-list list-requires enum-told-7 least-cost-requires enum-told-8 end-requires enum-told-9
-    refused-requires-2 returns-2 returns-3 returns-4 returns-5 same-length returns-6 returns-7 same-length-2 returns-8 same-length-3 returns-9
-    same-length-4 returns-10 returns-11)
+    enum-told add-init shared-slice-read-init add-init-2 shared-slice-read-init-2 init-requires enum-told-2 add-prices-at prices-at-requires
+    prices-requires enum-told-3 add-wide shared-slice-read-wide wide-requires add-row shared-slice-read-row add-row-2 shared-slice-read-row-2
+    row-requires enum-told-4 add-eight-rows eight-rows-requires add-term-at term-at-requires term-requires enum-told-5 primes-requires enum-told-6
+    add-remove shared-slice-read-remove remove-requires enum-told-7 add-number-at number-at-requires add-list shared-slice-read-list list-requires
+    enum-told-8 least-cost-requires enum-told-9 end-requires enum-told-10 refused-requires-2 returns-2 returns-3 returns-4 returns-5 returns-6
+    same-length returns-7 returns-8 same-length-2 returns-9 same-length-3 returns-10 same-length-4 returns-11 returns-12)

@@ -9,10 +9,10 @@ use Rattle.problem.proofs.weights.weights.Statement.{statement}
 use Rattle.problem.proofs.weights.weights.Tie as tie
 
 abbrev Inv-loop : tie.InvT-loop
-Inv-loop count terms all₀ i₀ all i = (i ≤ count) × MappedBelow termCost 64 terms i all
+Inv-loop w count terms all₀ i₀ all i = (i ≤ count) × MappedBelow (termCost w) 64 terms i all
 
 abbrev μ-loop : tie.MeasureT-loop
-μ-loop count terms all₀ i₀ all i = count - i
+μ-loop w count terms all₀ i₀ all i = count - i
 
 loop-holds : tie.Need-loop-holds Inv-loop μ-loop
 loop-holds c = (omega arith, (refl, refl))
@@ -41,7 +41,7 @@ loop-less c = omega arith
 loop-again : tie.Need-loop-again Inv-loop μ-loop
 loop-again c = let c3 = c .before .before .before in let c4 = c3 .before in (
   omega arith,
-  mapped-next termCost 64 (term 0 0 0) (c4 .args .t1) (c3 .loop .i) (c3 .loop .all) _ (omega (arith, c4 .pre))
+  mapped-next (termCost (c4 .args .w)) 64 (term 0 0 0) (c4 .args .t2) (c3 .loop .i) (c3 .loop .all) _ (omega (arith, c4 .pre))
       (omega (arith, c4 .good .0 .1, c4 .pre)) (c .weight .ensures) (c3 .loop .inv .1),
 )
 
@@ -49,8 +49,8 @@ returns : tie.Need-returns Inv-loop μ-loop
 returns c =
     let c1 = c .before in let c2 = c1 .before in
     let e : c1 .loop .i ≡ c2 .args .count = omega (arith, c1 .loop .inv .0) in
-    mapped-front termCost 64 (c2 .args .t1) _ (c1 .loop .all) (omega (arith, c2 .pre, c2 .good .0 .1))
-    (subst (λ (k : ℕ). MappedBelow termCost 64 (c2 .args .t1) k (c1 .loop .all)) e (c1 .loop .inv .1))
+    mapped-front (termCost (c2 .args .w)) 64 (c2 .args .t2) _ (c1 .loop .all) (omega (arith, c2 .pre, c2 .good .0 .1))
+    (subst (λ (k : ℕ). MappedBelow (termCost (c2 .args .w)) 64 (c2 .args .t2) k (c1 .loop .all)) e (c1 .loop .inv .1))
 
 pub weights-spec : {M : Type 1} → statement M
 weights-spec = tie.close (tie.spec Inv-loop μ-loop loop-holds mul-t array-copy-out-t weight-requires mul-all array-write-all add-i loop-less loop-again
