@@ -14,10 +14,11 @@
  *
  * Then the stack that a call of cover_job uses, over all jobs, and the times of jobs of 32,768 bytes that ask L all
  * along, or A, L and D in turn (long_job.h). -m prints the jobs as a markdown table, -c writes the times to a file as
- * CSV. The last line sums up. -a runs every job once in both engines, compares the answers and measures nothing.
+ * CSV. The last line sums up. -a runs every job once in both engines, compares the answers and measures nothing; so it
+ * does for the jobs at other prices, by W, and for drawn ones with W (priced_job.h).
  *
- * A job with a command that the other engine does not know (the plain C engine: one that is not of paper 01, K2 or K3)
- * is newer than that engine, and is left out.
+ * A job with a command that the other engine does not know (the plain C engine: one that is not of paper 01, K2, K3 or
+ * K6) is newer than that engine, and is left out.
  *
  * The exit status is 1 where answers differ or the stack use reaches 256 KiB (with -a also where a job did not end), 2
  * where nothing was run.
@@ -39,8 +40,11 @@
 #include "job.h"
 #include "long_job.h"
 #include "other.h"
+#include "price_list.h"
+#include "priced_job.h"
 
 enum { MOST_JOBS = 4096, MOST_QUERIES = 64 };
+enum { DRAWN = 400 }; /* drawn jobs with W that are compared */
 enum { STACK = 4 << 20, STACK_LIMIT = 256 << 10, PAINT = 0xa5 };
 
 typedef uint64_t (*Engine)(const uint8_t *, size_t, uint8_t *, size_t);
@@ -508,6 +512,27 @@ static void run_answers(Job *job, const char *name)
         printf("%s: %s\n", name, p.differ ? "the answers differ" : "it did not end");
 }
 
+/* The same job at other prices: all costs 0, multiples of 50, of 17, any. Where C takes long, at the first alone. */
+static void run_priced_answers(Job *job, const char *name)
+{
+    static const Prices lists[] = {{0, 0, 0}, {0, 0, 50}, {34, 17, 0}, {37, 23, 11}};
+    static Job priced;
+    size_t most = starts_with(name, "cheaphard") ? 1 : sizeof lists / sizeof *lists;
+    for (size_t k = 0; k < most && can_have_prices(job); k++) {
+        set_prices(&priced, job, &lists[k]);
+        run_answers(&priced, name);
+    }
+}
+
+static void run_drawn_answers(void)
+{
+    static Job job;
+    for (uint64_t seed = 1; seed <= DRAWN; seed++) {
+        priced_job(&job, seed);
+        run_answers(&job, "a drawn job with W");
+    }
+}
+
 static void run_stack(Job *job, const char *name)
 {
     bool back;
@@ -687,6 +712,8 @@ static int compare_all(const char *folder)
 {
     most_runs = 1;
     run_folder(folder, run_answers);
+    run_folder(folder, run_priced_answers);
+    run_drawn_answers();
     each_long_job(folder, run_long_answers);
     int failed = asked - newer - same;
     if (newer)

@@ -5,7 +5,7 @@
  * answer buffer, and one number tells how it ended.
  *
  * What is promised
- *   - Every job ends: it is accepted, or it is refused with one of the numbers 1 to 15.
+ *   - Every job ends: it is accepted, or it is refused with one of the numbers 1 to 16.
  *   - Accepted: the number is 0, the offset is the job's length, and each command with an
  *     answer has put it into the answer buffer, in the order of the commands.
  *   - Refused: the offset is that of the first byte of the command that was refused, and
@@ -28,6 +28,9 @@
  *
  * The commands, each one byte with operands of fixed width, numbers low byte first:
  *   COVER_SIZES     n, m                   first, once; each 1 to 8
+ *   COVER_PRICES    term, literal,         the price of a term, of a literal and of an output
+ *                   connection             connection, each 0 to 50; without it 1, 1 and 0; once,
+ *                                          right behind sizes and before everything else
  *   COVER_ROW       vertex, on, dc         before any term, add, primes, list or cheapest
  *   COVER_ROWS      vertex, 8 x (on, dc)   the rows of this vertex and of the seven above it, in
  *                                          rising order; where a row may stand
@@ -63,20 +66,25 @@
  *                   `more` tells whether one stands above those. With count 0 there are no
  *                   sets, and `more` tells whether one stands at or above start.
  *   COVER_CHEAPEST  0x63, cost (2 bytes), set (8 bytes): the irredundant cover of least cost, the
- *                   smallest number among equals. A term with 0 or 1 literals (the ones in
- *                   care) costs 1, one with more costs 1 plus its literals; a set costs the sum
- *                   over its members.
+ *                   smallest number among equals. A term costs the price of a term, plus the price
+ *                   of a literal for each of its literals (the ones in care) where it has two or
+ *                   more, plus the price of a connection for each of its outputs; a set costs the
+ *                   sum over its members. A term costs 850 at most and a set 64 x 850 = 54,400, so
+ *                   that the cost fits its two bytes.
  *   COVER_END       0x65
  * Bit i of a set stands for candidate i of those that stand at the command, as the terms, primes,
- * adds and removes before it leave them. List and cheapest answer as in a fresh job that has
- * these candidates, in this order, as its terms.
+ * adds and removes before it leave them. List and cheapest answer as in a fresh job that has the
+ * same prices and rows, and these candidates, in this order, as its terms. The prices are for the
+ * cheapest alone: primes and list answer the same bytes at any prices.
  *
  * Paging: the first page starts at 0, each further one at one above the last set of the page
  * before; a page without sets leaves the start as it was. No page follows one that says no
  * more. Where a job or an answer buffer is too short for all pages, a further job sets the same
  * table and the same candidates in the same order anew, by the same adds and removes, and goes
  * on. Pages are joined only where the same adds and removes stand before each, in a further job
- * too: behind one more of them the list is another one, and its first page starts at 0.
+ * too: behind one more of them the list is another one, and its first page starts at 0. For its
+ * pages a further job need not set the prices, and may set others; where it asks for the cheapest
+ * it sets them anew.
  *
  * A job is put together by the cover_put functions, and its answers are read one by one:
  *
@@ -104,10 +112,12 @@ extern "C" {
 #define COVER_MOST_OUTPUTS 8u
 #define COVER_MOST_CANDIDATES 64u
 #define COVER_MOST_SETS 255u /* on one page */
+#define COVER_MOST_PRICE 50u
 
 /* The first byte of each command. */
 enum cover_command {
     COVER_SIZES = 0x49,    /* I */
+    COVER_PRICES = 0x57,   /* W */
     COVER_ROW = 0x52,      /* R */
     COVER_ROWS = 0x42,     /* B */
     COVER_TERM = 0x54,     /* T */
@@ -121,6 +131,7 @@ enum cover_command {
 
 /* The bytes of each command, operands included. */
 #define COVER_SIZES_BYTES 3u
+#define COVER_PRICES_BYTES 4u
 #define COVER_ROW_BYTES 4u
 #define COVER_ROWS_BYTES 18u
 #define COVER_TERM_BYTES 4u
@@ -147,9 +158,9 @@ enum cover_answer {
 
 /*
  * How a job ended. At each command the refusals are tried in the order in which they stand here,
- * 15 right after 5, and the first that applies is given. At COVER_ROWS 7 and 8 are tried row by
- * row: 8 of a row comes before 7 of a later one. The offset is that of the command, whichever row
- * it was.
+ * 15 right after 5 and 16 right after 6, and the first that applies is given. At COVER_ROWS 7 and
+ * 8 are tried row by row: 8 of a row comes before 7 of a later one. The offset is that of the
+ * command, whichever row it was.
  */
 enum cover_refusal {
     COVER_ACCEPTED = 0,
@@ -160,6 +171,7 @@ enum cover_refusal {
     COVER_NO_OPERANDS = 5,      /* operand bytes are missing */
     COVER_WRONG_CANDIDATE = 15, /* no candidate has the number that is to be removed */
     COVER_WRONG_SIZES = 6,      /* n or m is outside 1 to 8 */
+    COVER_WRONG_PRICES = 16,    /* a price is above 50 */
     COVER_WRONG_VERTEX = 7,     /* the vertex is 2^n or more, or has a row already */
     COVER_WRONG_ROW = 8,        /* on and dc share a bit, or one has bit m or above */
     COVER_MALFORMED_TERM = 9,   /* a care bit n or above, a value bit outside care, outputs 0,
@@ -171,7 +183,7 @@ enum cover_refusal {
     COVER_NO_ROOM = 14          /* the answer is longer than the free part of the buffer */
 };
 
-#define COVER_LAST_REFUSAL 15u /* the largest number */
+#define COVER_LAST_REFUSAL 16u /* the largest number */
 
 /* Runs a job. Gives number * 2^32 + offset * 2^16 + written. */
 uint64_t cover_job(const uint8_t *job, size_t job_len, uint8_t *answers, size_t answers_len);
@@ -225,6 +237,16 @@ static inline size_t cover_put_sizes(uint8_t *at, unsigned n, unsigned m)
     at[1] = (uint8_t)n;
     at[2] = (uint8_t)m;
     return COVER_SIZES_BYTES;
+}
+
+static inline size_t cover_put_prices(uint8_t *at, unsigned term, unsigned literal,
+                                      unsigned connection)
+{
+    at[0] = COVER_PRICES;
+    at[1] = (uint8_t)term;
+    at[2] = (uint8_t)literal;
+    at[3] = (uint8_t)connection;
+    return COVER_PRICES_BYTES;
 }
 
 static inline size_t cover_put_row(uint8_t *at, unsigned vertex, unsigned on, unsigned dc)
@@ -287,6 +309,7 @@ static inline size_t cover_command_bytes(uint8_t byte)
 {
     switch (byte) {
     case COVER_SIZES: return COVER_SIZES_BYTES;
+    case COVER_PRICES: return COVER_PRICES_BYTES;
     case COVER_ROW: return COVER_ROW_BYTES;
     case COVER_ROWS: return COVER_ROWS_BYTES;
     case COVER_TERM: return COVER_TERM_BYTES;

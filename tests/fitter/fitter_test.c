@@ -1,12 +1,14 @@
 /*
  * Links the engine as the fitter does and asks it for lists that are known: pages over several
  * jobs and buffers, joined, against the whole list; the marked cases; candidates that come and go;
- * eight rows in a command; every refusal once. Every call lies between guard bytes, and the bytes
- * behind `written` are held to be unchanged.
+ * eight rows in a command; prices; every refusal once. Every call lies between guard bytes, and the
+ * bytes behind `written` are held to be unchanged.
  */
 #include "changes.h"
 #include "lists.h"
+#include "prices.h"
 #include "problems.h"
+#include "stand_ins.h"
 #include "tables.h"
 
 static void test_putting(void)
@@ -54,6 +56,7 @@ static void test_widths(void)
     uint8_t at[COVER_ROWS_BYTES];
     static const uint8_t eight[8] = {0};
     CHECK(cover_put_sizes(at, 1, 1) == 3 && cover_command_bytes(at[0]) == 3);
+    CHECK(cover_put_prices(at, 1, 1, 0) == 4 && cover_command_bytes(at[0]) == 4);
     CHECK(cover_put_row(at, 0, 1, 0) == 4 && cover_command_bytes(at[0]) == 4);
     CHECK(cover_put_rows(at, 0, eight, eight) == 18 && cover_command_bytes(at[0]) == 18);
     CHECK(cover_put_term(at, 0, 0, 1) == 4 && cover_command_bytes(at[0]) == 4);
@@ -352,6 +355,21 @@ static const struct refused refused[] = {
     {COVER_WRONG_VERTEX, 3, 0, 9, "I\1\1B\2\1\1\1\1\1\1\1\1\1\1\1\1\1\1\1\1"},
     {COVER_NO_END, 21, 0, 9, "I\4\2B\1\1\2\1\2\1\2\1\2\1\2\1\2\1\2\1\2"},
     {COVER_BYTES_AFTER_END, 3, 0, 9, "I\1\1EB"},
+    {COVER_WRONG_PLACE, 0, 0, 9, "W\1\1\1"},
+    {COVER_WRONG_PLACE, 0, 0, 9, "W\377"},
+    {COVER_WRONG_PLACE, 7, 0, 9, "I\1\1W\1\1\1W\1\1\1E"},
+    {COVER_WRONG_PLACE, 7, 0, 9, "I\1\1W\1\1\1I\1\1"},
+    {COVER_WRONG_PLACE, 7, 0, 9, "I\1\2R\1\1\2W\1\1\1"},
+    {COVER_WRONG_PLACE, 4, 2, 9, "I\1\1PW\1\1\1"},
+    {COVER_WRONG_PLACE, 4, 11, 11, "I\1\1CW\63"},
+    {COVER_NO_OPERANDS, 3, 0, 9, "I\1\1W"},
+    {COVER_NO_OPERANDS, 3, 0, 9, "I\1\1W\377\377"},
+    {COVER_WRONG_PRICES, 3, 0, 9, "I\1\1W\63\1\1"},
+    {COVER_WRONG_PRICES, 3, 0, 9, "I\1\1W\1\63\1E"},
+    {COVER_WRONG_PRICES, 3, 0, 0, "I\1\1W\1\1\63E"},
+    {COVER_NO_END, 7, 0, 9, "I\1\1W\62\62\62"},
+    {COVER_WRONG_CANDIDATE, 7, 0, 9, "I\1\1W\1\1\1D\1"},
+    {COVER_BYTES_AFTER_END, 3, 0, 9, "I\1\1EW"},
 };
 
 static void test_refusals(void)
@@ -453,6 +471,8 @@ int main(void)
     test_known_tables();
     test_tables_by_blocks();
     test_blocks_and_rows();
+    test_prices();
+    test_stand_ins();
     test_fresh();
     test_lengths();
     test_turns();

@@ -1,12 +1,12 @@
 //! The record that a job leaves, asked of the program `dump`: its text is the reference's, byte for
-//! byte. What K5 says is asked of the text alone, too: each weight is what K1 charges for the care
-//! beside it.
+//! byte. What K5 says is asked of the text alone, too: each weight is what K6 charges by the text's
+//! own prices for the care and the outputs beside it.
 
+use crate::charged::charge;
 use crate::generate::{self, Case};
-use crate::reference::{self, Outcome, LONGEST};
+use crate::reference::{self, Outcome, Term, HIGHEST, LONGEST};
 use crate::report::{hex, shrink};
 use crate::rng::Rng;
-use crate::selftest::COSTS;
 use crate::stored;
 use crate::tally::Tally;
 use crate::threads;
@@ -21,8 +21,21 @@ const PROGRAM: &str = "target/bin/dump";
 /// The record of a job that was compared.
 pub struct Held {
     pub outcome: Outcome,
-    /// The literals and the weight of each candidate, as dumped.
-    pub weights: Vec<(usize, u64)>,
+    pub weights: Weights,
+}
+
+/// The weights of a dump.
+#[derive(Clone, PartialEq, Eq, Debug)]
+pub struct Weights {
+    /// Of a term, a literal and a connection.
+    pub prices: [u8; 3],
+    pub candidates: Vec<Weighed>,
+}
+
+#[derive(Clone, PartialEq, Eq, Debug)]
+pub struct Weighed {
+    pub term: Term,
+    pub weight: u64,
 }
 
 /// How many records were compared, and how many jobs were too large for the reference.
@@ -74,8 +87,8 @@ fn check(program: &Path, job: &[u8]) -> Result<Option<Held>, String> {
     Ok(Some(Held { outcome, weights }))
 }
 
-/// The literals and the weight of each candidate of a dump that is as expected.
-pub fn compare(expected: &str, seen: &str) -> Result<Vec<(usize, u64)>, String> {
+/// The weights of a dump that is as expected.
+pub fn compare(expected: &str, seen: &str) -> Result<Weights, String> {
     let weights = weights(seen)?;
     if seen != expected {
         return Err("the record is not the reference's".into());
@@ -103,25 +116,45 @@ fn dumped(program: &Path, job: &[u8]) -> Result<String, String> {
     String::from_utf8(output.stdout).map_err(|error| error.to_string())
 }
 
-/// By the text alone: every weight must be K1's.
-fn weights(text: &str) -> Result<Vec<(usize, u64)>, String> {
+/// By the text alone: every weight must be K6's.
+fn weights(text: &str) -> Result<Weights, String> {
+    let prices = prices(text).ok_or("no line of prices, or a wrong one")?;
     let lines = text.lines().filter(|line| line.starts_with("candidate"));
-    let wrong = |line| format!("K1 does not charge this weight: {line}");
-    lines
-        .map(|line| weight(line).ok_or_else(|| wrong(line)))
-        .collect()
+    let wrong = |line| format!("K6 does not charge this weight at {prices:?}: {line}");
+    let weighed = lines.map(|line| weighed(line, prices).ok_or_else(|| wrong(line)));
+    Ok(Weights {
+        prices,
+        candidates: weighed.collect::<Result<_, _>>()?,
+    })
 }
 
-fn weight(line: &str) -> Option<(usize, u64)> {
+/// Those of the one line that names them.
+fn prices(text: &str) -> Option<[u8; 3]> {
+    let mut lines = text.lines().filter(|line| line.starts_with("prices"));
+    let words: Vec<&str> = lines.next()?.split(' ').collect();
+    let ["prices", term, literal, connection] = words[..] else {
+        return None;
+    };
+    let price = |word: &str| word.parse().ok().filter(|&price| price <= HIGHEST);
+    let list = [price(term)?, price(literal)?, price(connection)?];
+    lines.next().is_none().then_some(list)
+}
+
+fn weighed(line: &str, prices: [u8; 3]) -> Option<Weighed> {
     let words: Vec<&str> = line.split(' ').collect();
-    let ["candidate", _, "care", care, "value", _, "outputs", _, "weight", weight] = words[..]
+    let ["candidate", _, "care", care, "value", value, "outputs", outputs, "weight", weight] =
+        words[..]
     else {
         return None;
     };
-    let care = u8::from_str_radix(care, 16).ok()?;
-    let literals = care.count_ones() as usize;
+    let byte = |word: &str| u8::from_str_radix(word, 16).ok();
+    let term = Term {
+        care: byte(care)?,
+        value: byte(value)?,
+        outputs: byte(outputs)?,
+    };
     let weight = weight.parse().ok()?;
-    (weight == COSTS[literals]).then_some((literals, weight))
+    (weight == charge(prices, &term)).then_some(Weighed { term, weight })
 }
 
 /// What is wrong with the record of a job, and the same of the job shrunk.

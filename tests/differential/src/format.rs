@@ -10,24 +10,25 @@
 //! 3. `generate/sound.rs` (settings, candidates), `generate/tables.rs` (rows),
 //!    `generate/changes.rs` (candidates that come and go) or `generate/queries.rs`: where a sound
 //!    job has it;
-//! 4. `generate/purpose.rs` (`purpose_changes.rs` for A and D, `purpose_blocks.rs` for B): its
-//!    borders, in every run; `selftest.rs`: the paper's cases of it;
+//! 4. `generate/purpose.rs` (`purpose_changes.rs` for A and D, `purpose_blocks.rs` for B and
+//!    `purpose_prices.rs` for W): its borders, in every run; `selftest.rs`: the paper's cases;
 //! 5. `fresh.rs`: whether a fresh job with the same table has it, and which pages go on behind it;
 //! 6. `expanded.rs`: what it is written out as, where it stands for other commands as B does;
-//! 7. `walk.rs`: what it makes of table and candidates, and how long its answer is;
-//! 8. `reference/record.rs`: what a dump of the record shows of it, as its place.
+//! 7. `walk.rs`: what it makes of prices, table and candidates, and how long its answer is;
+//! 8. `reference/record.rs`: what a dump of the record shows of it, as its place;
+//! 9. `charged.rs` and `listing.rs`: what it makes of costs, and that the pages leave that aside.
 //!
 //! A stored job that has it needs `stored.rs` too. Every command at every place, damage, cuts and
 //! moved or doubled commands go by the table, and a run fails where a command was never accepted
 //! or never met one of the refusals that its entry names (`tally.rs`).
 
-use Operand::{Candidate, Inputs, Number, Outputs, Size};
+use Operand::{Candidate, Inputs, Number, Outputs, Price, Size};
 
 /// The rows of a B.
 pub const BLOCK: usize = 8;
 
 /// The largest number of a refusal. Each from 0 on must come in every run.
-pub const LAST_NUMBER: u64 = 15;
+pub const LAST_NUMBER: u64 = 16;
 
 /// What an operand is: how many bytes it has, and what damage puts there (`generate/damage.rs`).
 #[derive(Clone, Copy)]
@@ -40,6 +41,8 @@ pub enum Operand {
     Outputs,
     /// A byte with a candidate's number.
     Candidate,
+    /// A price, 0 to 50.
+    Price,
     /// A number of so many bytes that takes any value.
     Number(usize),
 }
@@ -56,6 +59,7 @@ impl Operand {
 /// The part of a job that a command belongs to: damage spoils the operands of one part at a time.
 #[derive(Clone, Copy, PartialEq, Eq)]
 pub enum Part {
+    Settings,
     Rows,
     Candidates,
     Other,
@@ -72,7 +76,7 @@ pub struct Command {
     pub refusals: &'static [u64],
 }
 
-/// The seven commands of paper 01, A and D of K2, and B of K3.
+/// The seven commands of paper 01, A and D of K2, B of K3, and W of K6.
 pub const COMMANDS: &[Command] = &[
     Command {
         byte: b'I',
@@ -80,6 +84,13 @@ pub const COMMANDS: &[Command] = &[
         operands: &[Size, Size],
         part: Part::Other,
         refusals: &[6],
+    },
+    Command {
+        byte: b'W',
+        good: &[2, 3, 1],
+        operands: &[Price, Price, Price],
+        part: Part::Settings,
+        refusals: &[16],
     },
     Command {
         byte: b'R',

@@ -27,9 +27,9 @@ pub fn check(job: &[u8], asked: &Asked) -> Result<Held, String> {
     if !format::come_and_go(job) {
         return Ok(held);
     }
-    let table = kept(job, |byte| b"IRB".contains(&byte));
+    let head = kept(job, |byte| b"IWRB".contains(&byte));
     for query in &asked.queries {
-        as_in_a_fresh_job(&table, query)?;
+        as_in_a_fresh_job(&head, query)?;
         held.queries += 1;
     }
     let written: usize = asked.queries.iter().map(|query| query.answer.len()).sum();
@@ -51,13 +51,13 @@ fn kept(job: &[u8], keep: impl Fn(u8) -> bool) -> Vec<u8> {
     commands.concat()
 }
 
-/// The table, a T for each standing candidate, the query and E.
-fn as_in_a_fresh_job(table: &[u8], query: &Query) -> Result<(), String> {
+/// The prices and the table, a T for each standing candidate, the query and E.
+fn as_in_a_fresh_job(head: &[u8], query: &Query) -> Result<(), String> {
     let by_term = |t: &Term| term(t.care, t.value, t.outputs);
     let terms: Vec<u8> = query.candidates.iter().flat_map(by_term).collect();
     let answers = [query.answer.as_slice(), &[0x65]].concat();
     let case = Case {
-        job: [table, &terms, &query.command, b"E"].concat(),
+        job: [head, &terms, &query.command, b"E"].concat(),
         behind: Vec::new(),
         room: answers.len(),
     };

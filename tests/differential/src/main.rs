@@ -3,6 +3,7 @@
 //! Arguments, all optional: seed, count of jobs, and the word `trace` to print each job before
 //! the engine gets it (for an engine that does not come back).
 
+mod charged;
 mod dump;
 mod engine;
 mod exact;
@@ -11,6 +12,7 @@ mod format;
 mod fresh;
 mod generate;
 mod implicants;
+mod listing;
 mod reference;
 mod report;
 mod rng;
@@ -22,14 +24,14 @@ mod walk;
 
 use generate::Case;
 use reference::Outcome;
-use report::{hex, matches, report, report_blocks, report_presence};
+use report::{hex, matches, report, report_blocks, report_wrong};
 use rng::Rng;
 use std::process::ExitCode;
 use std::time::{Duration, Instant};
 use tally::Tally;
 
 const SEED: u64 = 20_240_229;
-const COUNT: usize = 30_000;
+const COUNT: usize = 34_000;
 /// Each case of this stride is asked twice and, with no more room than this, kept for the threads.
 const STRIDE: usize = 50;
 const MOST_ROOM_KEPT: usize = 1_000;
@@ -153,6 +155,10 @@ fn stored_jobs(run: &mut Run) -> bool {
         tally.part.len(),
         tally.part.join(", ")
     );
+    println!(
+        "{} of their cheapest at other prices checked fully, {} in part",
+        tally.at_prices.full, tally.at_prices.part
+    );
     run.passed += tally.jobs();
     false
 }
@@ -178,7 +184,7 @@ fn one(run: &mut Run, case: &Case, turn: usize) -> bool {
     }
     run.passed += 1;
     run.tally.add(&case.job, &expected);
-    if !as_by_rows(run, case, &before, &expected) || !as_by_points(run, case, &before, &expected) {
+    if !as_promised(run, case, &before, &expected) {
         return false;
     }
     if expected.number == 0 && !accepted(run, &case.job) {
@@ -194,6 +200,14 @@ fn one(run: &mut Run, case: &Case, turn: usize) -> bool {
         ));
     }
     true
+}
+
+/// What K3, document 000 and K6 say of an outcome on which engine and reference agree.
+fn as_promised(run: &mut Run, case: &Case, before: &[u8], expected: &Outcome) -> bool {
+    as_by_rows(run, case, before, expected)
+        && as_by_points(run, case, before, expected)
+        && as_by_prices(run, case, before, expected)
+        && as_at_other_prices(run, case, before, expected)
 }
 
 /// False when the engine does not keep what K3 promises of a job with B.
@@ -217,7 +231,41 @@ fn as_by_points(run: &mut Run, case: &Case, before: &[u8], expected: &Outcome) -
         Ok(held) => run.tally.add_presence(&held),
         Err(wrong) => {
             println!("MISMATCH: {wrong}");
-            report_presence(case, before);
+            report_wrong(case, before, |case, outcome| {
+                implicants::check(&case.job, outcome).is_err()
+            });
+            return false;
+        }
+    }
+    true
+}
+
+/// False when the answers to C are not what K6 says.
+fn as_by_prices(run: &mut Run, case: &Case, before: &[u8], expected: &Outcome) -> bool {
+    match charged::check(&case.job, expected) {
+        Ok(held) => run.tally.add_charged(&held),
+        Err(wrong) => {
+            println!("MISMATCH: {wrong}");
+            report_wrong(case, before, |case, outcome| {
+                charged::check(&case.job, outcome).is_err()
+            });
+            return false;
+        }
+    }
+    true
+}
+
+/// False when another answer than C's goes by the prices.
+fn as_at_other_prices(run: &mut Run, case: &Case, before: &[u8], expected: &Outcome) -> bool {
+    match listing::check(case, before, expected) {
+        Ok(held) => held
+            .iter()
+            .for_each(|held| run.tally.add_listing(held, expected.number)),
+        Err(wrong) => {
+            println!("MISMATCH: {wrong}");
+            report_wrong(case, before, |case, outcome| {
+                listing::check(case, before, outcome).is_err()
+            });
             return false;
         }
     }

@@ -3,7 +3,6 @@
 use crate::engine;
 use crate::expanded;
 use crate::generate::Case;
-use crate::implicants;
 use crate::reference::{self, Outcome};
 
 pub fn matches(expected: &Outcome, seen: &engine::Seen) -> bool {
@@ -29,13 +28,10 @@ fn breaks_blocks(case: &Case, before: &[u8]) -> bool {
     expected.is_some_and(|expected| expanded::check(case, before, &expected).is_err())
 }
 
-/// True when engine and reference agree on answers that are not what document 000 says.
-fn breaks_presence(case: &Case, before: &[u8]) -> bool {
-    let expected = reference::run(&case.job, before);
-    expected.is_some_and(|expected| {
-        matches(&expected, &engine::call(case, before))
-            && implicants::check(&case.job, &expected).is_err()
-    })
+/// The outcome on which engine and reference agree, if they do.
+fn agreed(case: &Case, before: &[u8]) -> Option<Outcome> {
+    let expected = reference::run(&case.job, before)?;
+    matches(&expected, &engine::call(case, before)).then_some(expected)
 }
 
 /// Takes bytes out of the job, large pieces first, as long as it is still wrong.
@@ -79,10 +75,11 @@ pub fn report_blocks(case: &Case, before: &[u8]) {
     }
 }
 
-/// An answer is not what document 000 says: the job, and the job shrunk.
-pub fn report_presence(case: &Case, before: &[u8]) {
+/// An outcome on which both agree is not what document 000 or K6 says: the job, and the job shrunk.
+pub fn report_wrong(case: &Case, before: &[u8], wrong: impl Fn(&Case, &Outcome) -> bool) {
     describe("MISMATCH", case, before);
-    let small = shrink(case, |case| breaks_presence(case, before));
+    let still = |case: &Case| agreed(case, before).is_some_and(|outcome| wrong(case, &outcome));
+    let small = shrink(case, still);
     describe("the same, shrunk", &small, before);
 }
 

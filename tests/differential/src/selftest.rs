@@ -4,14 +4,16 @@ mod blocks;
 mod changes;
 mod drawn;
 mod presence;
+mod prices;
 mod records;
 
 pub use blocks::{mixed, ring};
 pub use changes::{first_term_gone, prime_gone, seventh_term};
+pub use prices::{dearest, priced};
 
 use crate::format::COMMANDS;
 use crate::generate::{draft, page, row, term, Draft};
-use crate::reference::{self, Query, Term, LONGEST};
+use crate::reference::{self, Prices, Query, Term, LONGEST};
 use crate::rng::Rng;
 
 pub const EXAMPLE: &str = "49 02 02 52 00 00 01 52 01 01 02 52 02 03 00 52 03 02 00 54 01 00 01 \
@@ -21,8 +23,8 @@ pub const EXAMPLE: &str = "49 02 02 52 00 00 01 52 01 01 02 52 02 03 00 52 03 02
 const EXAMPLE_ANSWERS: &str = "6c06000b0000000000000016000000000000001a000000000000002900000000\
     00000034000000000000003800000000000000630300290000000000000065";
 
-/// What a term with 0, 1, 2, .. 8 literals costs by K1.
-pub const COSTS: [u64; 9] = [1, 1, 3, 4, 5, 6, 7, 8, 9];
+/// What a term with 0, 1, 2, .. 8 literals costs by K1, and at the usual prices of K6.
+const COSTS: [u64; 9] = [1, 1, 3, 4, 5, 6, 7, 8, 9];
 
 /// Terms 1 to 6 of document 003.
 pub const TERMS: [[u8; 3]; 6] = [
@@ -170,6 +172,7 @@ pub fn run(rng: &mut Rng) -> Checks {
     orders(&mut checks);
     presence::run(&mut checks);
     records::run(&mut checks);
+    prices::run(&mut checks, rng);
     drawn::run(&mut checks, rng);
     checks
 }
@@ -190,7 +193,8 @@ fn costs_of_terms(checks: &mut Checks) {
         value: 0,
         outputs: 1,
     };
-    let right = |care: u8| with_care(care).cost() == COSTS[care.count_ones() as usize];
+    let cost = |care| Prices::USUAL.cost(&with_care(care));
+    let right = |care: u8| cost(care) == COSTS[care.count_ones() as usize];
     checks.check("costs of terms", (0..=255).all(right));
 }
 
@@ -214,7 +218,8 @@ fn marked_cases(checks: &mut Checks) {
             outputs: t[2],
         })
         .collect();
-    let costs: Vec<u64> = a.iter().map(|&set| reference::cost(&list, set)).collect();
+    let cost = |&set: &u64| reference::cost(Prices::USUAL, &list, set);
+    let costs: Vec<u64> = a.iter().map(cost).collect();
     checks.check("case b", costs == [5, 7, 7, 3, 5, 5]);
     let c = answers(&[13, 25, 38, 44, 50, 56], 3, 13);
     let c = [example_primes(), c].concat();
@@ -245,7 +250,7 @@ fn marked_rivals(checks: &mut Checks) {
 /// The rival's least cost at each L and C of a sound job, None where he is not met.
 fn rivals(job: &[u8]) -> Vec<Option<u64>> {
     let asked = reference::asked(job).expect("a sound job");
-    let at = |query: &Query| reference::rival(&asked.table, &query.candidates);
+    let at = |query: &Query| reference::rival(&asked.table, asked.prices, &query.candidates);
     asked.queries.iter().map(at).collect()
 }
 

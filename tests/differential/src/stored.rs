@@ -5,19 +5,22 @@
 //! is left out and none is cheaper needs a search; where it is given up the job is checked in part.
 //! Every job is held to document 000, too.
 //! A job that is checked fully is asked again with each candidate taken out and put in again, with
-//! its rows by R alone, and by B alone. Where candidates come and go between its queries, those
-//! that follow each other are checked by themselves.
+//! its rows by R alone, by B alone, and at other prices: there the pages stay, and the cheapest is
+//! checked anew. Where candidates come and go between its queries, those that follow each other are
+//! checked by themselves.
 
 mod heads;
+mod prices;
 
 use crate::engine;
 use crate::exact::{GivenUp, Search};
 use crate::format::{self, number, sets};
 use crate::generate::page;
 use crate::implicants;
-use crate::reference::{self, Outcome, Table, Term, LONGEST};
+use crate::reference::{self, Outcome, Prices, Table, Term, LONGEST};
 use crate::threads;
 use heads::{by_blocks, by_rows, turned};
+use prices::{at_prices, Cheapest, PRICES};
 use std::fs;
 use std::path::{Path, PathBuf};
 
@@ -40,6 +43,7 @@ pub struct Tally {
     pub full: usize,
     pub few_sets: usize,
     pub part: Vec<String>,
+    pub at_prices: Cheapest,
 }
 
 impl Tally {
@@ -57,6 +61,9 @@ struct Query {
 /// What stands before queries, and what the paper makes of it.
 struct Problem {
     head: Vec<u8>,
+    /// The W of the head, if it has one.
+    pricing: Vec<u8>,
+    prices: Prices,
     table: Table,
     /// The commands of the head that set the candidates.
     setting: Vec<u8>,
@@ -86,19 +93,25 @@ fn quiet(path: &Path) -> Result<Vec<u8>, String> {
     Ok(kept.copied().collect::<Vec<_>>().concat())
 }
 
-fn tally(seen: Vec<(String, Result<Depth, String>)>) -> Result<Tally, String> {
+fn tally(seen: Vec<(String, Result<Checked, String>)>) -> Result<Tally, String> {
     let mut tally = Tally::default();
-    for (name, depth) in seen {
-        match depth.map_err(|wrong| format!("stored job {name}: {wrong}"))? {
+    for (name, checked) in seen {
+        let checked = checked.map_err(|wrong| format!("stored job {name}: {wrong}"))?;
+        tally.at_prices.full += checked.at_prices.full;
+        tally.at_prices.part += checked.at_prices.part;
+        match checked.depth {
             Depth::Full => tally.full += 1,
             Depth::FewSets => tally.few_sets += 1,
             Depth::Part => tally.part.push(name),
         }
     }
+    if tally.at_prices.full == 0 {
+        return Err("no cheapest of a stored job was checked at other prices".into());
+    }
     Ok(tally)
 }
 
-fn one(path: &Path) -> (String, Result<Depth, String>) {
+fn one(path: &Path) -> (String, Result<Checked, String>) {
     let name = path.file_stem().unwrap_or_default().to_string_lossy();
     let job = fs::read(path).map_err(|error| error.to_string());
     (name.into_owned(), job.and_then(|job| check(&job)))
@@ -124,17 +137,26 @@ struct Asked<'a> {
     queries: Vec<&'a [u8]>,
 }
 
-fn check(job: &[u8]) -> Result<Depth, String> {
+/// How far a job was checked.
+struct Checked {
+    depth: Depth,
+    at_prices: Cheapest,
+}
+
+fn check(job: &[u8]) -> Result<Checked, String> {
     let commands = format::cut(job).ok_or("it is not a list of whole commands")?;
     let Some(([b'E'], before)) = commands.split_last() else {
         return Err("it does not end with E".into());
     };
-    let mut depth = Depth::Full;
+    let mut checked = Checked {
+        depth: Depth::Full,
+        at_prices: Cheapest::default(),
+    };
     let mut answers = Vec::new();
     for asked in asked_in(before) {
         let problem = problem(&asked.head)?;
         let answered = ask(&problem.head, &asked.queries)?;
-        depth = depth.min(check_asked(&problem, &asked.queries, &answered)?);
+        check_asked(&problem, &asked.queries, &answered, &mut checked)?;
         answers.extend(answered.into_iter().flat_map(|query| query.answer));
     }
     answers.push(0x65);
@@ -143,7 +165,7 @@ fn check(job: &[u8]) -> Result<Depth, String> {
         return Err("queries answer otherwise than without those before them".into());
     }
     implicants::check(job, &Outcome::accepted(job, written))?;
-    Ok(depth)
+    Ok(checked)
 }
 
 fn asked_in<'a>(commands: &[&'a [u8]]) -> Vec<Asked<'a>> {
@@ -165,14 +187,20 @@ fn asked_in<'a>(commands: &[&'a [u8]]) -> Vec<Asked<'a>> {
     list
 }
 
-fn check_asked(problem: &Problem, asked: &[&[u8]], answered: &[Query]) -> Result<Depth, String> {
+fn check_asked(
+    problem: &Problem,
+    asked: &[&[u8]],
+    answered: &[Query],
+    checked: &mut Checked,
+) -> Result<(), String> {
     let mut depth = Depth::Full;
     let mut search = Search::new(&problem.sums, &problem.costs);
     for query in answered {
         depth = depth.min(check_query(problem, &mut search, query)?);
     }
+    checked.depth = checked.depth.min(depth);
     if depth < Depth::Full {
-        return Ok(depth);
+        return Ok(());
     }
     if ask(&turned(problem), asked)? != answered {
         return Err("candidates that go and come again change the answers".into());
@@ -182,18 +210,24 @@ fn check_asked(problem: &Problem, asked: &[&[u8]], answered: &[Query]) -> Result
             return Err("rows by R alone or by B alone change the answers".into());
         }
     }
-    Ok(depth)
+    for prices in PRICES {
+        at_prices(problem, prices, asked, answered, &mut checked.at_prices)
+            .map_err(|wrong| format!("at prices {prices:?}: {wrong}"))?;
+    }
+    Ok(())
 }
 
-/// Table and standing candidates by the paper.
+/// Prices, table and standing candidates by the paper.
 fn problem(head: &[&[u8]]) -> Result<Problem, String> {
     let Some([b'I', n, m]) = head.first() else {
         return Err("it does not begin with I".into());
     };
     let mut table = Table::new(usize::from(*n), usize::from(*m));
     let mut candidates = Vec::new();
+    let mut prices = Prices::USUAL;
     for command in &head[1..] {
         match **command {
+            [b'W', ref ops @ ..] => prices = Prices::of(ops),
             [b'R' | b'B', first, ref rows @ ..] => set_rows(&mut table, first, rows)?,
             [b'T' | b'A', care, value, outputs] => candidates.push(Term {
                 care,
@@ -207,13 +241,18 @@ fn problem(head: &[&[u8]]) -> Result<Problem, String> {
             _ => return Err("a command before the queries has no meaning here".into()),
         }
     }
-    let setting = head.iter().filter(|command| !b"IRB".contains(&command[0]));
+    let of_head = |keep: &dyn Fn(u8) -> bool| {
+        let kept = head.iter().filter(|command| keep(command[0]));
+        kept.copied().collect::<Vec<_>>().concat()
+    };
     Ok(Problem {
         head: head.concat(),
-        setting: setting.copied().collect::<Vec<_>>().concat(),
+        pricing: of_head(&|byte| byte == b'W'),
+        setting: of_head(&|byte| !b"IWRB".contains(&byte)),
         sums: reference::sums(&table, &candidates),
-        costs: candidates.iter().map(|t| t.cost()).collect(),
+        costs: candidates.iter().map(|t| prices.cost(t)).collect(),
         candidates,
+        prices,
         table,
     })
 }
@@ -308,7 +347,7 @@ fn check_cheapest(problem: &Problem, search: &mut Search, answer: &[u8]) -> Resu
     if !irredundant(problem, set) {
         return Err(format!("the cheapest, {set}, is no irredundant cover"));
     }
-    if cost != reference::cost(&problem.candidates, set) {
+    if cost != reference::cost(problem.prices, &problem.candidates, set) {
         return Err(format!("the cheapest does not cost {cost}"));
     }
     match search.is_cheapest(set) {

@@ -1,23 +1,27 @@
 //! What a run has met: how often each number came, what became of each command, what was held to
-//! the promises of K2 and K3 and to document 000, what the records showed, and, at each C of the
-//! drawn jobs, how often K1 changed cost or set of the cheapest and how often the cost was held to
-//! the rival's. A run fails where one of these never came. The jobs made on purpose do not count
-//! for L and C, nor for the rows of B: the marked cases and each row are among them, so that no
-//! count could stay at 0.
+//! the promises of K2, K3 and K6 and to document 000, what the records showed, and, at each C of
+//! the drawn jobs, how often K1 and the prices changed cost or set of the cheapest and how often
+//! the cost was held to the rival's. A run fails where one of these never came. The jobs made on
+//! purpose do not count for L and C, nor for the rows of B and for W: the marked cases and each row
+//! are among them, so that no count could stay at 0.
 
 mod blocks;
 mod presence;
+mod prices;
 mod records;
 
+use crate::charged;
 use crate::dump;
 use crate::expanded;
 use crate::format::{self, Command, COMMANDS, LAST_NUMBER};
 use crate::fresh::Held;
 use crate::implicants;
-use crate::reference::{self, Asked, Covers, Outcome, Query, Table, Term};
+use crate::listing;
+use crate::reference::{self, Asked, Covers, Outcome, Prices, Query, Term};
 use crate::report::hex;
 use blocks::Blocks;
 use presence::Presences;
+use prices::Priced;
 use records::Records;
 use std::collections::BTreeMap;
 
@@ -32,6 +36,7 @@ pub struct Tally {
     presences: Presences,
     records: Records,
     cheapest: Cheapest,
+    priced: Priced,
 }
 
 /// The accepted drawn jobs whose candidates come and go.
@@ -47,13 +52,14 @@ struct Changes {
 #[derive(Default)]
 struct Cheapest {
     times: usize,
-    /// Cost or set is another than before K1.
+    /// At the usual prices cost or set is another than before K1.
     other_costs: usize,
     other_sets: usize,
-    /// The cost is the rival's, and how often that was behind an A or D; the first job whose cost
-    /// should be and is not.
+    /// The cost is the rival's, and how often that was behind an A or D and at other prices than
+    /// the usual ones; the first job whose cost should be and is not.
     rivals: usize,
     rivals_behind_changes: usize,
+    rivals_at_prices: usize,
     beaten: Option<Vec<u8>>,
 }
 
@@ -68,6 +74,7 @@ impl Tally {
             presences: Presences::default(),
             records: Records::default(),
             cheapest: Cheapest::default(),
+            priced: Priced::default(),
         }
     }
 
@@ -105,7 +112,29 @@ impl Tally {
         cheapest.retain(|query| query.command == b"C");
         cheapest.dedup_by(|later, first| later.candidates == first.candidates);
         for query in cheapest {
-            self.cheapest.add(job, &asked.table, query);
+            let Covers::All(covers) =
+                reference::irredundant_covers(&asked.table, &query.candidates)
+            else {
+                unreachable!("C was answered");
+            };
+            self.cheapest.add(job, asked, query, &covers);
+            if format::has(job, b"W") {
+                self.priced.add(asked, query, &covers);
+            }
+        }
+    }
+
+    /// A job whose C commands were held to the prices.
+    pub fn add_charged(&mut self, held: &charged::Held) {
+        if self.drawn {
+            self.priced.add_held(held);
+        }
+    }
+
+    /// A job with W that was held to those with other prices.
+    pub fn add_listing(&mut self, held: &listing::Held, number: u64) {
+        if self.drawn {
+            self.priced.add_listing(held, number);
         }
     }
 
@@ -152,6 +181,7 @@ impl Tally {
         self.presences.print();
         self.records.print();
         self.cheapest.print();
+        self.priced.print();
     }
 
     /// What should have come and did not, and what came that the table of commands does not name.
@@ -179,6 +209,7 @@ impl Tally {
         list.extend(self.presences.complaints());
         list.extend(self.records.complaints());
         list.extend(self.cheapest.complaints());
+        list.extend(self.priced.complaints());
         list
     }
 }
@@ -211,21 +242,20 @@ impl Changes {
 }
 
 impl Cheapest {
-    fn add(&mut self, job: &[u8], table: &Table, query: &Query) {
-        let candidates = &query.candidates;
-        let Covers::All(covers) = reference::irredundant_covers(table, candidates) else {
-            unreachable!("C was answered");
-        };
-        let (cost, set) = reference::cheapest(candidates, &covers);
-        let (cost_before, set_before) = cheapest_before(candidates, &covers);
+    fn add(&mut self, job: &[u8], asked: &Asked, query: &Query, covers: &[u64]) {
+        let (prices, candidates) = (asked.prices, &query.candidates);
+        let (cost, set) = reference::cheapest(prices, candidates, covers);
+        let usual = prices == Prices::USUAL;
+        let (cost_before, set_before) = cheapest_before(candidates, covers);
         self.times += 1;
-        self.other_costs += usize::from(cost != cost_before);
-        self.other_sets += usize::from(set != set_before);
-        match reference::rival(table, candidates) {
+        self.other_costs += usize::from(usual && cost != cost_before);
+        self.other_sets += usize::from(usual && set != set_before);
+        match reference::rival(&asked.table, prices, candidates) {
             Some(least) if least == cost => {
                 self.rivals += 1;
                 let changed = format::come_and_go(&job[..query.at]);
                 self.rivals_behind_changes += usize::from(changed);
+                self.rivals_at_prices += usize::from(!usual);
             }
             Some(_) => self.beaten = self.beaten.take().or(Some(job.to_vec())),
             None => {}
@@ -235,8 +265,13 @@ impl Cheapest {
     fn print(&self) {
         println!(
             "{} cheapest of drawn jobs: K1 changed the cost of {} and the set of {}, \
-             {} were held to the rival, {} of these behind A or D",
-            self.times, self.other_costs, self.other_sets, self.rivals, self.rivals_behind_changes
+             {} were held to the rival, {} of these behind A or D and {} at other prices",
+            self.times,
+            self.other_costs,
+            self.other_sets,
+            self.rivals,
+            self.rivals_behind_changes,
+            self.rivals_at_prices
         );
     }
 
@@ -251,6 +286,10 @@ impl Cheapest {
             (
                 self.rivals_behind_changes,
                 "no cheapest behind A or D was held to the rival",
+            ),
+            (
+                self.rivals_at_prices,
+                "no cheapest at other prices than usual was held to the rival",
             ),
         ]);
         let beaten = self.beaten.iter();

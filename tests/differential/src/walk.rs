@@ -1,5 +1,6 @@
-//! A job walked along with its outcome: which candidates stand at its L and C commands, and what
-//! became of these. It goes by what was answered and refused, and leaves the reference aside.
+//! A job walked along with its outcome: which prices and candidates stand at its L and C
+//! commands, and what became of these. It goes by what was answered and refused, and leaves the
+//! reference aside.
 
 use crate::format;
 use crate::reference::{Outcome, Table, Term};
@@ -10,8 +11,10 @@ pub struct Query<'a> {
     pub answer: Result<&'a [u8], u64>,
 }
 
-/// Table and candidates, and the L and C commands that met them, one behind the other.
+/// Prices, table and candidates, and the L and C commands that met them, one behind the other.
 pub struct Standing<'a> {
+    /// W's operands, or what stands for them where there is no W.
+    pub prices: [u8; 3],
     pub table: Table,
     pub candidates: Vec<Term>,
     pub queries: Vec<Query<'a>>,
@@ -23,6 +26,7 @@ pub fn walk<'a>(job: &'a [u8], outcome: &'a Outcome) -> Option<Vec<Standing<'a>>
     let (before, command) = job.split_at(outcome.offset);
     let mut answers = &outcome.buffer[..outcome.written];
     let mut standing = Standing {
+        prices: [1, 1, 0],
         table: Table::new(0, 0),
         candidates: Vec::new(),
         queries: Vec::new(),
@@ -52,7 +56,7 @@ fn is_query(command: &[u8]) -> bool {
 }
 
 /// How long the answer to a command is, at the head of the answers from there on.
-fn width(byte: u8, answers: &[u8]) -> Option<usize> {
+pub fn width(byte: u8, answers: &[u8]) -> Option<usize> {
     let count = || answers.get(1).map(|&count| usize::from(count));
     match byte {
         b'P' => count().map(|count| 2 + 3 * count),
@@ -76,17 +80,20 @@ impl<'a> Standing<'a> {
     fn asked(&mut self) -> Option<Standing<'a>> {
         let queries = std::mem::take(&mut self.queries);
         (!queries.is_empty()).then(|| Standing {
+            prices: self.prices,
             table: self.table.clone(),
             candidates: self.candidates.clone(),
             queries,
         })
     }
 
-    /// What an accepted command makes of table and candidates. The primes are those answered.
+    /// What an accepted command makes of prices, table and candidates. The primes are those
+    /// answered.
     fn set(&mut self, command: &[u8], answer: &[u8]) {
         let ops = &command[1..];
         match command[0] {
             b'I' => self.table = Table::new(usize::from(ops[0]), usize::from(ops[1])),
+            b'W' => self.prices = [ops[0], ops[1], ops[2]],
             b'R' | b'B' => self.set_rows(ops),
             b'T' | b'A' => self.candidates.push(term(ops)),
             b'D' => {

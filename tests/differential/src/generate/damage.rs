@@ -24,6 +24,8 @@ fn wild_operand(rng: &mut Rng, operand: Operand, (n, m): (usize, usize)) -> Vec<
         Operand::Outputs => masked(m),
         Operand::Candidate if rng.chance(3, 4) => vec![rng.below(MOST_TERMS) as u8],
         Operand::Candidate => likely_bytes(rng, 1),
+        Operand::Price if rng.chance(1, 4) => vec![rng.pick(&[51, 52, 101, 128, 178, 255])],
+        Operand::Price => vec![rng.below(51) as u8],
         Operand::Number(bytes) => likely_bytes(rng, bytes),
     }
 }
@@ -93,6 +95,27 @@ fn take_vertex(rng: &mut Rng, draft: &mut Draft) {
     }
 }
 
+/// W is spoilt, doubled, moved behind another command, or put before all.
+fn damage_settings(rng: &mut Rng, draft: &mut Draft) {
+    let places = draft.places(Part::Settings);
+    let Some(&place) = places.first() else {
+        return;
+    };
+    let count = draft.commands.len();
+    match rng.below(5) {
+        0 | 1 => spoil(rng, draft, Part::Settings),
+        2 => {
+            let wild = with_wild_operands(rng, draft, find(b'W').expect("a command"));
+            draft.commands.insert(rng.between(place, count), wild);
+        }
+        3 => {
+            let command = draft.commands.remove(place);
+            draft.commands.insert(rng.below(count), command);
+        }
+        _ => draft.commands.swap(0, place),
+    }
+}
+
 /// One change in the list of commands.
 fn damage_commands(rng: &mut Rng, draft: &mut Draft) {
     let count = draft.commands.len();
@@ -100,7 +123,7 @@ fn damage_commands(rng: &mut Rng, draft: &mut Draft) {
         return;
     }
     let place = rng.below(count);
-    match rng.below(10) {
+    match rng.below(11) {
         0 => {
             draft.commands.remove(place);
         }
@@ -121,6 +144,7 @@ fn damage_commands(rng: &mut Rng, draft: &mut Draft) {
         6 => spoil(rng, draft, Part::Candidates),
         7 => spoil(rng, draft, Part::Other),
         8 => take_vertex(rng, draft),
+        9 => damage_settings(rng, draft),
         _ => rng.shuffle(&mut draft.commands),
     }
 }

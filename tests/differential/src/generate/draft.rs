@@ -42,6 +42,11 @@ pub fn need(job: &[u8]) -> Option<usize> {
     reference::run(job, &[0; LONGEST]).map(|out| out.written)
 }
 
+/// W: the prices of a term, a literal and a connection.
+pub fn prices(list: [u8; 3]) -> Vec<u8> {
+    [&[b'W'], &list[..]].concat()
+}
+
 pub fn row(v: u8, on: u8, dc: u8) -> Vec<u8> {
     vec![b'R', v, on, dc]
 }

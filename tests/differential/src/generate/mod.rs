@@ -6,17 +6,21 @@ mod bytes;
 mod changes;
 mod damage;
 mod draft;
+mod prices;
 mod purpose;
 mod purpose_blocks;
 mod purpose_changes;
+mod purpose_prices;
 mod queries;
 mod records;
 mod sound;
 mod sweeps;
 mod tables;
 
-pub use draft::{block, come, draft, go, page, row, term, Draft, Pairs};
+pub use draft::{block, come, draft, go, page, prices, row, term, Draft, Pairs};
+pub use prices::{drawn_prices, other_prices};
 pub use purpose::on_purpose;
+pub use purpose_prices::prices_on_purpose;
 pub use records::{records_drawn, records_on_purpose};
 pub use tables::{pairs, random_table, terms_for};
 

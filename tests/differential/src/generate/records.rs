@@ -1,16 +1,16 @@
-//! Jobs for the records that they leave: made on purpose for the weights of K5, some of the others
-//! made on purpose, and drawn ones.
+//! Jobs for the records that they leave: made on purpose for the weights of K5 and the prices of
+//! K6, some of the others made on purpose, and drawn ones.
 
 use super::bytes::full;
 use super::damage::{damaged, wild};
-use super::draft::{block, come, draft, go, row, term, Draft};
+use super::draft::{block, come, draft, go, prices, row, term, Draft};
 use super::purpose::{on_purpose, primes};
 use super::sound::sound;
 use crate::format::BLOCK;
 use crate::reference::LONGEST;
 use crate::rng::Rng;
 use crate::selftest::{
-    bytes, first_term_gone, marked, odd_parity, prime_gone, seventh_term, EXAMPLE,
+    bytes, dearest, first_term_gone, marked, odd_parity, priced, prime_gone, seventh_term, EXAMPLE,
 };
 
 type Commands = Vec<Vec<u8>>;
@@ -26,6 +26,7 @@ pub fn records_on_purpose(rng: &mut Rng) -> Jobs {
     of_every_care(&mut list);
     of_every_number(&mut list);
     of_primes(&mut list);
+    of_prices(&mut list);
     of_lengths(&mut list);
     let mut others: Jobs = on_purpose(rng).into_iter().map(|case| case.job).collect();
     // Those that differ in their buffers alone leave one record.
@@ -117,6 +118,39 @@ fn of_primes(list: &mut Jobs) {
     ];
     let job = draft(8, 8, [rows.clone(), primes(), changes]);
     behind_each(list, &job, rows.len());
+}
+
+/// Prices for the jobs with W: each alone, at their ends, and all different.
+const PRICES: [[u8; 3]; 7] = [
+    [0, 0, 0],
+    [50, 0, 0],
+    [0, 50, 0],
+    [0, 0, 50],
+    [50, 50, 50],
+    [7, 5, 3],
+    [1, 1, 0],
+];
+
+/// Under each prices: the jobs of the paper and those where candidates come and go, command by
+/// command; every care with every number of outputs; the highest weights. And a W that is refused.
+fn of_prices(list: &mut Jobs) {
+    for own in PRICES {
+        for draft in [marked('a'), seventh_term(), prime_gone()] {
+            behind_each(list, &priced(draft, own), 1);
+        }
+        list.push(priced(dearest(), own).job());
+        for first in [0, 64, 128, 192] {
+            let outputs = |care: u8| full(1 + usize::from(care) % 8);
+            let terms = (first..=first + 63).map(|care| come(care, care & 0x5a, outputs(care)));
+            let rows = all_rows(|_| [0, 255]);
+            list.push(draft(8, 8, [vec![prices(own)], rows, terms.collect()]).job());
+        }
+    }
+    let refused = [[51, 0, 0], [0, 51, 0], [0, 0, 51], [255, 255, 255]];
+    for own in refused {
+        list.push(priced(marked('a'), own).job());
+        list.push(priced(priced(marked('a'), own), [7, 5, 3]).job());
+    }
 }
 
 /// Jobs as long as they may be and longer, whose first commands leave a record; in the last one the

@@ -1,7 +1,8 @@
 //! Sound jobs: the commands stand in their order, and their operands are good.
 
 use super::changes::Candidates;
-use super::draft::{draft, plain_case, Draft};
+use super::draft::{draft, plain_case, prices, Draft};
+use super::prices::drawn_prices;
 use super::queries::queries;
 use super::tables::{random_table, rows, sizes, table_of_terms, terms_for, MOST_TERMS};
 use super::Case;
@@ -14,7 +15,7 @@ pub fn case(rng: &mut Rng) -> Case {
 }
 
 /// A job that keeps to the order of commands. Now and then a wanted cell stays unheld. In every
-/// second one the candidates come and go.
+/// second one the candidates come and go, and every third one has prices.
 pub fn sound(rng: &mut Rng) -> Draft {
     let (n, m) = sizes(rng);
     let moving = rng.chance(1, 2);
@@ -33,7 +34,13 @@ pub fn sound(rng: &mut Rng) -> Draft {
         commands.extend(candidates.commands());
         commands.extend(asked(rng, &table, &candidates.standing));
     }
-    draft(n as u8, m as u8, [commands])
+    draft(n as u8, m as u8, [settings(rng), commands])
+}
+
+/// W in every third job.
+fn settings(rng: &mut Rng) -> Vec<Vec<u8>> {
+    let times = usize::from(rng.chance(1, 3));
+    vec![prices(drawn_prices(rng)); times]
 }
 
 /// A table, and terms for it or None where its primes are to be the candidates.

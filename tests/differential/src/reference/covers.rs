@@ -1,5 +1,6 @@
 //! Irredundant covers and their costs, by their definitions.
 
+use super::prices::Prices;
 use super::table::{Table, Term};
 
 /// Up to this many candidates every subset is tried.
@@ -95,19 +96,19 @@ pub fn covers_by_products(sums: &[u64]) -> Option<Vec<u64>> {
     Some(products)
 }
 
-pub fn cost(candidates: &[Term], set: u64) -> u64 {
+pub fn cost(prices: Prices, candidates: &[Term], set: u64) -> u64 {
     let members = candidates
         .iter()
         .enumerate()
         .filter(|(i, _)| set >> i & 1 == 1);
-    members.map(|(_, t)| t.cost()).sum()
+    members.map(|(_, t)| prices.cost(t)).sum()
 }
 
 /// The least cost and, among equals, the smallest set. `covers` rises and is not empty.
-pub fn cheapest(candidates: &[Term], covers: &[u64]) -> (u64, u64) {
+pub fn cheapest(prices: Prices, candidates: &[Term], covers: &[u64]) -> (u64, u64) {
     covers
         .iter()
-        .map(|&set| (cost(candidates, set), set))
+        .map(|&set| (cost(prices, candidates, set), set))
         .min()
         .expect("a cover has an irredundant one below")
 }

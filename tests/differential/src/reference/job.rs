@@ -1,6 +1,7 @@
 //! The job stream: each command with its refusals in their order, its effect and its answer.
 
 use super::covers::{cheapest, irredundant_covers, Covers};
+use super::prices::{Prices, HIGHEST};
 use super::table::{fits, Table, Term};
 use crate::format;
 
@@ -41,6 +42,8 @@ enum Stop {
 #[derive(Clone)]
 pub struct Problem {
     pub table: Option<Table>,
+    /// By W, once it came.
+    pub prices_set: Option<Prices>,
     pub has_row: [bool; 256],
     pub candidates: Vec<Term>,
     /// T or A: an A counts as a T, even if its candidate has gone again.
@@ -101,9 +104,10 @@ pub struct Query {
     pub answer: Vec<u8>,
 }
 
-/// The table of a job and its L and C commands.
+/// The table and the prices of a job, and its L and C commands.
 pub struct Asked {
     pub table: Table,
+    pub prices: Prices,
     pub queries: Vec<Query>,
 }
 
@@ -126,8 +130,11 @@ pub fn asked(job: &[u8]) -> Option<Asked> {
         }
         at += width;
     }
-    let table = problem.table?;
-    Some(Asked { table, queries })
+    Some(Asked {
+        prices: problem.prices(),
+        table: problem.table?,
+        queries,
+    })
 }
 
 fn refuse_if(wrong: bool, number: u64) -> Result<(), Stop> {
@@ -142,6 +149,7 @@ impl Problem {
     fn new() -> Problem {
         Problem {
             table: None,
+            prices_set: None,
             has_row: [false; 256],
             candidates: Vec::new(),
             terms_came: false,
@@ -165,6 +173,7 @@ impl Problem {
         };
         let answer = match byte {
             b'I' => self.sizes(ops)?,
+            b'W' => self.set_prices(ops)?,
             b'R' | b'B' => self.rows(ops)?,
             b'T' | b'A' => self.term(ops)?,
             b'D' => self.take_out(ops)?,
@@ -185,6 +194,10 @@ impl Problem {
         let candidates_open = !self.primes_came && !self.queries_came;
         match command {
             b'I' => self.table.is_none(),
+            b'W' => {
+                let first = self.prices_set.is_none() && !self.has_row.contains(&true);
+                self.table.is_some() && first && candidates_open && !self.terms_came
+            }
             b'R' | b'B' | b'P' => self.table.is_some() && candidates_open && !self.terms_came,
             b'T' => self.table.is_some() && candidates_open,
             b'A' | b'D' | b'L' | b'C' | b'E' => self.table.is_some(),
@@ -201,6 +214,17 @@ impl Problem {
         refuse_if(!(1..=8).contains(&n) || !(1..=8).contains(&m), 6)?;
         self.table = Some(Table::new(n, m));
         Ok(Vec::new())
+    }
+
+    fn set_prices(&mut self, ops: &[u8]) -> Result<Vec<u8>, Stop> {
+        refuse_if(ops.iter().any(|&price| price > HIGHEST), 16)?;
+        self.prices_set = Some(Prices::of(ops));
+        Ok(Vec::new())
+    }
+
+    /// The prices set, or the usual ones.
+    pub fn prices(&self) -> Prices {
+        self.prices_set.unwrap_or(Prices::USUAL)
     }
 
     /// R with one pair of on and dc, B with eight: one by one, for rising vertices. The first row
@@ -296,7 +320,7 @@ impl Problem {
 
     fn cheapest(&mut self) -> Result<Vec<u8>, Stop> {
         let covers = self.covers()?.to_vec();
-        let (cost, set) = cheapest(&self.candidates, &covers);
+        let (cost, set) = cheapest(self.prices(), &self.candidates, &covers);
         let mut answer = vec![0x63];
         answer.extend((cost as u16).to_le_bytes());
         answer.extend(set.to_le_bytes());

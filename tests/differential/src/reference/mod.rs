@@ -4,6 +4,7 @@
 mod covers;
 mod job;
 mod presence;
+mod prices;
 mod record;
 mod rival;
 mod table;
@@ -14,6 +15,7 @@ pub use covers::{
 };
 pub use job::{asked, run, Asked, Outcome, Query, LONGEST, MOST_CANDIDATES};
 pub use presence::{delta, implicants, points, prime_implicants, sum, Presence};
+pub use prices::{Prices, HIGHEST};
 pub use record::record;
-pub use rival::{least_cost, rival};
+pub use rival::{least_cost, rival, rival_at_any_price};
 pub use table::{Table, Term};

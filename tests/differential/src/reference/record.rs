@@ -1,5 +1,6 @@
 //! The record that a job leaves, as the text in which it is dumped. By K5 the weight stands beside
-//! each candidate; here it is worked out anew from the term, so that none can be left behind.
+//! each candidate; here it is worked out anew from term and prices, so that none can be left
+//! behind.
 
 use super::job::{left_by, Outcome, Problem, LONGEST};
 
@@ -8,6 +9,7 @@ use super::job::{left_by, Outcome, Problem, LONGEST};
 pub fn record(job: &[u8]) -> Option<(Outcome, String)> {
     let (out, problem) = left_by(job, &[0; LONGEST])?;
     let sizes = problem.table.as_ref().map_or((0, 0), |t| (t.n, t.m));
+    let prices = problem.prices();
     let mut lines = vec![
         format!(
             "number {} offset {} written {}",
@@ -15,6 +17,10 @@ pub fn record(job: &[u8]) -> Option<(Outcome, String)> {
         ),
         format!("place {}", place(&problem)),
         format!("inputs {} outputs {}", sizes.0, sizes.1),
+        format!(
+            "prices {} {} {}",
+            prices.term, prices.literal, prices.connection
+        ),
     ];
     lines.extend(rows(&problem));
     lines.extend(candidates(&problem));
@@ -22,10 +28,11 @@ pub fn record(job: &[u8]) -> Option<(Outcome, String)> {
     Some((out, text))
 }
 
-/// The furthest that came: I, a row, a term, or a P, L or C.
+/// The furthest that came: I, W, a row, a term, or a P, L or C.
 fn place(problem: &Problem) -> usize {
     let came = [
         problem.table.is_some(),
+        problem.prices_set.is_some(),
         problem.has_row.contains(&true),
         problem.terms_came,
         problem.primes_came || problem.queries_came,
@@ -51,7 +58,7 @@ fn candidates(problem: &Problem) -> Vec<String> {
             t.care,
             t.value,
             t.outputs,
-            t.cost()
+            problem.prices().cost(t)
         ));
     }
     lines

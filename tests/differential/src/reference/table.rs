@@ -23,15 +23,6 @@ impl Term {
     pub fn holds(self, v: usize, j: usize) -> bool {
         self.agrees(v) && bit(self.outputs, j)
     }
-
-    /// By K1 a term with 0 or 1 literals costs 1, as one literal takes no input of an AND gate;
-    /// from 2 literals on it costs 1 plus the literals.
-    pub fn cost(self) -> u64 {
-        match self.care.count_ones() {
-            0 | 1 => 1,
-            literals => 1 + u64::from(literals),
-        }
-    }
 }
 
 fn bit(byte: u8, i: usize) -> bool {

@@ -2,8 +2,8 @@
 
 use super::Checks;
 use crate::exact::Search;
-use crate::generate::{random_table, terms_for};
-use crate::reference::{self, Covers, Presence, Table, Term};
+use crate::generate::{drawn_prices, random_table, terms_for};
+use crate::reference::{self, Covers, Presence, Prices, Table, Term};
 use crate::rng::Rng;
 
 pub fn run(checks: &mut Checks, rng: &mut Rng) {
@@ -11,8 +11,23 @@ pub fn run(checks: &mut Checks, rng: &mut Rng) {
         two_ways(checks, rng);
     }
     for _ in 0..300 {
-        drawn_rival(checks, rng);
+        drawn_rival(checks, rng, Prices::USUAL);
+        let prices = any_prices(rng);
+        let free = Prices {
+            connection: 0,
+            ..prices
+        };
+        drawn_rival(checks, rng, free);
     }
+    let mut undercut = false;
+    for _ in 0..300 {
+        undercut |= rival_with_connections(checks, rng);
+    }
+    checks.check("no rival is cheaper by connections", undercut);
+}
+
+fn any_prices(rng: &mut Rng) -> Prices {
+    Prices::of(&drawn_prices(rng))
 }
 
 /// Primes and covers by both ways.
@@ -59,7 +74,8 @@ fn by_points(checks: &mut Checks, table: &Table, candidates: &[Term], sums: &[u6
     checks.check("delta", presence.presence_with_delta(presence.all()));
 }
 
-/// The search for the stored jobs finds the same covers, from any start, and the same cheapest.
+/// The search for the stored jobs finds the same covers, from any start, and the same cheapest at
+/// drawn prices.
 fn second_search(
     checks: &mut Checks,
     rng: &mut Rng,
@@ -67,7 +83,8 @@ fn second_search(
     sums: &[u64],
     covers: &[u64],
 ) {
-    let costs: Vec<u64> = candidates.iter().map(|t| t.cost()).collect();
+    let prices = any_prices(rng);
+    let costs: Vec<u64> = candidates.iter().map(|t| prices.cost(t)).collect();
     let mut search = Search::new(sums, &costs);
     let start = rng.below(1 << candidates.len()) as u64;
     let most = rng.below(6);
@@ -82,19 +99,36 @@ fn second_search(
     };
     checks.check("covers by the second search", all == covers);
     checks.check("a page by the second search", some == expected);
-    let (_, first) = reference::cheapest(candidates, covers);
+    let (_, first) = reference::cheapest(prices, candidates, covers);
     let right = |&set: &u64| matches!(search.is_cheapest(set), Ok(yes) if yes == (set == first));
     checks.check("cheapest by the second search", covers.iter().all(right));
 }
 
-/// Over the primes the cheapest cover costs as little as any list of legal terms.
-fn drawn_rival(checks: &mut Checks, rng: &mut Rng) {
+/// At connection price 0 the cheapest cover by primes costs as little as any list of legal terms.
+fn drawn_rival(checks: &mut Checks, rng: &mut Rng, prices: Prices) {
+    let (least, cost) = rival_and_cheapest(rng, prices);
+    checks.check("drawn rival", least == cost);
+}
+
+/// At a connection price above 0 it may cost more, and never less; whether it does.
+fn rival_with_connections(checks: &mut Checks, rng: &mut Rng) -> bool {
+    let prices = Prices {
+        connection: rng.between(1, 50) as u8,
+        ..any_prices(rng)
+    };
+    let (least, cost) = rival_and_cheapest(rng, prices);
+    checks.check("drawn rival with connections", least <= cost);
+    least < cost
+}
+
+/// The rival's least cost over a drawn table, and the cheapest by its primes.
+fn rival_and_cheapest(rng: &mut Rng, prices: Prices) -> (u64, u64) {
     let (n, m) = (rng.between(1, 3), rng.between(1, 2));
     let table = random_table(rng, n, m);
     let primes = table.primes();
     let Covers::All(covers) = reference::irredundant_covers(&table, &primes) else {
-        return checks.check("covers by primes", false);
+        unreachable!("the primes hold each wanted cell, and are few");
     };
-    let (cost, _) = reference::cheapest(&primes, &covers);
-    checks.check("drawn rival", reference::least_cost(&table) == cost);
+    let (cost, _) = reference::cheapest(prices, &primes, &covers);
+    (reference::least_cost(&table, prices), cost)
 }

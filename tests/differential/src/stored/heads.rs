@@ -1,8 +1,9 @@
-//! Other ways to the same table and candidates: the answers behind them must stay.
+//! Other ways to the same table and candidates: the answers behind them must stay, but for the
+//! cheapest at other prices.
 
 use super::Problem;
-use crate::format::BLOCK;
-use crate::generate::{block, come, go, pairs, row};
+use crate::format::{cut, BLOCK};
+use crate::generate::{block, come, go, pairs, prices, row};
 use crate::reference::Term;
 
 /// The head, and the first candidate taken out and put in behind the others until each has had its
@@ -31,7 +32,17 @@ pub fn by_blocks(problem: &Problem) -> Vec<u8> {
     with_rows(problem, rows.collect())
 }
 
+/// The head with these prices, whether it has W or not: the first command is I.
+pub fn with_prices(problem: &Problem, list: [u8; 3]) -> Vec<u8> {
+    let mut commands = cut(&problem.head).expect("a list of whole commands");
+    commands.retain(|command| command[0] != b'W');
+    let own = prices(list);
+    commands.insert(1, &own);
+    commands.concat()
+}
+
 fn with_rows(problem: &Problem, rows: Vec<u8>) -> Vec<u8> {
     let sizes = vec![b'I', problem.table.n as u8, problem.table.m as u8];
-    [sizes, rows, problem.setting.clone()].concat()
+    let pricing = problem.pricing.clone();
+    [sizes, pricing, rows, problem.setting.clone()].concat()
 }

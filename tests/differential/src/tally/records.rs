@@ -1,8 +1,9 @@
 //! What the records have shown: a run fails where one of these never came.
 
 use super::never;
-use crate::dump::Held;
+use crate::dump::{Held, Weighed};
 use crate::format::{self, LAST_NUMBER};
+use crate::reference::Prices;
 
 /// The jobs whose records were compared.
 #[derive(Default)]
@@ -16,8 +17,22 @@ pub struct Records {
     /// Those with weights of three values or more.
     three_weights: usize,
     behind: Behind,
-    /// Candidates of weight 1, by their literals.
+    /// Candidates of weight 1 at the usual prices, by their literals.
     weight_one: [usize; 2],
+    priced: Priced,
+}
+
+/// Jobs with other prices than the usual ones.
+#[derive(Default)]
+struct Priced {
+    /// Those with candidates, and those of them whose weights are not those of the usual prices.
+    jobs: usize,
+    other_weights: usize,
+    /// Those with a weight of 0, and those where as many literals cost more by the outputs.
+    free: usize,
+    by_outputs: usize,
+    /// Those that end behind W.
+    behind_prices: usize,
 }
 
 /// Jobs by what came before the record. The commands count that were accepted.
@@ -39,19 +54,23 @@ impl Records {
         self.jobs += 1;
         self.refused += usize::from(held.outcome.number > 2);
         self.ended_early += usize::from(held.outcome.number == 2);
-        let mut values: Vec<u64> = held.weights.iter().map(|&(_, weight)| weight).collect();
+        let candidates = &held.weights.candidates;
+        let mut values: Vec<u64> = candidates.iter().map(|c| c.weight).collect();
         values.sort_unstable();
         values.dedup();
         self.three_weights += usize::from(values.len() >= 3);
-        for &(literals, weight) in &held.weights {
-            if weight == 1 {
-                self.weight_one[literals] += 1;
-            }
+        let usual = held.weights.prices == [1, 1, 0];
+        for candidate in candidates.iter().filter(|c| usual && c.weight == 1) {
+            self.weight_one[literals(candidate)] += 1;
+        }
+        if !usual {
+            self.priced.add(job, held);
         }
         self.behind.add(job, held);
     }
 
     pub fn print(&self) {
+        self.priced.print();
         println!(
             "{} records of drawn jobs were compared, {} of refused ones and {} of ones that end \
              early; {} with three weights or more, {} behind P, {} of these with A, {} behind a D \
@@ -74,6 +93,7 @@ impl Records {
             .map(|number| format!("no record of a job with number {number}"))
             .collect();
         list.extend(self.never_drawn());
+        list.extend(self.priced.complaints());
         list
     }
 
@@ -105,6 +125,47 @@ impl Records {
                 self.weight_one[1],
                 "weight 1 never came with one literal in a drawn job",
             ),
+        ])
+    }
+}
+
+fn literals(candidate: &Weighed) -> usize {
+    candidate.term.care.count_ones() as usize
+}
+
+impl Priced {
+    fn add(&mut self, job: &[u8], held: &Held) {
+        let candidates = &held.weights.candidates;
+        let usual = |c: &Weighed| Prices::USUAL.cost(&c.term);
+        let dearer = |c: &Weighed| {
+            let alike = |d: &&Weighed| literals(d) == literals(c);
+            candidates.iter().filter(alike).any(|d| d.weight < c.weight)
+        };
+        let last = format::cut(&job[..held.outcome.offset]);
+        let last = last.and_then(|commands| commands.last().map(|command| command[0]));
+        self.jobs += usize::from(!candidates.is_empty());
+        self.other_weights += usize::from(candidates.iter().any(|c| c.weight != usual(c)));
+        self.free += usize::from(candidates.iter().any(|c| c.weight == 0));
+        self.by_outputs += usize::from(candidates.iter().any(dearer));
+        self.behind_prices += usize::from(last == Some(b'W'));
+    }
+
+    fn print(&self) {
+        println!(
+            "{} records of drawn jobs with other prices have candidates, {} other weights than by \
+             the usual ones, {} a weight of 0, {} weights that go by the outputs; {} more end \
+             right behind W",
+            self.jobs, self.other_weights, self.free, self.by_outputs, self.behind_prices
+        );
+    }
+
+    fn complaints(&self) -> Vec<String> {
+        never(&[
+            (self.jobs, "no record has candidates and other prices"),
+            (self.other_weights, "no record has weights by other prices"),
+            (self.free, "no record has a weight of 0"),
+            (self.by_outputs, "no record has weights by connections"),
+            (self.behind_prices, "no record ends right behind W"),
         ])
     }
 }

@@ -1,7 +1,7 @@
 //! What is said of a dump: a right one passes, a wrong one is seen.
 
-use crate::dump::compare;
-use crate::reference;
+use crate::dump::{compare, Weighed, Weights};
+use crate::reference::{self, Term};
 use crate::selftest::{bytes, Checks, EXAMPLE};
 
 pub fn run(checks: &mut Checks) {
@@ -11,29 +11,39 @@ pub fn run(checks: &mut Checks) {
 
 /// The weights of 0 to 8 literals. Each of them one off is seen, even where it is expected.
 fn charged(checks: &mut Checks) {
-    for (literals, care, weight) in [
-        (0, "00", 1),
-        (1, "40", 1),
-        (2, "81", 3),
-        (3, "0b", 4),
-        (4, "f0", 5),
-        (5, "1f", 6),
-        (6, "7e", 7),
-        (7, "fd", 8),
-        (8, "ff", 9),
+    for (care, weight) in [
+        (0x00, 1),
+        (0x40, 1),
+        (0x81, 3),
+        (0x0b, 4),
+        (0xf0, 5),
+        (0x1f, 6),
+        (0x7e, 7),
+        (0xfd, 8),
+        (0xff, 9),
     ] {
         let text = |weight: u64| {
-            format!("place 3\ncandidate 0 care {care} value 00 outputs 01 weight {weight}\n")
+            let line = format!("candidate 0 care {care:02x} value 00 outputs 01 weight {weight}");
+            format!("place 4\nprices 1 1 0\n{line}\n")
         };
         let as_expected = |weight| compare(&text(weight), &text(weight));
-        let right = as_expected(weight) == Ok(vec![(literals, weight)]);
-        checks.check(&format!("weight of care {care}"), right);
+        let term = Term {
+            care,
+            value: 0,
+            outputs: 1,
+        };
+        let due = Weights {
+            prices: [1, 1, 0],
+            candidates: vec![Weighed { term, weight }],
+        };
+        let right = as_expected(weight) == Ok(due);
+        checks.check(&format!("weight of care {care:02x}"), right);
         for wrong in [weight - 1, weight + 1] {
             let seen = as_expected(wrong).is_err();
-            checks.check(&format!("not seen: care {care}, weight {wrong}"), seen);
+            checks.check(&format!("not seen: care {care:02x}, weight {wrong}"), seen);
         }
     }
-    let without = "candidate 0 care 00 value 00 outputs 01\n";
+    let without = "prices 1 1 0\ncandidate 0 care 00 value 00 outputs 01\n";
     let seen = compare(without, without).is_err();
     checks.check("not seen: no weight", seen);
 }
@@ -44,7 +54,7 @@ fn wrong_dumps(checks: &mut Checks) {
     checks.check("a right dump", compare(&text, &text).is_ok());
     for (name, wrong) in [
         ("another number", text.replace("number 0", "number 2")),
-        ("another place", text.replace("place 4", "place 3")),
+        ("another place", text.replace("place 5", "place 4")),
         ("another row", text.replace("on 02", "on 03")),
         ("a leading zero", text.replace("row 3", "row 03")),
         ("another value", text.replace("value 02", "value 00")),
