@@ -45,6 +45,7 @@ pub mod ExpandedCall
 pub mod Unpriced
 pub mod Listing
 pub mod ListingCall
+pub mod Numbers
 pub mod Marked
 pub mod EightRows
 pub mod Example

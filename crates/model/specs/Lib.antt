@@ -20,6 +20,7 @@ pub mod Records
 pub mod Pieces
 pub mod Expanded
 pub mod Pricing
+pub mod Numbers
 pub mod Library
 pub mod Cases
 pub mod Invariants
