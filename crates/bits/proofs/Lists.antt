@@ -1,5 +1,5 @@
 -- Lists by parts, lists in arrays, arrays that a loop fills, and a filter that passes one entry. Nothing here is from the paper.
-use Prim.Native.Nat.{ℕ, zero, suc, _+_, _-_, _≤_, _<_, min}
+use Prim.Native.Nat.{ℕ, zero, suc, _+_, _-_, _≤_, _<_}
 use native.Mathlib.Omega.{arith}
 use native.Mathlib.Decide.{decLt}
 use native.Mathlib.Numerals.{add-one}
@@ -8,8 +8,8 @@ use mathlib.Core.Bool.{Bool, true, false, cond}
 use mathlib.Core.List.{List, [], _∷_, _++_, map, map-append, append-nil, append-assoc}
 use borrow.Author.Tests.{eq-eqb, ne-eqb}
 use lib.Dec.{eqb}
-use lib.ListN.{getD, length, take, drop, set, length-append, length-take, length-drop, length-set, length-map}
-use lib.Seq.{take-all, take-append-le, take-suc, take-suc-set, take-length, drop-cons, set-at, take-at, append-snoc, length-take-le, getD-append-add, getD-drop}
+use lib.ListN.{getD, length, take, drop, set, length-append, length-drop, length-set, length-map}
+use lib.Seq.{take-suc, take-suc-set, take-length, drop-cons, set-at, take-at, append-snoc, length-take-le, getD-append-add, getD-drop}
 use Rattle.model.specs.Base.{from, below, filter, join, without}
 use Rattle.model.proofs.Lists.{length-without}
 use Rattle.bits.specs.Lists.{Filled, parts, upTo}
@@ -145,25 +145,6 @@ module _ {A : Type 0} where
           counted = sym m;
           same = take-at (without k xs) (drop (count - 1) array) (count - 1) m;
         }
-
-    -- an array that holds as much of a list as fits
-    module _ (xs : List A) (f : Filled cap (take cap xs) array count) where
-      pub counts : count ≡ min cap (length xs)
-      counts = f .counted ∙ length-take cap xs
-
-      pub first-next : (x : A) → count < cap → Filled cap (take cap (xs ++ (x ∷ []))) (set array count x) (count + 1)
-      first-next x l =
-          let n : length xs ≡ count = omega (arith, counts) in
-          let m : length (xs ++ (x ∷ [])) ≡ length xs + 1 = length-append xs (x ∷ []) in
-          let e : take cap xs ≡ xs = take-all cap xs (omega arith) in
-          let g : take cap (xs ++ (x ∷ [])) ≡ xs ++ (x ∷ []) = take-all cap (xs ++ (x ∷ [])) (omega arith) in
-          subst⁻¹ (λ (ys : List A). Filled cap ys (set array count x) (count + 1)) g
-          (filled-next xs x (subst (λ (ys : List A). Filled cap ys array count) e f) l)
-
-      pub first-full : (ys : List A) → cap ≤ count → Filled cap (take cap (xs ++ ys)) array count
-      first-full ys l =
-          let n : cap ≤ length xs = omega (arith, counts) in
-          subst⁻¹ (λ (zs : List A). Filled cap zs array count) (take-append-le cap xs ys n) f
 
 -- ---- an array that a loop fills entry by entry
 

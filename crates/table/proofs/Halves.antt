@@ -126,7 +126,7 @@ pub drives-none : (may : List ℕ) (n care value : ℕ) → Cube n care value �
 drives-none may n care value k e p a = sym (bits-ext (drives p care value) 0
     (λ j. bool-ext (bit j (drives p care value)) (bit j 0) (λ t. subst (λ (x : ℕ). T (bit j x)) e (at-first may n care value k p a j t)) (λ t. absurd (omega (arith, bit-le j 0 t, pow-pos j)))))
 
-drives-vertex : (may : List ℕ) (value : ℕ) → DrivesFree may 0 value (getD may value 0)
+pub drives-vertex : (may : List ℕ) (value : ℕ) → DrivesFree may 0 value (getD may value 0)
 drives-vertex may value n care k f p a = bits-ext (getD may value 0) (drives p care value)
     (λ j. bool-ext (bit j (getD may value 0)) (bit j (drives p care value)) (at-only may n care value k p a f j) (at-first may n care value k p a j))
 
@@ -134,6 +134,22 @@ pub drives-one : (may : List ℕ) (n care value free : ℕ) → Cube n care valu
 drives-one may n care value free k f e = drives-vertex may value n care k (subst (Free n care) e f)
 
 -- ---- a cube with a free input: its two halves
+
+-- a new bit on both sides, and on one
+module _ (i : ℕ) where
+  pub set-within : (a b : ℕ) → Within a b → Within (setBit i a) (setBit i b)
+  set-within a b w j t = go (ℕ-discrete j i)
+    where
+      go : Dec (j ≡ i) → T (bit j (setBit i b))
+      go (yes e) = subst⁻¹ (λ (x : ℕ). T (bit x (setBit i b))) e (set-here i b)
+      go (no e) = subst⁻¹ (λ (x : Bool). T x) (set-other i j b e) (w j (subst (λ (x : Bool). T x) (set-other i j a e) t))
+
+  pub within-set : (a b : ℕ) → Within a b → Within a (setBit i b)
+  within-set a b w j t = go (ℕ-discrete j i)
+    where
+      go : Dec (j ≡ i) → T (bit j (setBit i b))
+      go (yes e) = subst⁻¹ (λ (x : ℕ). T (bit x (setBit i b))) e (set-here i b)
+      go (no e) = subst⁻¹ (λ (x : Bool). T x) (set-other i j b e) (w j t)
 
 module _ (n care value free i a : ℕ) (k : Cube n care value) (f : Free n care free) (is : a ≡ 2 ^ i) (taken : T (bit i free)) where
   free-care : T (not (bit i care))
@@ -145,25 +161,11 @@ module _ (n care value free i a : ℕ) (k : Cube n care value) (f : Free n care 
   free-value : T (not (bit i value))
   free-value = not-T (bit i value) (λ t. T-not (bit i care) free-care (k .value-in i t))
 
-  set-within : {a b : ℕ} → Within a b → Within (setBit i a) (setBit i b)
-  set-within {a} {b} w j t = go (ℕ-discrete j i)
-    where
-      go : Dec (j ≡ i) → T (bit j (setBit i b))
-      go (yes e) = subst⁻¹ (λ (x : ℕ). T (bit x (setBit i b))) e (set-here i b)
-      go (no e) = subst⁻¹ (λ (x : Bool). T x) (set-other i j b e) (w j (subst (λ (x : Bool). T x) (set-other i j a e) t))
-
-  within-set : (b : ℕ) → Within b (setBit i b)
-  within-set b j t = go (ℕ-discrete j i)
-    where
-      go : Dec (j ≡ i) → T (bit j (setBit i b))
-      go (yes e) = subst⁻¹ (λ (x : ℕ). T (bit x (setBit i b))) e (set-here i b)
-      go (no e) = subst⁻¹ (λ (x : Bool). T x) (set-other i j b e) t
-
   low-half : Cube n (setBit i care) value
-  low-half = record { inputs = k .inputs; care-lt = set-lt i n care free-lt (k .care-lt); value-in = λ j t. within-set care j (k .value-in j t) }
+  low-half = record { inputs = k .inputs; care-lt = set-lt i n care free-lt (k .care-lt); value-in = within-set i value care (k .value-in) }
 
   high-half : Cube n (setBit i care) (setBit i value)
-  high-half = record { inputs = k .inputs; care-lt = set-lt i n care free-lt (k .care-lt); value-in = set-within (k .value-in) }
+  high-half = record { inputs = k .inputs; care-lt = set-lt i n care free-lt (k .care-lt); value-in = set-within i value care (k .value-in) }
 
   free-half : Free n (setBit i care) (free - a)
   free-half = omega (arith, set-adds i care free-care, bit-le i free taken, is, f)

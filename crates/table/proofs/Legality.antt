@@ -33,9 +33,6 @@ within-test a b w = subst⁻¹ (λ (x : ℕ). T (eqb x a)) same (eqb-refl a)
 pub test-within : (a b : ℕ) → T (eqb (bitAnd a b) a) → Within a b
 test-within a b t = and-within a b (eqb→eq (bitAnd a b) a t)
 
-pub cube-of : (n care value : ℕ) (r : Bool) → n ≤ 8 → care < 2 ^ n → r ≡ eqb (bitAnd value care) value → r ≡ true → Cube n care value
-cube-of n care value r l c e t = record { inputs = l; care-lt = c; value-in = test-within value care (subst (λ (b : Bool). T b) (sym t ∙ e) tt) }
-
 -- ---- well-formed
 
 module _ (n m : ℕ) (t : Term) where

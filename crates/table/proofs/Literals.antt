@@ -1,181 +1,146 @@
--- The prime of a cube, by its literals; the laws behind `droppable`, `some_droppable`, `prime_outputs` and `outputs_at`.
-use Prim.Native.Nat.{ℕ, zero, suc, _+_, _-_, _/_, _^_, _≤_, _<_}
+-- The prime of a cube, by its literals; the laws behind `droppable`, `some_droppable` and `prime_outputs`.
+use Prim.Native.Nat.{ℕ, suc, _+_, _-_, _^_, _<_}
 use native.Mathlib.Omega.{arith}
 use native.Mathlib.Nat.{pow-suc}
-use native.Mathlib.Decide.{ℕ-discrete}
-use mathlib.Core.Path.{_≡_, refl, sym, ap, ap₂, _∙_, subst, subst⁻¹}
-use mathlib.Core.Logic.{_≢_, _⊎_, inl, inr}
+use native.Mathlib.Decide.{decLt}
+use mathlib.Core.Path.{_≡_, refl, sym, ap, _∙_, subst, subst⁻¹}
 use mathlib.Core.Bool.{Bool, true, false, not, _&&_}
 use mathlib.Core.List.{List}
 use borrow.Author.Count.{below-more}
-use lib.Bits.{bitAnd, bitXor, differ, and-comm}
+use lib.Bits.{bitAnd}
 use lib.Dec.{T, eqb, ltb, eqb→eq, eqb-refl, T-not, not-T, lt→ltb}
+use lib.ListN.{getD}
 use Rattle.model.specs.Base.{bit}
 use Rattle.model.specs.Table.{Table, term}
 use Rattle.model.specs.Primes.{drives, prime}
 use Rattle.model.specs.Sets.{Within}
-use Rattle.model.proofs.Lists.{bool-ext, yes-or-no, and-l, and-r, and-i, T-true, T-false}
-use Rattle.model.proofs.Bits.{bit0-e, bit-le, bit-lt}
-use Rattle.model.proofs.Cubes.{bit-and, bits-ext, setBit, set-here, set-other}
-use Rattle.model.proofs.Drives.{drives-lt, drives-halves, Locally, prime-local, local-prime}
-use Rattle.table.specs.Cubes.{Allowed, Cube, Drives, droppable, TellsDroppable, SomeDroppable, PrimeOutputs}
-use Rattle.bits.specs.Bits.{digit}
-use Rattle.bits.proofs.Digits.{digit-lt, digit-xor, pow-here, digit-bit}
-use Rattle.bits.proofs.Members.{without-here, without-other}
-use Rattle.table.proofs.Halves.{set-adds}
+use Rattle.model.proofs.Lists.{bool-ext, and-l, and-r, and-i, T-true, T-false}
+use Rattle.model.proofs.Bits.{bit-lt}
+use Rattle.model.proofs.Cubes.{bit-and}
+use Rattle.model.proofs.Drives.{drives-lt, Locally, prime-local, local-prime}
+use Rattle.bits.specs.Bits.{Single}
+use Rattle.bits.proofs.Digits.{digit-bit}
+use Rattle.bits.proofs.Members.{has-bit, lacks-bit}
+use Rattle.table.specs.Cubes.{Cube}
+use Rattle.model.specs.Numbers.{cubeNumber}
+use Rattle.table.specs.Numbers.{Numbered}
+use Rattle.table.specs.Literals.{droppable, InTable, TellsDroppable, SomeDroppable, PrimeOutputs}
+use Rattle.table.proofs.BaseThree.{number-lt}
 use Rattle.table.proofs.Legality.{within-test, test-within}
 
--- ---- a cube and its neighbour across one literal
+-- ---- places in the table
 
--- numbers that have the same bits but for one, and that one too
-same-but : (i x y : ℕ) → ((j : ℕ) → j ≢ i → bit j x ≡ bit j y) → bit i x ≡ bit i y → x ≡ y
-same-but i x y f e = bits-ext x y (λ j. go j (ℕ-discrete j i))
-  where
-    go : (j : ℕ) → Dec (j ≡ i) → bit j x ≡ bit j y
-    go j (yes q) = subst⁻¹ (λ (z : ℕ). bit z x ≡ bit z y) q e
-    go j (no d) = f j d
+pub place-lt : (care value k : ℕ) → Cube 8 care value → k ≡ cubeNumber care value → k < 6561
+place-lt care value k q e = omega (arith, number-lt 8 care value q)
 
-flip-other : (i j s : ℕ) → j ≢ i → bit j (bitXor s (2 ^ i)) ≡ bit j s
-flip-other i j s d = bool-ext (bit j (bitXor s (2 ^ i))) (bit j s)
-    (λ t. digit-bit j s .1 (sym (without-other s i j d) ∙ digit-bit j (bitXor s (2 ^ i)) .0 t))
-    (λ t. digit-bit j (bitXor s (2 ^ i)) .1 (without-other s i j d ∙ digit-bit j s .0 t))
-
-flip-off : (i s : ℕ) → T (bit i s) → T (not (bit i (bitXor s (2 ^ i))))
-flip-off i s t = not-T (bit i (bitXor s (2 ^ i))) (λ u. without-here s i (digit-bit i s .0 t) (digit-bit i (bitXor s (2 ^ i)) .0 u))
-
-flip-on : (i s : ℕ) → T (not (bit i s)) → T (bit i (bitXor s (2 ^ i)))
-flip-on i s t =
-    let z : digit i s ≡ 0 = no-digit (digit-lt i s) (λ e. T-not (bit i s) t (digit-bit i s .1 e)) in
-    digit-bit i (bitXor s (2 ^ i)) .1 (digit-xor i s (2 ^ i) ∙ ap₂ differ z (pow-here i))
-  where
-    no-digit : {x : ℕ} → x < 2 → (x ≡ 1 → ⊥) → x ≡ 0
-    no-digit l f = omega arith
-
--- s without its bit i
-cleared : (i s : ℕ) → T (bit i s) → T (not (bit i (s - 2 ^ i)))
-cleared zero s t = not-T (bit 0 (s - 1)) (λ u. omega (arith, bit0-e s t, bit0-e (s - 1) u))
-cleared (suc i) s t =
-    let h : (s - 2 ^ suc i) / 2 ≡ s / 2 - 2 ^ i = omega (arith, pow-suc 2 i) in
-    subst⁻¹ (λ (x : ℕ). T (not (bit i x))) h (cleared i (s / 2) t)
-
-set-back : (i s : ℕ) → T (bit i s) → setBit i (s - 2 ^ i) ≡ s
-set-back i s t = set-adds i (s - 2 ^ i) (cleared i s t) ∙ omega (arith, bit-le i s t)
-
-module _ (p : Table) (care value i : ℕ) (inside : Within value care) (t : T (bit i care)) where
-  -- the cube without the literal
-  wide : ℕ
-  wide = bitAnd value (care - 2 ^ i)
-
-  wide-other : (j : ℕ) → j ≢ i → bit j wide ≡ bit j value
-  unfolding wide
-  wide-other j d =
-      bit-and j value (care - 2 ^ i) ∙ ap (λ (x : Bool). bit j value && x) (sym (set-other i j (care - 2 ^ i) d) ∙ ap (bit j) (set-back i care t)) ∙ both (bit j value) (bit j care) (inside j)
-    where
-      both : (x y : Bool) → (T x → T y) → (x && y) ≡ x
-      both true true h = refl
-      both true false h = absurd (h tt)
-      both false y h = refl
-
-  wide-here : T (not (bit i wide))
-  unfolding wide
-  wide-here = not-T (bit i wide) (λ u. T-not (bit i (care - 2 ^ i)) (cleared i care t) (and-r (bit i value) (bit i (care - 2 ^ i)) (subst (λ (x : Bool). T x) (bit-and i value (care - 2 ^ i)) u)))
-
-  wide-halves : drives p (care - 2 ^ i) wide ≡ bitAnd (drives p care wide) (drives p care (setBit i wide))
-  wide-halves = drives-halves p (care - 2 ^ i) wide i (cleared i care t) wide-here ∙ rw (set-back i care t)
-
-  set-wide : (x : ℕ) → ((j : ℕ) → j ≢ i → bit j x ≡ bit j value) → T (bit i x) → setBit i wide ≡ x
-  set-wide x f u = same-but i (setBit i wide) x (λ j d. set-other i j wide d ∙ wide-other j d ∙ sym (f j d)) (T-true {b = bit i (setBit i wide)} (set-here i wide) ∙ sym (T-true {b = bit i x} u))
-
-  wide-is : (x : ℕ) → ((j : ℕ) → j ≢ i → bit j x ≡ bit j value) → T (not (bit i x)) → wide ≡ x
-  wide-is x f u = same-but i wide x (λ j d. wide-other j d ∙ sym (f j d)) (T-false {b = bit i wide} wide-here ∙ sym (T-false {b = bit i x} u))
-
-  -- it may drive what the cube and its neighbour may drive
-  across-drives : drives p (care - 2 ^ i) (bitAnd value (care - 2 ^ i)) ≡ bitAnd (drives p care value) (drives p care (bitXor value (2 ^ i)))
-  unfolding wide
-  across-drives = go (yes-or-no (bit i value))
-    where
-      go : T (bit i value) ⊎ T (not (bit i value)) → drives p (care - 2 ^ i) wide ≡ bitAnd (drives p care value) (drives p care (bitXor value (2 ^ i)))
-      go (inl u) =
-          wide-halves ∙ ap₂ (λ (x y : ℕ). bitAnd (drives p care x) (drives p care y))
-          (wide-is (bitXor value (2 ^ i)) (λ j d. flip-other i j value d) (flip-off i value u)) (set-wide value (λ j d. refl) u)
-          ∙ and-comm (drives p care (bitXor value (2 ^ i))) (drives p care value)
-      go (inr u) = wide-halves ∙ ap₂ (λ (x y : ℕ). bitAnd (drives p care x) (drives p care y)) (wide-is value (λ j d. refl) u)
-          (set-wide (bitXor value (2 ^ i)) (λ j d. flip-other i j value d) (flip-on i value u))
+pub without-cube : (n care value w : ℕ) → Cube n care value → Cube n (care - w) (bitAnd value (care - w))
+without-cube n care value w k = record {
+  inputs = k .inputs;
+  care-lt = omega (arith, k .care-lt);
+  value-in = λ j u. and-r (bit j value) (bit j (care - w)) (subst (λ (x : Bool). T x) (bit-and j value (care - w)) u);
+}
 
 -- ---- one literal
 
-and-twice : (x y : ℕ) → bitAnd x (bitAnd x y) ≡ bitAnd x y
-and-twice x y = bits-ext (bitAnd x (bitAnd x y)) (bitAnd x y) (λ j. bit-and j x (bitAnd x y) ∙ ap (λ (b : Bool). bit j x && b) (bit-and j x y) ∙ go (bit j x) (bit j y) ∙ sym (bit-and j x y))
-  where
-    go : (a b : Bool) → (a && (a && b)) ≡ (a && b)
-    go true b = refl
-    go false b = refl
+module _ (care value w : ℕ) where
+  literal : (i : ℕ) → w ≡ 2 ^ i → (bitAnd care w ≡ 0 → ⊥) → T (bit i care)
+  literal i e d = digit-bit i care .1 (has-bit i w e care d)
 
-module _ (n care value i : ℕ) (k : Cube n care value) (b : Bool) (h : b ≡ bit i care) where
-  literal : b ≡ true → T (bit i care)
-  literal t = subst (λ (x : Bool). T x) (sym t ∙ h) tt
+  no-literal : (i : ℕ) → w ≡ 2 ^ i → bitAnd care w ≡ 0 → bit i care ≡ false
+  no-literal i e z = T-false {b = bit i care} (not-T (bit i care) (λ t. omega (arith, digit-bit i care .0 t, lacks-bit i w e care z)))
 
-  pub across-cube : (w : ℕ) → b ≡ true → w ≡ 2 ^ i → Cube n care (bitXor value w)
-  across-cube w t e = rw e (record { inputs = k .inputs; care-lt = k .care-lt; value-in = λ j u. go j u (ℕ-discrete j i) })
-    where
-      go : (j : ℕ) → T (bit j (bitXor value (2 ^ i))) → Dec (j ≡ i) → T (bit j care)
-      go j u (yes q) = subst⁻¹ (λ (x : ℕ). T (bit x care)) q (literal t)
-      go j u (no d) = k .value-in j (subst (λ (x : Bool). T x) (flip-other i j value d) u)
-
-  pub droppable-literal : (may : List ℕ) (w d outputs : ℕ) (r : Bool) → b ≡ true → w ≡ 2 ^ i → Drives may n care value outputs
-      → Drives may n care (bitXor value w) d → r ≡ eqb (bitAnd outputs d) outputs → TellsDroppable may n care value outputs i r
+  pub droppable-literal : (t : List ℕ) (m outputs : ℕ) (r : Bool) → (bitAnd care w ≡ 0 → ⊥) → m ≡ cubeNumber (care - w) (bitAnd value (care - w)) → r ≡ eqb (bitAnd outputs (getD t m 0)) outputs
+      → TellsDroppable t care value outputs w r
   unfolding droppable
-  droppable-literal may w d outputs r t e o f g p a =
-      let wider : bitAnd outputs (drives p (care - 2 ^ i) (bitAnd value (care - 2 ^ i))) ≡ bitAnd outputs d =
-      ap (bitAnd outputs) (across-drives p care value i (k .value-in) (literal t) ∙ ap₂ bitAnd (sym (o p a)) (ap (λ (x : ℕ). drives p care (bitXor value x)) (sym e) ∙ sym (f p a)))
-      ∙ and-twice outputs d in
-      g ∙ rw (wider, sym h ∙ t)
+  droppable-literal t m outputs r y g f p i a e =
+      let d : getD t m 0 ≡ drives p (care - 2 ^ i) (bitAnd value (care - 2 ^ i)) =
+      ap (λ (x : ℕ). getD t x 0) g
+      ∙ a .numbered .entries (care - w) (bitAnd value (care - w)) (without-cube (p .n) care value w (a .cube))
+      ∙ ap (λ (x : ℕ). drives p (care - x) (bitAnd value (care - x))) e in
+      f ∙ rw (d, T-true {b = bit i care} (literal i e y))
 
-  pub droppable-free : (may : List ℕ) (outputs : ℕ) → b ≡ false → TellsDroppable may n care value outputs i false
+  pub droppable-free : (t : List ℕ) (outputs : ℕ) → bitAnd care w ≡ 0 → TellsDroppable t care value outputs w false
   unfolding droppable
-  droppable-free may outputs f p a = rw (sym h ∙ f)
+  droppable-free t outputs z p i a e = rw (no-literal i e z)
+
+literal-of : (p : Table) (care value outputs k : ℕ) → T (droppable p care value outputs k) → T (bit k care)
+unfolding droppable
+literal-of p care value outputs k u =
+    let d : ℕ = drives p (care - 2 ^ k) (bitAnd value (care - 2 ^ k)) in
+    and-l (bit k care) (eqb (bitAnd outputs d) outputs) u
 
 -- ---- all literals
 
-module _ (may : List ℕ) (n care value outputs : ℕ) where
-  -- no input below i is droppable
-  abbrev pub NoneBelow : ℕ → Type 0
-  NoneBelow i = (p : Table) → Allowed p n may → (k : ℕ) → k < i → T (not (droppable p care value outputs k))
+suc-one : (i : ℕ) → suc i ≡ i + 1
+suc-one i = omega arith
 
-  pub none-yet : NoneBelow 0
-  none-yet p a k l = absurd (omega arith)
+module _ (t : List ℕ) (care value outputs : ℕ) where
+  -- w is the weight of an input, and no input of less weight is droppable
+  pub record NoneBelow (w : ℕ) : Type 0 where
+    pub input : ℕ
+    pub weight : w ≡ 2 ^ input
+    pub none : (p : Table) → InTable p t care value → (k : ℕ) → k < input → T (not (droppable p care value outputs k))
 
-  pub none-next : (i : ℕ) (r : Bool) → NoneBelow i → TellsDroppable may n care value outputs i r → r ≡ false → NoneBelow (i + 1)
-  none-next i r h d f p a = below-more (λ k. T (not (droppable p care value outputs k))) i (h p a) (subst (λ (x : Bool). T (not x)) (sym f ∙ d p a) tt)
+  pub none-single : (w : ℕ) → NoneBelow w → Single w
+  unfolding Single
+  none-single w h = (h .input, h .weight)
 
-  pub one-droppable : (i : ℕ) (r : Bool) → TellsDroppable may n care value outputs i r → r ≡ true → SomeDroppable may n care value outputs true
-  one-droppable i r d e p a = (i, subst (λ (x : Bool). T x) (sym e ∙ d p a) tt)
+  pub none-yet : NoneBelow 1
+  none-yet = record { input = 0; weight = refl; none = λ p a k l. absurd (omega arith) }
 
-  pub none-droppable : (i : ℕ) → n ≤ i → NoneBelow i → SomeDroppable may n care value outputs false
-  none-droppable i l h p a k s = h p a k (omega arith)
+  module _ (w : ℕ) (r : Bool) (h : NoneBelow w) (d : TellsDroppable t care value outputs w r) where
+    double : w + w ≡ 2 ^ suc (h .input)
+    double = omega (arith, h .weight, pow-suc 2 (h .input))
+
+    pub none-next : r ≡ false → NoneBelow (w + w)
+    none-next f = record {
+      input = h .input + 1;
+      weight = double ∙ ap (λ (x : ℕ). 2 ^ x) (suc-one (h .input));
+      none = λ p a. below-more (λ k. T (not (droppable p care value outputs k))) (h .input) (h .none p a) (subst (λ (x : Bool). T (not x)) (sym f ∙ d p (h .input) a (h .weight)) tt);
+    }
+
+    pub one-droppable : r ≡ true → SomeDroppable t care value outputs true
+    one-droppable e p a = (h .input, subst (λ (x : Bool). T x) (sym e ∙ d p (h .input) a (h .weight)) tt)
+
+  -- above care there is no literal
+  pub none-droppable : (w : ℕ) → care < w → NoneBelow w → SomeDroppable t care value outputs false
+  none-droppable w l h p a k = go (decLt k (h .input))
+    where
+      go : Dec (k < h .input) → T (not (droppable p care value outputs k))
+      go (yes b) = h .none p a k b
+      go (no b) = not-T (droppable p care value outputs k) (λ u. omega (arith, bit-lt k (h .input) care (literal-of p care value outputs k u) (omega (arith, h .weight))))
 
 -- ---- the cube's prime
 
-module _ (may : List ℕ) (n care value d : ℕ) (k : Cube n care value) (h : Drives may n care value d) where
+module _ (table : List ℕ) (n care value d : ℕ) (k : Cube n care value) (is : d ≡ getD table (cubeNumber care value) 0) where
+  h : (p : Table) → Numbered p n table → d ≡ drives p care value
+  h p a = is ∙ a .entries care value k
+
+  in-table : (p : Table) → Numbered p n table → InTable p table care value
+  in-table p a = record {
+    cube = subst⁻¹ (λ (x : ℕ). Cube x care value) (a .inputs) k;
+    numbered = subst⁻¹ (λ (x : ℕ). Numbered p x table) (a .inputs) a;
+  }
+
   never : (p : Table) (o : ℕ) → (T (prime p (term care value o)) → ⊥) → prime p (term care value o) ≡ (eqb o 0 && false)
   never p o f = bool-ext (prime p (term care value o)) (eqb o 0 && false) (λ t. absurd (f t)) (λ t. absurd (and-r (eqb o 0) false t))
 
-  outs : (p : Table) → Allowed p n may → (o : ℕ) → T (prime p (term care value o)) → o ≡ d
+  outs : (p : Table) → Numbered p n table → (o : ℕ) → T (prime p (term care value o)) → o ≡ d
   outs p a o t = prime-local p (term care value o) t .outs ∙ sym (h p a)
 
-  pub prime-nothing : d ≡ 0 → PrimeOutputs may n care value 0
+  pub prime-nothing : d ≡ 0 → PrimeOutputs table n care value 0
   prime-nothing z p a o = never p o (λ t. omega (arith, outs p a o t, prime-local p (term care value o) t .formed .outputs-pos))
 
-  pub prime-droppable : (r : Bool) → SomeDroppable may n care value d r → r ≡ true → PrimeOutputs may n care value 0
+  pub prime-droppable : (r : Bool) → SomeDroppable table care value d r → r ≡ true → PrimeOutputs table n care value 0
   unfolding droppable
   prime-droppable r s e p a o = never p o (λ t.
-      let q = subst (SomeDroppable may n care value d) e s p a in
+      let q = subst (SomeDroppable table care value d) e s p (in-table p a) in
       let w : ℕ = drives p (care - 2 ^ (q .0)) (bitAnd value (care - 2 ^ (q .0))) in
       let x = and-l (bit (q .0) care) (eqb (bitAnd d w) d) (q .1) in
       let y = and-r (bit (q .0) care) (eqb (bitAnd d w) d) (q .1) in
       prime-local p (term care value o) t .tight (q .0) x (subst⁻¹ (λ (z : ℕ). Within z w) (outs p a o t) (test-within d w y)))
 
-  pub prime-all : (r : Bool) → (d ≡ 0 → ⊥) → SomeDroppable may n care value d r → r ≡ false → PrimeOutputs may n care value d
+  pub prime-all : (r : Bool) → (d ≡ 0 → ⊥) → SomeDroppable table care value d r → r ≡ false → PrimeOutputs table n care value d
   unfolding droppable
   prime-all r z s e p a o = bool-ext (prime p (term care value o)) (eqb o d && ltb 0 d) to back
     where
@@ -196,14 +161,13 @@ module _ (may : List ℕ) (n care value d : ℕ) (k : Cube n care value) (h : Dr
         outs = h p a;
         tight = λ i b w.
             let v : ℕ = drives p (care - 2 ^ i) (bitAnd value (care - 2 ^ i)) in
-            T-not (bit i care && eqb (bitAnd d v) d) (subst (SomeDroppable may n care value d) e s p a i (bit-lt i n care b (k .care-lt)))
-            (and-i (bit i care) (eqb (bitAnd d v) d) b (within-test d v w));
+            T-not (bit i care && eqb (bitAnd d v) d) (subst (SomeDroppable table care value d) e s p (in-table p a) i) (and-i (bit i care) (eqb (bitAnd d v) d) b (within-test d v w));
       }
 
       back : T (eqb o d && ltb 0 d) → T (prime p (term care value o))
       back t = subst⁻¹ (λ (x : ℕ). T (prime p (term care value x))) (eqb→eq o d (and-l (eqb o d) (ltb 0 d) t)) (local-prime p (term care value d) locally)
 
-pub prime-outside : (may : List ℕ) (n care value : ℕ) (r : Bool) → r ≡ eqb (bitAnd value care) value → r ≡ false → PrimeOutputs may n care value 0
-prime-outside may n care value r e f p a o = bool-ext (prime p (term care value o)) (eqb o 0 && false)
-    (λ t. absurd (subst (λ (b : Bool). T b) (sym e ∙ f) (within-test value care (prime-local p (term care value o) t .formed .value-in))))
-    (λ t. absurd (and-r (eqb o 0) false t))
+pub prime-outside : (t : List ℕ) (n care value : ℕ) → (Within value care → ⊥) → PrimeOutputs t n care value 0
+prime-outside t n care value f p a o = bool-ext (prime p (term care value o)) (eqb o 0 && false)
+    (λ y. absurd (f (prime-local p (term care value o) y .formed .value-in)))
+    (λ y. absurd (and-r (eqb o 0) false y))

@@ -1,129 +1,153 @@
--- The list of primes as it grows; the laws behind `PrimeList::with`, `with_care` and `primes`.
-use Prim.Native.Nat.{ℕ, _+_, _^_, _≤_, _<_, min}
+-- The primes in the paper's order, cube by cube: what an array has of them. Walk has the loops.
+use Prim.Native.Nat.{ℕ, zero, suc, _+_, _^_, _≤_, _<_, min}
 use native.Mathlib.Omega.{arith}
-use mathlib.Core.Path.{_≡_, sym, _∙_, subst, subst⁻¹}
-use mathlib.Core.Bool.{Bool, true, and-true, and-false}
-use mathlib.Core.List.{List, [], _∷_, _++_, append-nil, append-assoc}
-use borrow.Author.Tests.{lt-ltb, le-ltb, ltb-true}
-use lib.Dec.{T, eqb, eqb-refl}
-use lib.ListN.{length, set, length-append}
+use mathlib.Core.Path.{_≡_, refl, sym, ap, _∙_, subst, subst⁻¹}
+use mathlib.Core.Bool.{Bool, true, false, and-true, and-false}
+use mathlib.Core.List.{List, [], _∷_, _++_, map, append-nil, append-assoc}
+use borrow.Author.Tests.{lt-ltb, le-ltb}
+use lib.Dec.{T, eqb, ltb, eqb-refl}
+use lib.ListN.{length, set, take, length-append, length-take}
+use lib.Seq.{take-all, take-append-le}
 use Rattle.model.specs.declared.Term.{Term}
 use Rattle.model.specs.Base.{below, filter}
 use Rattle.model.specs.Table.{Table, term}
 use Rattle.model.specs.Primes.{prime, primes, terms}
 use Rattle.model.proofs.Cubes.{Formed, legal-formed, prime-e}
+use Rattle.bits.specs.Lists.{Filled, parts, upTo}
+use Rattle.bits.proofs.Lists.{upTo-split, upTo-next, rest, passes-none, passes-one, filled-next}
 use Rattle.table.specs.declared.prime_list.PrimeList.{PrimeList}
-use Rattle.table.specs.Cubes.{Allowed, PrimeOutputs}
-use Rattle.bits.specs.Lists.{upTo}
-use Rattle.table.specs.Primes.{FirstTerms, Extends, ofCube, ofCare, ExtendsByCube, ExtendsByCare, ExtendsByCares, AllPrimes}
-use Rattle.bits.proofs.Lists.{upTo-split, upTo-next, rest, passes-none, passes-one, first-next, first-full, counts}
+use Rattle.table.specs.Numbers.{Numbered}
+use Rattle.table.specs.Literals.{PrimeOutputs}
+use Rattle.table.specs.Primes.{PrimesBy}
 
--- ---- one term more
+-- ---- the terms of a cube, and those of a care: the parts of `terms`
 
-module _ (a : PrimeList) (t : Term) where
-  pub with-room : a .count < 64 → Extends a (t ∷ []) (record { terms = set (a .terms) (a .count) t; count = a .count + 1; full = a .full })
-  with-room l xs h =
-      let n : a .count ≡ min 64 (length xs) = counts 64 (a .terms) (a .count) xs (h .stored) in
-      let m : length (xs ++ (t ∷ [])) ≡ length xs + 1 = length-append xs (t ∷ []) in
-      record {
-        stored = first-next 64 (a .terms) (a .count) xs (h .stored) t l;
-        more = h .more ∙ le-ltb 64 (length xs) (omega arith) ∙ sym (le-ltb 64 (length (xs ++ (t ∷ []))) (omega arith));
-      }
+abbrev ofCube : Table → ℕ → ℕ → List Term
+ofCube p care value = map (term care value) (below (2 ^ p .m))
 
-  pub with-full : 64 ≤ a .count → Extends a (t ∷ []) (record { terms = a .terms; count = a .count; full = true })
-  with-full l xs h =
-      let n : a .count ≡ min 64 (length xs) = counts 64 (a .terms) (a .count) xs (h .stored) in
-      let m : length (xs ++ (t ∷ [])) ≡ length xs + 1 = length-append xs (t ∷ []) in
-      record {
-        stored = first-full 64 (a .terms) (a .count) xs (h .stored) (t ∷ []) l;
-        more = sym (lt-ltb 64 (length (xs ++ (t ∷ []))) (omega arith));
-      }
+abbrev ofCare : Table → ℕ → List Term
+ofCare p care = parts (ofCube p care) (2 ^ p .n)
 
--- ---- lists one behind the other
+-- the primes of the cubes before care and value
+abbrev pub primesBefore : Table → ℕ → ℕ → List Term
+primesBefore p care value = upTo (prime p) (ofCare p) care ++ upTo (prime p) (ofCube p care) value
 
-pub extends-none : (a : PrimeList) (ts : List Term) → ts ≡ [] → Extends a ts a
-extends-none a ts e xs h = rw (e, append-nil) h
+-- ---- one cube: it has no prime, or one
 
-extends-both : (a b c : PrimeList) (ts us : List Term) → Extends a ts b → Extends b us c → Extends a (ts ++ us) c
-extends-both a b c ts us f g xs h = subst (λ (l : List Term). FirstTerms l c) (append-assoc xs ts us) (g (xs ++ ts) (f xs h))
+module _ (t : List ℕ) (n care value r : ℕ) (k : PrimeOutputs t n care value r) (p : Table) (h : Numbered p n t) where
+  cube-none : r ≡ 0 → filter (prime p) (ofCube p care value) ≡ []
+  cube-none e = passes-none (prime p) (term care value) (below (2 ^ p .m)) (λ o. k p h o ∙ rw (le-ltb 0 r (omega arith)) (and-false (eqb o r)))
 
--- a full list stays as it is, whatever comes
-extends-full : (a b : PrimeList) (ts us : List Term) → Extends a ts b → b .full ≡ true → Extends a (ts ++ us) b
-extends-full a b ts us f e xs h =
-    let k : FirstTerms (xs ++ ts) b = f xs h in
-    let l : 64 < length (xs ++ ts) = ltb-true 64 (length (xs ++ ts)) (sym (k .more) ∙ e) in
-    let m : b .count ≡ min 64 (length (xs ++ ts)) = counts 64 (b .terms) (b .count) (xs ++ ts) (k .stored) in
-    let n : length ((xs ++ ts) ++ us) ≡ length (xs ++ ts) + length us = length-append (xs ++ ts) us in
-    subst (λ (l : List Term). FirstTerms l b) (append-assoc xs ts us)
-    (record { stored = first-full 64 (b .terms) (b .count) (xs ++ ts) (k .stored) us (omega arith); more = e ∙ sym (lt-ltb 64 (length ((xs ++ ts) ++ us)) (omega arith)) })
-
--- ---- the primes of one cube: none, or one
-
-module _ (may : List ℕ) (n care value : ℕ) (a : PrimeList) where
-  formed-of : (p : Table) (o : ℕ) → T (prime p (term care value o)) → Formed p (term care value o)
-  formed-of p o t = legal-formed p (term care value o) (prime-e p (term care value o) t .0)
-
-  cube-none : (r : ℕ) → PrimeOutputs may n care value r → r ≡ 0 → ExtendsByCube may n care value a a
-  cube-none r k e p h = extends-none a _ (passes-none (prime p) (term care value) (below (2 ^ p .m)) (λ o. k p h o ∙ rw (le-ltb 0 r (omega arith)) (and-false (eqb o r))))
-
-  cube-one : (r : ℕ) (b : PrimeList) → PrimeOutputs may n care value r → (r ≡ 0 → ⊥) → Extends a (term care value r ∷ []) b → ExtendsByCube may n care value a b
-  cube-one r b k d x p h = subst⁻¹ (λ (l : List Term). Extends a l b) (passes-one (prime p) (term care value) r only (2 ^ p .m) small) x
+  cube-one : (r ≡ 0 → ⊥) → filter (prime p) (ofCube p care value) ≡ term care value r ∷ []
+  cube-one d = passes-one (prime p) (term care value) r only (2 ^ p .m) small
     where
       only : (o : ℕ) → prime p (term care value o) ≡ eqb o r
       only o = k p h o ∙ rw (lt-ltb 0 r (omega arith)) (and-true (eqb o r))
 
+      formed : Formed p (term care value r)
+      formed = legal-formed p (term care value r) (prime-e p (term care value r) (subst⁻¹ (λ (b : Bool). T b) (only r) (eqb-refl r)) .0)
+
       small : r < 2 ^ p .m
-      small = formed-of p r (subst⁻¹ (λ (b : Bool). T b) (only r) (eqb-refl r)) .outputs-lt
+      small = formed .outputs-lt
 
--- ---- part by part
+-- ---- one cube more, and one care more
 
-module _ (f : Term → Bool) (part : ℕ → List Term) (k : ℕ) (a b c : PrimeList) (x : Extends a (upTo f part k) b) (y : Extends b (filter f (part k)) c) where
-  part-next : Extends a (upTo f part (k + 1)) c
-  part-next = subst⁻¹ (λ (l : List Term). Extends a l c) (upTo-next f part k) (extends-both a b c (upTo f part k) (filter f (part k)) x y)
+before-next : (p : Table) (care value : ℕ) → primesBefore p care (value + 1) ≡ primesBefore p care value ++ filter (prime p) (ofCube p care value)
+before-next p care value =
+    ap (λ (l : List Term). upTo (prime p) (ofCare p) care ++ l) (upTo-next (prime p) (ofCube p care) value)
+    ∙ sym (append-assoc (upTo (prime p) (ofCare p) care) (upTo (prime p) (ofCube p care) value) (filter (prime p) (ofCube p care value)))
 
-  part-full : (s : ℕ) → c .full ≡ true → k < s → Extends a (upTo f part s) c
-  part-full s e l = subst⁻¹ (λ (l : List Term). Extends a l c) (upTo-split f part (k + 1) s (omega arith)) (extends-full a c (upTo f part (k + 1)) (rest f part (k + 1) s) part-next e)
+before-care : (p : Table) (care : ℕ) → primesBefore p (care + 1) 0 ≡ primesBefore p care (2 ^ p .n)
+before-care p care = append-nil (upTo (prime p) (ofCare p) (care + 1)) ∙ upTo-next (prime p) (ofCare p) care
 
--- ---- value by value
+-- the primes of all cares
+before-all : (p : Table) → primesBefore p (2 ^ p .n) 0 ≡ primes p
+unfolding primes terms
+before-all p = append-nil (upTo (prime p) (ofCare p) (2 ^ p .n))
 
-module _ (may : List ℕ) (n care : ℕ) (a : PrimeList) where
-  care-next : (k : ℕ) (b c : PrimeList) → ExtendsByCare may n care k a b → ExtendsByCube may n care k b c → ExtendsByCare may n care (k + 1) a c
-  care-next k b c x y p h = part-next (prime p) (ofCube p care) k a b c (x p h) (y p h)
+-- the primes of the cubes from care and value on
+after : Table → ℕ → ℕ → List Term
+after p care value = rest (prime p) (ofCube p care) value (2 ^ p .n) ++ rest (prime p) (ofCare p) (care + 1) (2 ^ p .n)
 
-  -- a value without a prime, and one with
-  pub care-none : (k r : ℕ) (b c : PrimeList) → ExtendsByCare may n care k a b → PrimeOutputs may n care k r → r ≡ 0 → c ≡ b → ExtendsByCare may n care (k + 1) a c
-  care-none k r b c x o z e = subst⁻¹ (ExtendsByCare may n care (k + 1) a) e (care-next k b b x (cube-none may n care k b r o z))
+before-after : (p : Table) (care value : ℕ) → care < 2 ^ p .n → value ≤ 2 ^ p .n → primes p ≡ primesBefore p care value ++ after p care value
+unfolding primes terms after
+before-after p care value l h =
+    let a : List Term = upTo (prime p) (ofCare p) care in
+    let b : List Term = upTo (prime p) (ofCube p care) value in
+    let c : List Term = rest (prime p) (ofCube p care) value (2 ^ p .n) in
+    let d : List Term = rest (prime p) (ofCare p) (care + 1) (2 ^ p .n) in
+    upTo-split (prime p) (ofCare p) (care + 1) (2 ^ p .n) (omega arith)
+    ∙ ap (λ (x : List Term). x ++ d) (upTo-next (prime p) (ofCare p) care ∙ ap (λ (x : List Term). a ++ x) (upTo-split (prime p) (ofCube p care) value (2 ^ p .n) h) ∙ sym (append-assoc a b c))
+    ∙ append-assoc (a ++ b) c d
 
-  pub care-one : (k r : ℕ) (b c d : PrimeList) → ExtendsByCare may n care k a b → PrimeOutputs may n care k r → (r ≡ 0 → ⊥)
-      → Extends b (term care k r ∷ []) c → d ≡ c → ExtendsByCare may n care (k + 1) a d
-  care-one k r b c d x o z y e = subst⁻¹ (ExtendsByCare may n care (k + 1) a) e (care-next k b c x (cube-one may n care k b r c o z y))
+-- ---- the array of those found
 
-  pub care-full : (k s r : ℕ) (b c : PrimeList) → s ≡ 2 ^ n → k < s → ExtendsByCare may n care k a b → PrimeOutputs may n care k r → (r ≡ 0 → ⊥)
-      → Extends b (term care k r ∷ []) c → c .full ≡ true → ExtendsByCare may n care (2 ^ n) a c
-  care-full k s r b c e l x o z y f p h = part-full (prime p) (ofCube p care) k a b c (x p h) (cube-one may n care k b r c o z y p h) (2 ^ n) f (omega arith)
+-- it has the primes of the cubes before care and value
+abbrev pub Held : List ℕ → ℕ → ℕ → ℕ → List Term → ℕ → Type 0
+Held t n care value ts count = (p : Table) → Numbered p n t → Filled 64 (primesBefore p care value) ts count
 
-  pub care-all : (k s : ℕ) (b : PrimeList) → s ≡ 2 ^ n → s ≤ k → k ≤ s → ExtendsByCare may n care k a b → ExtendsByCare may n care (2 ^ n) a b
-  care-all k s b e l g x =
-      let i : k ≡ 2 ^ n = omega arith in
-      subst (λ (j : ℕ). ExtendsByCare may n care j a b) i x
+pub held-first : (t : List ℕ) (n : ℕ) (ts : List Term) (count : ℕ) → Filled 64 [] ts count → Held t n 0 0 ts count
+held-first t n ts count f p h = f
 
--- ---- care by care
+module _ (t : List ℕ) (n care : ℕ) (ts : List Term) (count : ℕ) where
+  held-none : (value r : ℕ) → Held t n care value ts count → PrimeOutputs t n care value r → r ≡ 0 → Held t n care (value + 1) ts count
+  held-none value r f k e p h =
+      let same : primesBefore p care (value + 1) ≡ primesBefore p care value =
+      before-next p care value ∙ ap (λ (l : List Term). primesBefore p care value ++ l) (cube-none t n care value r k p h e) ∙ append-nil (primesBefore p care value) in
+      subst⁻¹ (λ (l : List Term). Filled 64 l ts count) same (f p h)
 
-module _ (may : List ℕ) (n : ℕ) (a : PrimeList) where
-  whole-care : (k : ℕ) (b c : PrimeList) → ExtendsByCare may n k (2 ^ n) b c → (p : Table) → Allowed p n may → Extends b (filter (prime p) (ofCare p k)) c
-  whole-care k b c y p h = subst⁻¹ (λ (j : ℕ). Extends b (upTo (prime p) (ofCube p k) (2 ^ j)) c) (h .inputs) (y p h)
+  pub held-one : (value r : ℕ) → Held t n care value ts count → PrimeOutputs t n care value r → (r ≡ 0 → ⊥) → count < 64 → Held t n care (value + 1) (set ts count (term care value r)) (count + 1)
+  held-one value r f k d l p h =
+      let same : primesBefore p care (value + 1) ≡ primesBefore p care value ++ (term care value r ∷ []) =
+      before-next p care value ∙ ap (λ (l : List Term). primesBefore p care value ++ l) (cube-one t n care value r k p h d) in
+      subst⁻¹ (λ (l : List Term). Filled 64 l (set ts count (term care value r)) (count + 1)) same (filled-next 64 ts count (primesBefore p care value) (term care value r) (f p h) l)
 
-  pub cares-next : (k : ℕ) (b c : PrimeList) → ExtendsByCares may n k a b → ExtendsByCare may n k (2 ^ n) b c → ExtendsByCares may n (k + 1) a c
-  cares-next k b c x y p h = part-next (prime p) (ofCare p) k a b c (x p h) (whole-care k b c y p h)
+  -- values without primes
+  pub held-past : (d value : ℕ) → ((w : ℕ) → value ≤ w → w < value + d → PrimeOutputs t n care w 0) → Held t n care value ts count → Held t n care (value + d) ts count
+  held-past zero value f x =
+      let e : value ≡ value + 0 = omega arith in
+      subst (λ (j : ℕ). Held t n care j ts count) e x
+  held-past (suc d) value f x =
+      let e : value + 1 + d ≡ value + suc d = omega arith in
+      subst (λ (j : ℕ). Held t n care j ts count) e
+      (held-past d (value + 1) (λ w l m. f w (omega arith) (omega arith)) (held-none value 0 x (f value (omega arith) (omega arith)) refl))
 
-  all-of : (b : PrimeList) → FirstTerms [] a → ExtendsByCares may n (2 ^ n) a b → AllPrimes may n b
-  unfolding primes terms
-  all-of b z x p h = subst⁻¹ (λ (j : ℕ). FirstTerms (upTo (prime p) (ofCare p) (2 ^ j)) b) (h .inputs) (x p h [] z)
+  pub held-care : Held t n care (2 ^ n) ts count → Held t n (care + 1) 0 ts count
+  held-care f p h =
+      let same : primesBefore p (care + 1) 0 ≡ primesBefore p care (2 ^ n) = before-care p care ∙ ap (λ (k : ℕ). primesBefore p care (2 ^ k)) (h .inputs) in
+      subst⁻¹ (λ (l : List Term). Filled 64 l ts count) same (f p h)
 
-  pub primes-full : (k s : ℕ) (b c : PrimeList) → FirstTerms [] a → s ≡ 2 ^ n → k < s → ExtendsByCares may n k a b → ExtendsByCare may n k (2 ^ n) b c → c .full ≡ true → AllPrimes may n c
-  primes-full k s b c z e l x y f = all-of c z (λ p h. part-full (prime p) (ofCare p) k a b c (x p h) (whole-care k b c y p h) (2 ^ n) f (omega arith))
+  -- ---- the end: all cubes are passed, or a 65th prime comes
 
-  pub primes-all : (k s : ℕ) (b : PrimeList) → FirstTerms [] a → s ≡ 2 ^ n → s ≤ k → k ≤ s → ExtendsByCares may n k a b → AllPrimes may n b
-  primes-all k s b z e l g x =
-      let i : k ≡ 2 ^ n = omega arith in
-      all-of b z (subst (λ (j : ℕ). ExtendsByCares may n j a b) i x)
+  counted : {xs : List Term} → Filled 64 xs ts count → (length xs ≡ count) × (count ≤ 64)
+  counted {xs} f =
+      let l : length (take count ts) ≡ min count (length ts) = length-take count ts in
+      let s : length (take count ts) ≡ length xs = ap length (f .same) in
+      (sym (f .counted), omega (arith, f .counted, f .size))
+
+  pub held-full : (value r : ℕ) → care < 2 ^ n → value < 2 ^ n → Held t n care value ts count → PrimeOutputs t n care value r → (r ≡ 0 → ⊥)
+      → count ≡ 64 → PrimesBy t n (record { terms = ts; count = count; full = true })
+  held-full value r l v f k d e p h =
+      let before : List Term = primesBefore p care value in
+      let behind : List Term = (term care value r ∷ []) ++ after p care (value + 1) in
+      let all : primes p ≡ before ++ behind =
+      before-after p care (value + 1) (subst⁻¹ (λ (x : ℕ). care < 2 ^ x) (h .inputs) l) (omega (arith, subst⁻¹ (λ (x : ℕ). value < 2 ^ x) (h .inputs) v))
+      ∙ ap (λ (x : List Term). x ++ after p care (value + 1)) (before-next p care value ∙ ap (λ (x : List Term). before ++ x) (cube-one t n care value r k p h d))
+      ∙ append-assoc before (term care value r ∷ []) (after p care (value + 1)) in
+      let c = counted (f p h) in
+      let m : length (before ++ behind) ≡ length before + length behind = length-append before behind in
+      let first : take 64 (primes p) ≡ before = ap (take 64) all ∙ take-append-le 64 before behind (omega (arith, c)) ∙ take-all 64 before (omega (arith, c)) in
+      record {
+        stored = subst⁻¹ (λ (x : List Term). Filled 64 x ts count) first (f p h);
+        more = sym (ap (λ (x : List Term). ltb 64 (length x)) all ∙ lt-ltb 64 (length (before ++ behind)) (omega (arith, c)));
+      }
+
+pub held-all : (t : List ℕ) (n : ℕ) (list : PrimeList) → list .full ≡ false → Held t n (2 ^ n) 0 (list .terms) (list .count) → PrimesBy t n list
+held-all t n list o f p h =
+    let same : primesBefore p (2 ^ n) 0 ≡ primes p = ap (λ (k : ℕ). primesBefore p (2 ^ k) 0) (sym (h .inputs)) ∙ before-all p in
+    let g : Filled 64 (primes p) (list .terms) (list .count) = subst (λ (l : List Term). Filled 64 l (list .terms) (list .count)) same (f p h) in
+    let c = counted t n 0 (list .terms) (list .count) g in
+    record {
+      stored = subst⁻¹ (λ (l : List Term). Filled 64 l (list .terms) (list .count)) (take-all 64 (primes p) (omega (arith, c))) g;
+      more = o ∙ sym (le-ltb 64 (length (primes p)) (omega (arith, c)));
+    }

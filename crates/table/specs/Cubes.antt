@@ -1,15 +1,13 @@
 -- What the contracts on cubes cite.
-use Prim.Native.Nat.{ℕ, _+_, _-_, _^_, _≤_, _<_}
+use Prim.Native.Nat.{ℕ, _+_, _^_, _≤_, _<_}
 use mathlib.Core.Path.{_≡_}
-use mathlib.Core.Bool.{Bool, true, false, not, _&&_}
+use mathlib.Core.Bool.{Bool}
 use mathlib.Core.List.{List}
-use lib.Bits.{bitAnd, bitOr}
-use lib.Dec.{T, eqb, ltb}
+use lib.Bits.{bitOr}
 use lib.ListN.{getD}
-use Rattle.model.specs.Base.{bit}
 use Rattle.model.specs.declared.Term.{Term}
-use Rattle.model.specs.Table.{Table, term, formed, holdsNoOff}
-use Rattle.model.specs.Primes.{drives, prime}
+use Rattle.model.specs.Table.{Table, formed, holdsNoOff}
+use Rattle.model.specs.Primes.{drives}
 use Rattle.model.specs.Sets.{Within}
 
 -- may is on | dc of table p at each vertex; p has n inputs
@@ -55,21 +53,3 @@ TellsFormed n m t r = (p : Table) → p .n ≡ n → p .m ≡ m → r ≡ formed
 -- r tells whether t holds no off cell (refusal 10 does not apply)
 abbrev pub TellsNoOff : List ℕ → ℕ → Term → Bool → Type 0
 TellsNoOff may n t r = (p : Table) → Allowed p n may → t .outputs < 2 ^ p .m → r ≡ holdsNoOff p t
-
--- input i is a literal of the cube, and the cube without it may drive the outputs
-unfoldable pub droppable : Table → ℕ → ℕ → ℕ → ℕ → Bool
-droppable p care value outputs i =
-    let d = drives p (care - 2 ^ i) (bitAnd value (care - 2 ^ i)) in
-    bit i care && eqb (bitAnd outputs d) outputs
-
-abbrev pub TellsDroppable : List ℕ → ℕ → ℕ → ℕ → ℕ → ℕ → Bool → Type 0
-TellsDroppable may n care value outputs i r = (p : Table) → Allowed p n may → r ≡ droppable p care value outputs i
-
--- the answer tells whether one of n inputs is droppable
-abbrev pub SomeDroppable : List ℕ → ℕ → ℕ → ℕ → ℕ → Bool → Type 0
-SomeDroppable may n care value outputs true = (p : Table) → Allowed p n may → (i : ℕ) × T (droppable p care value outputs i)
-SomeDroppable may n care value outputs false = (p : Table) → Allowed p n may → (i : ℕ) → i < n → T (not (droppable p care value outputs i))
-
--- the cube's prime is the one with outputs r; where r is 0 it has none
-abbrev pub PrimeOutputs : List ℕ → ℕ → ℕ → ℕ → ℕ → Type 0
-PrimeOutputs may n care value r = (p : Table) → Allowed p n may → (o : ℕ) → prime p (term care value o) ≡ (eqb o r && ltb 0 r)

@@ -1,4 +1,4 @@
-// What a cube may drive: by its two halves, as long as an input is free.
+// What one cube may drive, for a term: by its two halves, as long as an input is free.
 ghost use mathlib.Core.Path.{_≡_};
 ghost use Prim.Native.Nat.{_^_, _≤_, _<_};
 ghost use lib.Bits.{bitAnd};

@@ -1,65 +1,71 @@
 // Which cubes are primes: a prime drives all that its cube may drive, and can drop no literal.
-ghost use Prim.Native.Nat.{_^_, _≤_, _<_};
-ghost use Rattle.table.specs.Cubes.{Cube, Drives, TellsDroppable, SomeDroppable, PrimeOutputs};
-use crate::cubes;
+ghost use Prim.Native.Nat.{_≤_};
+ghost use Rattle.bits.specs.Bits.{Single};
+ghost use Rattle.table.specs.Cubes.{Cube};
+ghost use Rattle.table.specs.Numbers.{Spreads};
+ghost use Rattle.table.specs.Literals.{TellsDroppable, SomeDroppable, CubePrime};
+use crate::numbers;
 use bits::byte;
 
-// Whether input i is a literal of the cube, and the cube without it may still drive the outputs. The cube itself may drive them,
-// so only its neighbour across the literal is looked at.
-fn droppable(may: &[u8; 256], n: u8, care: u8, value: u8, outputs: u8, i: u8) -> bool
-    requires { ⌜ Cube n care value ⌝ }
-    requires { ⌜ Drives (now may) n care value outputs ⌝ }
-    requires { ⌜ i < n ⌝ }
-    ensures { λ r. ⌜ TellsDroppable (now (may .entry)) n care value outputs i r ⌝ }
+// Whether the input of weight `bit` is a literal of the cube, and the cube without it may still drive the outputs.
+fn droppable(
+    spreads: &[u16; 256],
+    table: &[u8; 6561],
+    care: usize,
+    value: usize,
+    outputs: u8,
+    bit: usize,
+) -> bool
+    requires { ⌜ Spreads (now spreads) ⌝ }
+    requires { ⌜ Cube 8 care value ⌝ }
+    requires { ⌜ Single bit × (bit ≤ care) ⌝ }
+    ensures { λ r. ⌜ TellsDroppable (now (table .entry)) care value outputs bit r ⌝ }
 {
-    if byte::has(care, i) {
-        let across = value ^ byte::power(i);
-        byte::within(outputs, cubes::drives(may, n, care, across))
+    if care & bit != 0 {
+        let rest = care - bit;
+        let k = numbers::number(spreads, rest, value & rest);
+        byte::within(outputs, table[k])
     } else {
         false
     }
 }
 
-// Whether some literal of the cube is droppable. One at a time is enough: a cube with fewer literals may drive less.
-fn some_droppable(may: &[u8; 256], n: u8, care: u8, value: u8, outputs: u8) -> bool
-    requires { ⌜ Cube n care value ⌝ }
-    requires { ⌜ Drives (now may) n care value outputs ⌝ }
-    ensures { λ r. ⌜ SomeDroppable (now (may .entry)) n care value outputs r ⌝ }
+// Whether some literal of the cube is droppable. One at a time is enough: a cube with fewer literals may drive no more.
+fn some_droppable(
+    spreads: &[u16; 256],
+    table: &[u8; 6561],
+    care: usize,
+    value: usize,
+    outputs: u8,
+) -> bool
+    requires { ⌜ Spreads (now spreads) ⌝ }
+    requires { ⌜ Cube 8 care value ⌝ }
+    ensures { λ r. ⌜ SomeDroppable (now (table .entry)) care value outputs r ⌝ }
 {
-    let mut i: u8 = 0;
-    while i < n {
-        if droppable(may, n, care, value, outputs, i) {
+    let mut bit: usize = 1;
+    while bit <= care {
+        if droppable(spreads, table, care, value, outputs, bit) {
             return true;
         }
-        i += 1;
+        bit += bit;
     }
     false
 }
 
 // The outputs of the cube's prime: all that it may drive, where that is some and each literal is needed for it; else 0.
-fn prime_outputs(may: &[u8; 256], n: u8, care: u8, value: u8) -> u8
-    requires { ⌜ Cube n care value ⌝ }
-    ensures { λ r. ⌜ PrimeOutputs (now (may .entry)) n care value r ⌝ }
+pub fn prime_outputs(spreads: &[u16; 256], table: &[u8; 6561], care: usize, value: usize) -> u8
+    requires { ⌜ Spreads (now spreads) ⌝ }
+    requires { ⌜ Cube 8 care value ⌝ }
+    ensures { λ r. ⌜ CubePrime (now (table .entry)) care value r ⌝ }
 {
-    let outputs = cubes::drives(may, n, care, value);
+    let k = numbers::number(spreads, care, value);
+    let outputs = table[k];
     if outputs == 0 {
         return 0;
     }
-    if some_droppable(may, n, care, value, outputs) {
+    if some_droppable(spreads, table, care, value, outputs) {
         0
     } else {
         outputs
-    }
-}
-
-// The same for any value: 0 too where the value has a bit that care has not.
-pub fn outputs_at(may: &[u8; 256], n: u8, care: u8, value: u8) -> u8
-    requires { ⌜ (n ≤ 8) × (care < 2 ^ n) ⌝ }
-    ensures { λ r. ⌜ PrimeOutputs (now (may .entry)) n care value r ⌝ }
-{
-    if byte::within(value, care) {
-        prime_outputs(may, n, care, value)
-    } else {
-        0
     }
 }
