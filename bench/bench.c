@@ -15,7 +15,7 @@
  * Then the stack that a call of cover_job uses, over all jobs, and the times of jobs of 32,768 bytes that ask L all
  * along, or A, L and D in turn (long_job.h). -m prints the jobs as a markdown table, -c writes the times to a file as
  * CSV. The last line sums up. -a runs every job once in both engines, compares the answers and measures nothing; so it
- * does for the jobs at other prices, by W, and for drawn ones with W (priced_job.h).
+ * does for the jobs at other prices, by W, and for drawn ones with W (priced_job.h) and with P (prime_job.h).
  *
  * A job with a command that the other engine does not know (the plain C engine: one that is not of paper 01, K2, K3 or
  * K6) is newer than that engine, and is left out.
@@ -42,6 +42,7 @@
 #include "other.h"
 #include "price_list.h"
 #include "priced_job.h"
+#include "prime_job.h"
 
 enum { MOST_JOBS = 4096, MOST_QUERIES = 64 };
 enum { DRAWN = 400 }; /* drawn jobs with W that are compared */
@@ -158,13 +159,6 @@ static void finish(pid_t child)
 
 static bool both_ended(const Pair *p) { return p->ended[0] && p->ended[1]; }
 
-/* The other engine stopped at a command that it need not know, and the engine did not. */
-static bool is_newer(const Job *job, uint64_t outcome, uint64_t other)
-{
-    bool stopped = cover_number(other) == COVER_NO_COMMAND && cover_number(outcome) != COVER_NO_COMMAND;
-    return stopped && !must_know(job->bytes[cover_offset(other)]);
-}
-
 /* What the two children say of a job. */
 static void judge(Pair *p, const Job *job)
 {
@@ -174,7 +168,7 @@ static void judge(Pair *p, const Job *job)
     if (!both_ended(p))
         return;
     uint64_t outcome = shared[0]->outcome, other = shared[1]->outcome;
-    p->newer = is_newer(job, outcome, other);
+    p->newer = is_newer(job->bytes, outcome, other);
     p->ended[1] = !p->newer;
     p->differ |= !p->newer && (outcome != other || memcmp(shared[0]->answers, shared[1]->answers, LONGEST) != 0);
 }
@@ -530,6 +524,10 @@ static void run_drawn_answers(void)
     for (uint64_t seed = 1; seed <= DRAWN; seed++) {
         priced_job(&job, seed);
         run_answers(&job, "a drawn job with W");
+    }
+    for (unsigned number = 0; number < PRIME_JOBS; number++) {
+        prime_job(&job, number);
+        run_answers(&job, "a drawn job with P");
     }
 }
 

@@ -10,6 +10,8 @@
 #include <stdint.h>
 #include <string.h>
 
+#include "covers.h"
+
 #ifdef FORMER
 
 #define OTHER "former"
@@ -35,5 +37,12 @@ static inline void clear_nodes(void) { baseline_nodes = (BaselineNodes){0, 0}; }
 static inline uint64_t counted_nodes(void) { return baseline_nodes.pages + baseline_nodes.cheapest; }
 
 #endif
+
+/* The other engine stopped at a command that it need not know, and the engine did not. */
+static inline bool is_newer(const uint8_t *job, uint64_t outcome, uint64_t other)
+{
+    bool stopped = cover_number(other) == COVER_NO_COMMAND && cover_number(outcome) != COVER_NO_COMMAND;
+    return stopped && !must_know(job[cover_offset(other)]);
+}
 
 #endif

@@ -7,7 +7,7 @@
 #include "long_job.h"
 #include "price_list.h"
 
-static unsigned below(Table *t, unsigned count) { return (unsigned)(drawn(&t->state) >> 33) % count; }
+static unsigned below(Table *t, unsigned count) { return drawn_below(&t->state, count); }
 
 /* Often at the borders, where many costs are alike. */
 static uint8_t drawn_price(Table *t)

@@ -10,8 +10,9 @@
 //! 3. `generate/sound.rs` (settings, candidates), `generate/tables.rs` (rows),
 //!    `generate/changes.rs` (candidates that come and go) or `generate/queries.rs`: where a sound
 //!    job has it;
-//! 4. `generate/purpose.rs` (`purpose_changes.rs` for A and D, `purpose_blocks.rs` for B and
-//!    `purpose_prices.rs` for W): its borders, in every run; `selftest.rs`: the paper's cases;
+//! 4. `generate/purpose.rs` (`purpose_changes.rs` for A and D, `purpose_blocks.rs` for B,
+//!    `purpose_prices.rs` for W and `purpose_cubes.rs` for P): its borders, in every run;
+//!    `selftest.rs`: the paper's cases;
 //! 5. `fresh.rs`: whether a fresh job with the same table has it, and which pages go on behind it;
 //! 6. `expanded.rs`: what it is written out as, where it stands for other commands as B does;
 //! 7. `walk.rs`: what it makes of prices, table and candidates, and how long its answer is;

@@ -4,6 +4,7 @@
 //! the engine gets it (for an engine that does not come back).
 
 mod charged;
+mod cubes;
 mod dump;
 mod engine;
 mod exact;
@@ -31,7 +32,7 @@ use std::time::{Duration, Instant};
 use tally::Tally;
 
 const SEED: u64 = 20_240_229;
-const COUNT: usize = 34_000;
+const COUNT: usize = 37_300;
 /// Each case of this stride is asked twice and, with no more room than this, kept for the threads.
 const STRIDE: usize = 50;
 const MOST_ROOM_KEPT: usize = 1_000;
@@ -202,12 +203,13 @@ fn one(run: &mut Run, case: &Case, turn: usize) -> bool {
     true
 }
 
-/// What K3, document 000 and K6 say of an outcome on which engine and reference agree.
+/// What K3, document 000, K6 and K7 say of an outcome on which engine and reference agree.
 fn as_promised(run: &mut Run, case: &Case, before: &[u8], expected: &Outcome) -> bool {
     as_by_rows(run, case, before, expected)
         && as_by_points(run, case, before, expected)
         && as_by_prices(run, case, before, expected)
         && as_at_other_prices(run, case, before, expected)
+        && as_by_cubes(run, case, before, expected)
 }
 
 /// False when the engine does not keep what K3 promises of a job with B.
@@ -265,6 +267,21 @@ fn as_at_other_prices(run: &mut Run, case: &Case, before: &[u8], expected: &Outc
             println!("MISMATCH: {wrong}");
             report_wrong(case, before, |case, outcome| {
                 listing::check(case, before, outcome).is_err()
+            });
+            return false;
+        }
+    }
+    true
+}
+
+/// False when the answer to P is not what K7's table gives.
+fn as_by_cubes(run: &mut Run, case: &Case, before: &[u8], expected: &Outcome) -> bool {
+    match cubes::check(&case.job, expected) {
+        Ok(held) => held.iter().for_each(|held| run.tally.add_primes(held)),
+        Err(wrong) => {
+            println!("MISMATCH: {wrong}");
+            report_wrong(case, before, |case, outcome| {
+                cubes::check(&case.job, outcome).is_err()
             });
             return false;
         }

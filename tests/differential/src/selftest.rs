@@ -2,6 +2,7 @@
 
 mod blocks;
 mod changes;
+mod cubes;
 mod drawn;
 mod presence;
 mod prices;
@@ -173,6 +174,7 @@ pub fn run(rng: &mut Rng) -> Checks {
     presence::run(&mut checks);
     records::run(&mut checks);
     prices::run(&mut checks, rng);
+    cubes::run(&mut checks, rng);
     drawn::run(&mut checks, rng);
     checks
 }

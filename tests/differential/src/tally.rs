@@ -1,16 +1,18 @@
 //! What a run has met: how often each number came, what became of each command, what was held to
-//! the promises of K2, K3 and K6 and to document 000, what the records showed, and, at each C of
+//! the promises of K2, K3, K6, K7 and to document 000, what the records showed, and, at each C of
 //! the drawn jobs, how often K1 and the prices changed cost or set of the cheapest and how often
 //! the cost was held to the rival's. A run fails where one of these never came. The jobs made on
 //! purpose do not count for L and C, nor for the rows of B and for W: the marked cases and each row
-//! are among them, so that no count could stay at 0.
+//! are among them, so that no count could stay at 0. For P they are counted apart.
 
 mod blocks;
+mod cubes;
 mod presence;
 mod prices;
 mod records;
 
 use crate::charged;
+use crate::cubes::Held as HeldPrimes;
 use crate::dump;
 use crate::expanded;
 use crate::format::{self, Command, COMMANDS, LAST_NUMBER};
@@ -20,6 +22,7 @@ use crate::listing;
 use crate::reference::{self, Asked, Covers, Outcome, Prices, Query, Term};
 use crate::report::hex;
 use blocks::Blocks;
+use cubes::Primes;
 use presence::Presences;
 use prices::Priced;
 use records::Records;
@@ -34,6 +37,7 @@ pub struct Tally {
     changes: Changes,
     blocks: Blocks,
     presences: Presences,
+    primes: Primes,
     records: Records,
     cheapest: Cheapest,
     priced: Priced,
@@ -72,6 +76,7 @@ impl Tally {
             changes: Changes::default(),
             blocks: Blocks::default(),
             presences: Presences::default(),
+            primes: Primes::default(),
             records: Records::default(),
             cheapest: Cheapest::default(),
             priced: Priced::default(),
@@ -159,6 +164,11 @@ impl Tally {
         }
     }
 
+    /// A job whose P was held to the table of cubes.
+    pub fn add_primes(&mut self, held: &HeldPrimes) {
+        self.primes.add(held, self.drawn);
+    }
+
     /// A job whose record was compared.
     pub fn add_record(&mut self, job: &[u8], held: &dump::Held, drawn: bool) {
         self.records.add(held);
@@ -179,6 +189,7 @@ impl Tally {
         self.changes.print();
         self.blocks.print();
         self.presences.print();
+        self.primes.print();
         self.records.print();
         self.cheapest.print();
         self.priced.print();
@@ -207,6 +218,7 @@ impl Tally {
         list.extend(self.changes.complaints());
         list.extend(self.blocks.complaints());
         list.extend(self.presences.complaints());
+        list.extend(self.primes.complaints());
         list.extend(self.records.complaints());
         list.extend(self.cheapest.complaints());
         list.extend(self.priced.complaints());

@@ -1,6 +1,6 @@
 //! A job walked along with its outcome: which prices and candidates stand at its L and C
-//! commands, and what became of these. It goes by what was answered and refused, and leaves the
-//! reference aside.
+//! commands, and what became of these; and the table at its P. It goes by what was answered and
+//! refused, and leaves the reference aside.
 
 use crate::format;
 use crate::reference::{Outcome, Table, Term};
@@ -25,12 +25,7 @@ pub struct Standing<'a> {
 pub fn walk<'a>(job: &'a [u8], outcome: &'a Outcome) -> Option<Vec<Standing<'a>>> {
     let (before, command) = job.split_at(outcome.offset);
     let mut answers = &outcome.buffer[..outcome.written];
-    let mut standing = Standing {
-        prices: [1, 1, 0],
-        table: Table::new(0, 0),
-        candidates: Vec::new(),
-        queries: Vec::new(),
-    };
+    let mut standing = Standing::new();
     let mut list = Vec::new();
     for command in format::cut(before)? {
         let (answer, rest) = answers.split_at_checked(width(command[0], answers)?)?;
@@ -49,6 +44,23 @@ pub fn walk<'a>(job: &'a [u8], outcome: &'a Outcome) -> Option<Vec<Standing<'a>>
     }
     list.extend(standing.asked());
     answers.is_empty().then_some(list)
+}
+
+/// The table at P, and P's answer or the number of its refusal, 11 or 14. No answer stands before.
+pub fn primes<'a>(job: &[u8], outcome: &'a Outcome) -> Option<(Table, Result<&'a [u8], u64>)> {
+    let (before, rest) = job.split_at(outcome.offset);
+    let commands = format::cut(before)?;
+    let place = commands.iter().position(|command| command[0] == b'P');
+    let answer = match (place, outcome.number, rest) {
+        (Some(_), ..) => Ok(outcome.buffer.get(..width(b'P', &outcome.buffer)?)?),
+        (None, 11 | 14, [b'P', ..]) => Err(outcome.number),
+        _ => return None,
+    };
+    let mut standing = Standing::new();
+    for command in &commands[..place.unwrap_or(commands.len())] {
+        standing.set(command, &[]);
+    }
+    Some((standing.table, answer))
 }
 
 fn is_query(command: &[u8]) -> bool {
@@ -76,6 +88,15 @@ fn term(bytes: &[u8]) -> Term {
 }
 
 impl<'a> Standing<'a> {
+    fn new() -> Standing<'a> {
+        Standing {
+            prices: [1, 1, 0],
+            table: Table::new(0, 0),
+            candidates: Vec::new(),
+            queries: Vec::new(),
+        }
+    }
+
     /// What has been asked since the last command that was no query, if anything.
     fn asked(&mut self) -> Option<Standing<'a>> {
         let queries = std::mem::take(&mut self.queries);

@@ -4,6 +4,7 @@ use super::bytes::full;
 use super::draft::{draft, page, row, term, Draft};
 use super::purpose_blocks;
 use super::purpose_changes;
+use super::purpose_cubes;
 use super::purpose_prices;
 use super::sweeps::{every_byte, every_cut, every_room};
 use super::tables::{random_table, rows};
@@ -27,6 +28,7 @@ pub fn on_purpose(rng: &mut Rng) -> Vec<Case> {
     purpose_changes::of_changes(rng, &mut list);
     purpose_blocks::of_blocks(rng, &mut list);
     list.extend(purpose_prices::prices_on_purpose(rng));
+    list.extend(purpose_cubes::cubes_on_purpose(rng));
     list
 }
 

@@ -96,7 +96,7 @@ pub fn terms_for(rng: &mut Rng, table: &Table, most: usize) -> Vec<Term> {
     list
 }
 
-fn random_term(rng: &mut Rng, n: usize, m: usize) -> Term {
+pub fn random_term(rng: &mut Rng, n: usize, m: usize) -> Term {
     let care = rng.byte() & full(n);
     let outputs = rng.between(1, usize::from(full(m))) as u8;
     Term {

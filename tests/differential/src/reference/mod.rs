@@ -2,6 +2,7 @@
 //! It shares no code with the engine and is meant to be plain rather than quick.
 
 mod covers;
+mod cubes;
 mod job;
 mod presence;
 mod prices;
@@ -13,9 +14,10 @@ pub use covers::{
     cheapest, cost, covers_by_products, covers_by_subsets, irredundant_covers, is_cover, sums,
     Covers,
 };
+pub use cubes::{cube_number, cube_of, spread, weight, Cubes, ENTRIES};
 pub use job::{asked, run, Asked, Outcome, Query, LONGEST, MOST_CANDIDATES};
 pub use presence::{delta, implicants, points, prime_implicants, sum, Presence};
 pub use prices::{Prices, HIGHEST};
 pub use record::record;
 pub use rival::{least_cost, rival, rival_at_any_price};
-pub use table::{Table, Term};
+pub use table::{below, Cell, Table, Term};

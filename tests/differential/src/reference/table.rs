@@ -29,6 +29,12 @@ fn bit(byte: u8, i: usize) -> bool {
     byte >> i & 1 == 1
 }
 
+/// Every byte that has some of this one's ones, rising.
+pub fn below(byte: u8) -> impl Iterator<Item = u8> {
+    let next = move |bits: &u8| (*bits != byte).then(|| bits.wrapping_sub(byte) & byte);
+    std::iter::successors(Some(0), next)
+}
+
 /// True when the byte has bits below `width` only.
 pub fn fits(byte: u8, width: usize) -> bool {
     usize::from(byte) < 1 << width
@@ -92,15 +98,11 @@ impl Table {
         self.well_formed(t) && !self.holds_off_cell(t)
     }
 
-    /// The outputs that are nowhere off on the cube.
+    /// The outputs that are nowhere off on the cube, whose vertices differ in its free inputs.
     pub fn allowed_outputs(&self, care: u8, value: u8) -> u8 {
-        let cube = Term {
-            care,
-            value,
-            outputs: 0,
-        };
         let all = (0..self.m).map(|j| 1 << j).sum();
-        let inside = (0..self.vertices()).filter(|&v| cube.agrees(v));
+        let free = (self.vertices() - 1) as u8 & !care;
+        let inside = below(free).map(|bits| usize::from(value | bits));
         inside.fold(all, |outputs: u8, v| outputs & (self.on[v] | self.dc[v]))
     }
 
@@ -115,7 +117,7 @@ impl Table {
         if self.n <= 4 && self.m <= 4 {
             self.primes_by_terms()
         } else {
-            self.primes_by_cubes()
+            self.primes_by_wider_cubes()
         }
     }
 
@@ -177,5 +179,25 @@ impl Table {
         };
         let contained = |q: &Term| legal.iter().any(|p| p != q && contains(p, q));
         legal.iter().copied().filter(|q| !contained(q)).collect()
+    }
+    /// The same, where the cubes that hold a cube's vertices are not searched for: they have some
+    /// of its literals.
+    pub fn primes_by_wider_cubes(&self) -> Vec<Term> {
+        let place = |care: u8, value: u8| usize::from(care) << 8 | usize::from(value);
+        let mut widest = vec![0; 1 << 16];
+        for (care, value) in self.cubes() {
+            widest[place(care, value)] = self.allowed_outputs(care, value);
+        }
+        let contained = |t: &Term| {
+            let mut wider = below(t.care).filter(|&care| care != t.care);
+            wider.any(|care| t.outputs & !widest[place(care, t.value & care)] == 0)
+        };
+        let with_outputs = |(care, value)| Term {
+            care,
+            value,
+            outputs: widest[place(care, value)],
+        };
+        let cubes = self.cubes().into_iter().map(with_outputs);
+        cubes.filter(|t| t.outputs != 0 && !contained(t)).collect()
     }
 }
