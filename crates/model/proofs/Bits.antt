@@ -2,15 +2,15 @@
 use Prim.Native.Nat.{ℕ, zero, suc, _-_, _/_, _%_, _^_, _≤_, _<_}
 use native.Mathlib.Omega.{arith}
 use native.Mathlib.Nat.{pow-suc}
-use mathlib.Core.Path.{_≡_, refl}
+use mathlib.Core.Path.{_≡_, refl, sym}
 use mathlib.Core.Logic.{_≢_, _⊎_, inl, inr}
-use mathlib.Core.Bool.{not}
+use mathlib.Core.Bool.{not, cond}
 use lib.Dec.{T, eqb, eqb→eq}
 use lib.Arith.{bin-ind}
 use lib.Pow.{pow-pos}
 use Rattle.model.specs.Base.{bit}
 use Rattle.model.specs.Sets.{Within}
-use Rattle.model.proofs.Lists.{yes-or-no}
+use Rattle.model.proofs.Lists.{yes-or-no, T-true, T-false}
 
 pub bit0-e : (s : ℕ) → T (bit 0 s) → s % 2 ≡ 1
 bit0-e s t = eqb→eq (s % 2) 1 t
@@ -26,6 +26,13 @@ bit0-n s t = go (s % 2) (omega arith) refl t
     go zero l e u = e
     go (suc zero) l e u = absurd u
     go (suc (suc r)) l e u = absurd (omega arith)
+
+pub bit-flag : (r : ℕ) → cond (bit 0 r) 1 0 ≡ r % 2
+bit-flag r = go (yes-or-no (bit 0 r))
+  where
+    go : T (bit 0 r) ⊎ T (not (bit 0 r)) → cond (bit 0 r) 1 0 ≡ r % 2
+    go (inl t) = rw (T-true {b = bit 0 r} t) (sym (bit0-e r t))
+    go (inr t) = rw (T-false {b = bit 0 r} t) (sym (bit0-n r t))
 
 pub bit-le : (i s : ℕ) → T (bit i s) → 2 ^ i ≤ s
 bit-le zero s t = let e = bit0-e s t in omega arith

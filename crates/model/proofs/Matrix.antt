@@ -3,16 +3,14 @@ use Prim.Native.Nat.{ℕ, zero, suc, _+_, _*_, _/_, _%_, _-_, _^_, _<_}
 use native.Mathlib.Omega.{arith}
 use native.Mathlib.Nat.{pow-suc}
 use mathlib.Core.Path.{_≡_, refl, sym, ap, ap₂, _∙_, subst, subst⁻¹}
-use mathlib.Core.Logic.{_⊎_, inl, inr}
-use mathlib.Core.Bool.{Bool, true, false, not, cond, _&&_}
+use mathlib.Core.Bool.{Bool, true, false, cond, _&&_}
 use mathlib.Core.List.{List, [], _∷_, map, List·Memᴰ, List·Memᴰ·head, List·Memᴰ·tail}
-use lib.Dec.{T}
 use lib.Bits.{bitAnd}
 use lib.ListN.{getD, length, length-map}
 use Rattle.model.specs.Base.{bit, from, below, every, some, filter, sum}
 use Rattle.model.specs.Sets.{Covering, members, covers, cover, coverable, redundant, irredundant, irredundants, cost, least, leastOf, cheapest, rowOf, ofRows}
-use Rattle.model.proofs.Lists.{yes-or-no, bool-ext, T-true, T-false, below-e}
-use Rattle.model.proofs.Bits.{bit0-e, bit0-n}
+use Rattle.model.proofs.Lists.{bool-ext, below-e}
+use Rattle.model.proofs.Bits.{bit-flag}
 use Rattle.model.proofs.Sets.{members-all}
 use Rattle.model.proofs.Rows.{held-iff}
 
@@ -26,13 +24,6 @@ rowOf-lt holds (t ∷ ts) x = go (holds t x) (rowOf-lt holds ts x)
     go : (b : Bool) → rowOf holds ts x < 2 ^ length ts → rowOf holds ts x * 2 + cond b 1 0 < 2 ^ suc (length ts)
     go true h = omega (arith, pow-suc 2 (length ts))
     go false h = omega (arith, pow-suc 2 (length ts))
-
-bit-flag : (r : ℕ) → cond (bit 0 r) 1 0 ≡ r % 2
-bit-flag r = go (yes-or-no (bit 0 r))
-  where
-    go : T (bit 0 r) ⊎ T (not (bit 0 r)) → cond (bit 0 r) 1 0 ≡ r % 2
-    go (inl t) = rw (T-true {b = bit 0 r} t) (sym (bit0-e r t))
-    go (inr t) = rw (T-false {b = bit 0 r} t) (sym (bit0-n r t))
 
 -- the row of row r is r
 row-bits : (k i r q : ℕ) → ((j : ℕ) → bit (i + j) r ≡ bit j q) → q < 2 ^ k → rowOf bit (from i k) r ≡ q

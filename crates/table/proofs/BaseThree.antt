@@ -17,7 +17,7 @@ use lib.Dec.{T, T-not, not-T}
 use Rattle.model.specs.Base.{bit}
 use Rattle.model.specs.Sets.{Within}
 use Rattle.model.proofs.Lists.{yes-or-no, T-true, T-false}
-use Rattle.model.proofs.Bits.{bit0-e, bit0-n, bit-le, bit-lt, within-le, within-without, without-within}
+use Rattle.model.proofs.Bits.{bit0-e, bit0-n, bit-flag, bit-le, bit-lt, within-le, within-without, without-within}
 use Rattle.model.proofs.Cubes.{bits-ext, setBit, set-here, set-other}
 use Rattle.table.specs.Cubes.{Cube}
 use Rattle.model.specs.Numbers.{digitOf, cubeNumberTo, cubeNumber, spreadTo, spread, WithNumber}
@@ -45,16 +45,9 @@ thrice : (b : Bool) (r : ℕ) → cond b (r * 3) 0 ≡ cond b r 0 * 3
 thrice true r = refl
 thrice false r = refl
 
-low-bit : (s : ℕ) → cond (bit 0 s) 1 0 ≡ s % 2
-low-bit s = go (yes-or-no (bit 0 s))
-  where
-    go : T (bit 0 s) ⊎ T (not (bit 0 s)) → cond (bit 0 s) 1 0 ≡ s % 2
-    go (inl t) = rw (T-true {b = bit 0 s} t) (sym (bit0-e s t))
-    go (inr t) = rw (T-false {b = bit 0 s} t) (sym (bit0-n s t))
-
 spread-step : (k s : ℕ) → spreadTo (suc k) s ≡ spreadTo k (s / 2) * 3 + s % 2
 unfolding spreadTo
-spread-step zero s = omega (arith, low-bit s)
+spread-step zero s = omega (arith, bit-flag s)
 spread-step (suc k) s =
     let e : cond (bit k (s / 2)) (3 ^ suc k) 0 ≡ cond (bit k (s / 2)) (3 ^ k) 0 * 3 = ap (λ (x : ℕ). cond (bit k (s / 2)) x 0) (pow-suc 3 k) ∙ thrice (bit k (s / 2)) (3 ^ k) in
     omega (arith, spread-step k s)
@@ -148,13 +141,9 @@ digit-step i x r q e l =
 
 first-digit : (c v : ℕ) → Within v c → (digitOf c v 0 ≡ c % 2 + v % 2) × (digitOf c v 0 ≤ 2)
 unfolding digitOf
-first-digit c v w = go (yes-or-no (bit 0 c)) (yes-or-no (bit 0 v))
-  where
-    go : T (bit 0 c) ⊎ T (not (bit 0 c)) → T (bit 0 v) ⊎ T (not (bit 0 v)) → (cond (bit 0 c) (cond (bit 0 v) 2 1) 0 ≡ c % 2 + v % 2) × (cond (bit 0 c) (cond (bit 0 v) 2 1) 0 ≤ 2)
-    go (inl a) (inl b) = rw (T-true {b = bit 0 c} a, T-true {b = bit 0 v} b) (omega (arith, bit0-e c a, bit0-e v b), omega arith)
-    go (inl a) (inr b) = rw (T-true {b = bit 0 c} a, T-false {b = bit 0 v} b) (omega (arith, bit0-e c a, bit0-n v b), omega arith)
-    go (inr a) (inl b) = absurd (T-not (bit 0 c) a (w 0 b))
-    go (inr a) (inr b) = rw (T-false {b = bit 0 c} a) (omega (arith, bit0-n c a, bit0-n v b), omega arith)
+first-digit c v w =
+    let e : cond (bit 0 c) (cond (bit 0 v) 2 1) 0 ≡ c % 2 + v % 2 = omega (arith, digit-adds (bit 0 c) (bit 0 v) 1 (w 0), bit-flag c, bit-flag v) in
+    (e, omega (arith, e))
 
 next-digit : (c v i : ℕ) → digitOf (c / 2) (v / 2) i ≡ digitOf c v (suc i)
 unfolding digitOf
