@@ -17,11 +17,11 @@ use Rattle.model.specs.Answers.{Answer, bytesOf, answerFor}
 use Rattle.model.specs.Refusals.{refuse, firstOf, refusalsOf, size, dear}
 use Rattle.model.proofs.Runs.{first-none, first-before, first-behind}
 use Rattle.model.proofs.Sound.{refusalsOf-no}
-use Rattle.table.specs.declared.prime_list.PrimeList.{PrimeList}
+use Rattle.primes.specs.declared.prime_list.PrimeList.{PrimeList}
 use Rattle.bits.specs.Lists.{Filled}
 use Rattle.table.specs.Cubes.{MayOf}
-use Rattle.table.specs.Primes.{FirstTerms, AllPrimes}
-use Rattle.table.proofs.Uses.{whole-list}
+use Rattle.primes.specs.Primes.{FirstTerms, AllPrimes}
+use Rattle.primes.proofs.Uses.{whole-list}
 use Rattle.answers.specs.declared.writers.Reply.{Reply}
 use Rattle.answers.specs.declared.writers.Reply.the-variants.{Written, TooLong}
 use Rattle.answers.specs.Writers.{Replied}

@@ -14,10 +14,10 @@ use answers::writers::Reply;
 use bits::byte;
 use model::Prices;
 use model::Term;
+use primes::prime_list;
 use problem::Problem;
 use problem::refusals;
 use table::cells;
-use table::prime_list;
 
 pub mod queries;
 

@@ -6,8 +6,8 @@ use incidence::rows;
 use libc::STDOUT_FILENO;
 use library::Listed;
 use model::Term;
+use primes::prime_list;
 use table::cells;
-use table::prime_list;
 
 // A number and a space.
 fn print_number(x: u64) {

@@ -28,7 +28,7 @@ use Rattle.model.proofs.Valid.{valid-row}
 use Rattle.model.proofs.Records.{weighed-added, weighed-without}
 use Rattle.bits.specs.Lists.{Filled}
 use Rattle.bits.proofs.Lists.{filled-next, filled-without}
-use Rattle.table.specs.declared.prime_list.PrimeList.{PrimeList}
+use Rattle.primes.specs.declared.prime_list.PrimeList.{PrimeList}
 use Rattle.problem.specs.declared.TableRows.{TableRows}
 use Rattle.problem.specs.declared.Candidates.{Candidates}
 use Rattle.problem.specs.declared.Problem.{Problem}

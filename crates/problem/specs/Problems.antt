@@ -13,7 +13,7 @@ use Rattle.model.specs.Commands as model
 use Rattle.model.specs.Commands.{Row}
 use Rattle.model.specs.Invariants.{Valid}
 use Rattle.bits.specs.Lists.{Filled}
-use Rattle.table.specs.declared.prime_list.PrimeList.{PrimeList}
+use Rattle.primes.specs.declared.prime_list.PrimeList.{PrimeList}
 use Rattle.problem.specs.declared.Settings.{Settings}
 use Rattle.problem.specs.declared.TableRows.{TableRows}
 use Rattle.problem.specs.declared.Candidates.{Candidates}

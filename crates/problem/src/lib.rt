@@ -9,7 +9,7 @@ ghost use Rattle.model.specs.Commands as model;
 ghost use Rattle.problem.specs.Problems.{noProblem, startedWith, atPlace, withPrices, withRows, withCandidates, listed, termPut, termTaken, WithPrimes};
 use model::Prices;
 use model::Term;
-use table::prime_list::PrimeList;
+use primes::prime_list::PrimeList;
 
 pub mod matrix;
 pub mod refusals;

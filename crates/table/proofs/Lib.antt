@@ -1,12 +1,3 @@
 pub mod Halves
-pub mod Constant
-pub mod BaseThree
-pub mod Blocks
-pub mod Pairs
-pub mod Entries
-pub mod Parts
 pub mod Legality
-pub mod Literals
-pub mod PrimeLists
-pub mod Walk
 pub mod Uses

@@ -1,0 +1,10 @@
+pub mod Constant
+pub mod BaseThree
+pub mod Blocks
+pub mod Pairs
+pub mod Entries
+pub mod Parts
+pub mod Literals
+pub mod PrimeLists
+pub mod Walk
+pub mod Uses
