@@ -33,7 +33,7 @@ fn put_number(free: &mut [u8], w: usize, x: u64)
 
 // Puts the first k sets in front, 8 bytes each.
 fn put_sets(free: &mut [u8], sets: &[u64], k: usize)
-    requires { ⌜ (k ≤ length (now sets)) × (k ≤ 255) × (8 * k ≤ length (now free)) ⌝ }
+    requires { ⌜ (k ≤ length (now sets)) × (k ≤ 1024) × (8 * k ≤ length (now free)) ⌝ }
     ensures { λ _. ⌜ InFront (join (map (low 8) (take k (now (sets .entry))))) (8 * k) (now (free .entry)) (now (free .exit)) ⌝ }
 {
     let mut i: usize = 0;
@@ -114,6 +114,22 @@ pub fn put_cheapest(free: &mut [u8], cost: u64, set: u64) -> Reply
     put_number(&mut free[1..], 2, cost);
     put_number(&mut free[3..], 8, set);
     Reply::Written(11)
+}
+
+// N's answer: the first k sets, behind their count of two bytes.
+pub fn put_products(free: &mut [u8], sets: &[u64], k: usize) -> Reply
+    requires { ⌜ (k ≤ length (now sets)) × (k ≤ 1024) ⌝ }
+    ensures { λ r. ⌜ Replied (bytesOf (Answer.productsAre (take k (now (sets .entry))))) (now (free .entry)) (now (free .exit)) r ⌝ }
+{
+    let len = 3 + 8 * k;
+    if free.len() < len {
+        return Reply::TooLong;
+    }
+    free[0] = 0x6e;
+    free[1] = (k % 256) as u8;
+    free[2] = (k / 256 % 256) as u8;
+    put_sets(&mut free[3..], sets, k);
+    Reply::Written(len)
 }
 
 // E's answer.

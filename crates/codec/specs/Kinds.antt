@@ -8,7 +8,7 @@ use Rattle.model.specs.Commands as model
 use Rattle.model.specs.Refusals.{refuse, firstOf}
 use Rattle.codec.specs.declared.kinds.Form.{Form}
 use Rattle.codec.specs.declared.kinds.Kind.{Kind}
-use Rattle.codec.specs.declared.kinds.Kind.the-variants.{I, W, R, B, T, P, A, D, L, C, E, None}
+use Rattle.codec.specs.declared.kinds.Kind.the-variants.{I, W, R, B, T, P, A, D, L, C, N, E, None}
 
 abbrev pub kindIs : Kind → model.Kind
 kindIs I = model.Kind.I
@@ -21,6 +21,7 @@ kindIs A = model.Kind.A
 kindIs D = model.Kind.D
 kindIs L = model.Kind.L
 kindIs C = model.Kind.C
+kindIs N = model.Kind.N
 kindIs E = model.Kind.E
 kindIs None = model.Kind.none
 

@@ -17,6 +17,7 @@ pub enum Kind {
     D,
     L,
     C,
+    N,
     E,
     None,
 }
@@ -36,6 +37,7 @@ pub fn kind_of(b: u8) -> Kind
         0x44 => Kind::D,
         0x4c => Kind::L,
         0x43 => Kind::C,
+        0x4e => Kind::N,
         0x45 => Kind::E,
         _ => Kind::None,
     }
@@ -60,7 +62,7 @@ fn described(code: u8, width: usize, last: u8, query: bool) -> Form
     }
 }
 
-// The one place that describes each command. Places: 0 nothing, 1 I, 2 W, 3 rows, 4 terms, 5 a P, L or C came.
+// The one place that describes each command. Places: 0 nothing, 1 I, 2 W, 3 rows, 4 terms, 5 a P, L, C or N came.
 pub fn form_of(k: Kind) -> Form
     ensures { λ r. ⌜ Describes (kindIs k) r ⌝ }
 {
@@ -75,6 +77,7 @@ pub fn form_of(k: Kind) -> Form
         Kind::D => described(0x44, 1, 5, false),
         Kind::L => described(0x4c, 9, 5, true),
         Kind::C => described(0x43, 0, 5, true),
+        Kind::N => described(0x4e, 0, 5, true),
         Kind::E => described(0x45, 0, 5, false),
         Kind::None => described(0, 0, 0, false),
     }

@@ -7,9 +7,10 @@ use lib.Dec.{ltb}
 use lib.ListN.{length, drop}
 use Rattle.model.specs.declared.Term.{Term}
 use Rattle.model.specs.declared.Prices.{Prices}
+use Rattle.model.specs.Sets.{coverable}
 use Rattle.model.specs.Pages.{page, more}
 use Rattle.model.specs.Commands as model
-use Rattle.model.specs.Commands.{Context, tableOf, basisOf, operand, Row, rowsOfB, operandTerm, operandNumber, operandPrices, start, count, problemAfter}
+use Rattle.model.specs.Commands.{Context, tableOf, basisOf, coveringOf, operand, Row, rowsOfB, operandTerm, operandNumber, operandPrices, start, count, problemAfter}
 use Rattle.model.specs.Answers.{Answer, bytesOf, answerFor}
 use Rattle.model.specs.Refusals.{refuse, firstOf, refusalsOf}
 use Rattle.model.specs.Invariants.{Valid}
@@ -104,3 +105,8 @@ HandlesL p rows covered s k old new e =
 
 abbrev pub HandlesC : Problem → List ℕ → Bool → List ℕ → List ℕ → Effect → Type 0
 HandlesC p rows covered old new e = (x : Context) → Found p x → MatrixOf (basisOf (x .problem)) rows covered → x .free ≡ length old → Handled x model.Kind.C old new e
+
+-- N, with what the covering matrix tells of 12
+abbrev pub HandlesN : Problem → Bool → List ℕ → List ℕ → Effect → Type 0
+HandlesN p covered old new e =
+    (x : Context) → Found p x → covered ≡ coverable (coveringOf x) → x .free ≡ length old → Handled x model.Kind.N old new e

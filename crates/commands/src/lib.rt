@@ -1,6 +1,6 @@
 // One command: tested, answered, applied.
 //
-// Each function here and in `queries`, which has L and C, handles one kind of command behind the tests of 3, 4 and 5. A refusal leaves the
+// Each function here and in crate `queries`, which has L, C and N, handles one kind of command behind the tests of 3, 4 and 5. A refusal leaves the
 // free part and the record alone.
 ghost use mathlib.Core.Path.{_≡_};
 ghost use Prim.Native.Nat.{_+_, _≤_, _<_};
@@ -18,8 +18,6 @@ use primes::prime_list;
 use problem::Problem;
 use problem::refusals;
 use table::cells;
-
-pub mod queries;
 
 // What a command comes to: its refusal or 0, how many answer bytes it wrote, and the problem after it.
 pub struct Effect {

@@ -8,7 +8,7 @@
 //     row 0 on 00 dc 01
 //     candidate 0 care 01 value 00 outputs 01 weight 48
 //
-// The place is the furthest that came: 0 nothing, 1 I, 2 W, 3 a row, 4 a term, 5 a P, L or C. The prices are those of a term, a literal and
+// The place is the furthest that came: 0 nothing, 1 I, 2 W, 3 a row, 4 a term, 5 a P, L, C or N. The prices are those of a term, a literal and
 // an output connection. A line for each vertex that has a row, and for each candidate, with the weight that stands beside it. Bytes are in
 // hexadecimal, all other numbers in decimal.
 //

@@ -16,7 +16,8 @@ use Rattle.problem.specs.declared.Candidates.{Candidates}
 use Rattle.problem.specs.declared.Problem.{Problem}
 use Rattle.problem.specs.declared.matrix.Matrix.{Matrix}
 use Rattle.problem.specs.Problems.{rowPut, rowsPut, Reached}
-use Rattle.engine.specs.Blocks.{RowAt, EightAt, ReadsRows, Reading, placeBehind, recordOf, ReadsInto}
+use Rattle.eight_rows.specs.Rows.{EightAt}
+use Rattle.engine.specs.Blocks.{RowAt, ReadsRows, Reading, placeBehind, recordOf, ReadsInto}
 use Rattle.engine.proofs.Running.{x, Going, not-ready}
 use Rattle.engine.proofs.RowCommands.{Sets, row-sets, eight-sets, rows-go}
 

@@ -32,7 +32,7 @@ use Rattle.problem.specs.declared.Problem.{Problem}
 use Rattle.problem.specs.Problems.{Holds}
 use Rattle.problem.specs.Matrix.{MatrixOf}
 use Rattle.commands.specs.declared.Effect.{Effect}
-use Rattle.commands.specs.Effects.{refusedAs, lateRefusal, Handled, Found, HandlesI, HandlesW, HandlesR, HandlesB, HandlesTerm, HandlesP, HandlesD, HandlesL, HandlesC, HandlesE}
+use Rattle.commands.specs.Effects.{refusedAs, lateRefusal, Handled, Found, HandlesI, HandlesW, HandlesR, HandlesB, HandlesTerm, HandlesP, HandlesD, HandlesL, HandlesC, HandlesN, HandlesE}
 use Rattle.engine.specs.Steps.{Stepped, Steps, contextAt}
 
 -- ---- what passing 3, 4 and 5 says
@@ -63,8 +63,9 @@ adds-term variant.P h = absurd (miss (4 ∷ 6 ∷ []) 5 tt h)
 adds-term variant.D h = absurd (miss (4 ∷ 6 ∷ []) 7 tt h)
 adds-term variant.L h = absurd (miss (4 ∷ 6 ∷ []) 8 tt h)
 adds-term variant.C h = absurd (miss (4 ∷ 6 ∷ []) 9 tt h)
-adds-term variant.E h = absurd (miss (4 ∷ 6 ∷ []) 10 tt h)
-adds-term variant.None h = absurd (miss (4 ∷ 6 ∷ []) 11 tt h)
+adds-term variant.N h = absurd (miss (4 ∷ 6 ∷ []) 10 tt h)
+adds-term variant.E h = absurd (miss (4 ∷ 6 ∷ []) 11 tt h)
+adds-term variant.None h = absurd (miss (4 ∷ 6 ∷ []) 12 tt h)
 
 -- ---- the context
 
@@ -193,6 +194,9 @@ module _ {p : Problem} {job : List ℕ} {at : ℕ} {k : Kind} {n rest : ℕ} (d 
 
       pub step-C : kindIs k ≡ model.Kind.C → HandlesC p rows covered old new e → Steps p rows covered job at old new e
       step-C g w = behind-I model.Kind.C g tt (λ x f m r a. w x f (m tt) a)
+
+      pub step-N : kindIs k ≡ model.Kind.N → HandlesN p covered old new e → Steps p rows covered job at old new e
+      step-N g w = behind-I model.Kind.N g tt (λ x f m r a. w x f (m tt .told) a)
 
       pub step-E : kindIs k ≡ model.Kind.E → HandlesE p rest old new e → Steps p rows covered job at old new e
       step-E g w = behind-I model.Kind.E g tt (λ x f m r a. w x (f .holds) (ap length r ∙ length-drop (at + 1) job ∙ omega (arith, d .left)) a)

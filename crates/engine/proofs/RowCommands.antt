@@ -31,7 +31,8 @@ use Rattle.commands.specs.Effects.{HandlesR}
 use Rattle.commands.proofs.Handling.{row-kept}
 use Rattle.commands.proofs.EightRows.{eight-kept}
 use Rattle.engine.specs.Steps.{Stepped, Steps, contextAt}
-use Rattle.engine.specs.Blocks.{RowAt, EightAt, restOf, GoesOn}
+use Rattle.eight_rows.specs.Rows.{EightAt}
+use Rattle.engine.specs.Blocks.{RowAt, restOf, GoesOn}
 use Rattle.engine.proofs.Dispatching.{Read, step-R, step-B}
 use Rattle.engine.proofs.Running.{one-left, x, rest, run-next}
 

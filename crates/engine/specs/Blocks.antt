@@ -6,8 +6,7 @@ use mathlib.Core.List.{List}
 use lib.Dec.{ltb}
 use lib.ListN.{getD, length, drop}
 use Rattle.model.specs.Commands as model
-use Rattle.model.specs.Base.{All}
-use Rattle.model.specs.Commands.{kindOf, rowsOfB}
+use Rattle.model.specs.Commands.{kindOf}
 use Rattle.model.specs.Refusals.{firstOf}
 use Rattle.model.specs.Rules.{engine}
 use Rattle.model.specs.Job.{Run, commands, written}
@@ -25,17 +24,6 @@ pub record RowAt (s : Settings) (given job : List ℕ) (at : ℕ) : Type 0 where
   pub room : at + 4 ≤ length job
   pub kind : kindOf (getD job at 0) ≡ model.Kind.R
   pub accepted : 0 ≡ firstOf (rowRefusals (s .n) (s .m) given (getD job (at + 1) 0) (getD job (at + 2) 0) (getD job (at + 3) 0))
-
--- a B with its operands stands at `at`, its vertices are bytes, and neither 7 nor 8 applies to one of its rows
-pub record EightAt (s : Settings) (given job : List ℕ) (at : ℕ) : Type 0 where
-  pub room : at + 18 ≤ length job
-  pub kind : kindOf (getD job at 0) ≡ model.Kind.B
-  pub bytes : getD job (at + 1) 0 + 8 ≤ 256
-  pub accepted : All (λ w. 0 ≡ firstOf (rowRefusals (s .n) (s .m) given (w .vertex) (w .on) (w .dc))) (rowsOfB (drop (at + 1) job))
-
--- the rows of three arrays
-abbrev pub rowsOf : List ℕ → List ℕ → List ℕ → TableRows
-rowsOf on dc given = record { on = on; dc = dc; given = given }
 
 -- what is left of a job's run: from `at` on with the problem q and so much free, at most so many commands
 abbrev pub restOf : List ℕ → ℕ → model.Problem → ℕ → ℕ → Run

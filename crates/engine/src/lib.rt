@@ -2,13 +2,12 @@
 //
 // `cover_job` is what a C program links to; its contract cites only definitions of crate `model`. `run_job` is the same with the record
 // that the job leaves, for the program `dump`. `step` is any command of a job, `row_block` the R and B commands in one go, with
-// `eight_rows` for a B, `job` goes through them. The call for Rattle is `library::list_covers`, in a crate of its own.
+// crate `eight_rows` for a B, `job` goes through them. The calls for Rattle are those of crate `library`.
 ghost use mathlib.Core.Path.{_≡_};
 ghost use Rattle.model.specs.Calls.{Met};
 ghost use Rattle.engine.specs.Jobs.{tooLong, EndsAs, called};
 use job::Ended;
 
-pub mod eight_rows;
 pub mod job;
 pub mod row_block;
 pub mod step;

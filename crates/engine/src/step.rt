@@ -8,7 +8,6 @@ use codec::kinds;
 use codec::kinds::Kind;
 use codec::operands;
 use commands::Effect;
-use commands::queries;
 use problem::Problem;
 
 // The command at `at`: tested in the paper's order, then answered into the free part and applied. `rows` and `covered` are the
@@ -49,6 +48,7 @@ pub fn step(
             free,
         ),
         Kind::C => queries::least_cost(p, rows, covered, free),
+        Kind::N => queries::multiply(p, covered, free),
         Kind::E => commands::end(p, rest, free),
         Kind::None => commands::refused(p, 3),
     }

@@ -215,13 +215,13 @@ module _ (may : List ℕ) (n m w : ℕ) where
   pub word-term : (t : Term) (r : ℕ) → t ≡ unpack w → w / 16777216 ≡ 0 → TermRefusal may n m t r → WordRefusal may n m w r
   word-term t r e z f p a o = rw (eq-eqb (w / 2 ^ 24) 0 z, ← e) (f p a o)
 
-abbrev refusalsOfWords : Table → List ℕ → List Refusal
+abbrev pub refusalsOfWords : Table → List ℕ → List Refusal
 refusalsOfWords p words = join (map (refusalsOfWord p) words)
 
 word-numbered : (p : Table) (w : ℕ) → All Numbered (refusalsOfWord p w)
 word-numbered p w = (omega arith, (omega arith, tt))
 
-words-numbered : (p : Table) (words : List ℕ) → All Numbered (refusalsOfWords p words)
+pub words-numbered : (p : Table) (words : List ℕ) → All Numbered (refusalsOfWords p words)
 words-numbered p [] = tt
 words-numbered p (w ∷ words) = all-append Numbered (refusalsOfWord p w) (refusalsOfWords p words) (word-numbered p w) (words-numbered p words)
 
@@ -276,7 +276,7 @@ module _ {p : Problem} {out : List ℕ} {m : Matrix} (d : Prepares p out m) wher
 
 -- ---- the answer
 
-abbrev lastRefusal : Table → List ℕ → List Refusal
+abbrev pub lastRefusal : Table → List ℕ → List Refusal
 lastRefusal p words = refuse 12 (not (coverable (covering (basis p (map unpack words))))) ∷ []
 
 module _ (p : Table) (words : List ℕ) (start : ℕ) (old : List ℕ) where

@@ -1,14 +1,16 @@
-// The library call: the irredundant covers of a table and a list of terms, a row at a time.
+// The library calls: the irredundant covers of a table and a list of terms, a row at a time, or all of them by multiplication.
 //
-// `list_covers` is the call for Rattle; its contract says that answer and row are those of `listCovers` in crate `model`.
-// The tests come in the call's own order: 6, 8 by rising vertex, 11, then 9 and 10 term by term, then 12.
+// `list_covers` is the call for Rattle; its contract says that answer and row are those of `listCovers` in crate `model`. `multiply_covers` is
+// K8's; its contract says so of `multiplyCovers`, and which of the two lent rows is handed back.
+// The tests come in the calls' own order: 6, 8 by rising vertex, 11, then 9 and 10 term by term, then 12, and 17 of the multiplication.
 ghost use mathlib.Core.Path.{_≡_};
 ghost use mathlib.Core.List.{map};
 ghost use Prim.Native.Nat.{_≤_};
 ghost use lib.ListN.{length};
-ghost use Rattle.model.specs.Library.{unpack, listCovers};
+ghost use Rattle.model.specs.Library.{unpack, listCovers, rightRoom, multiplyCovers};
 ghost use Rattle.bits.specs.Lists as lists;
 ghost use Rattle.problem.specs.Problems.{Sized, Holds};
+ghost use Rattle.library.specs.Multiplying.{HandedBack, RoomRefusal};
 ghost use Rattle.library.specs.Library.{Answers, calledTable, rightSizes, someBad, TableRefusal, problemOf, Padded, WordRefusal, WordsRefusal, RowFilled};
 use bits::byte;
 use lister::cursor;
@@ -18,6 +20,7 @@ use problem::Problem;
 use problem::Settings;
 use problem::TableRows;
 use problem::matrix;
+use problem::products;
 use problem::refusals;
 use problem::weights;
 use table::cells;
@@ -217,4 +220,59 @@ pub fn list_covers(
         return Listed::Refused(number);
     }
     fill_row(p, start, row)
+}
+
+// Whether both lent rows have 1,024 entries.
+fn room_right(first: usize, second: usize) -> bool
+    ensures { λ r. ⌜ r ≡ rightRoom first second ⌝ }
+{
+    if first == 1024 {
+        return second == 1024;
+    }
+    false
+}
+
+// 6, 8 or 11 for a multiplication with `count` terms and lent rows of these lengths, 0 where none applies.
+fn room_refusal(n: u8, m: u8, on: &[u8], dc: &[u8], count: usize, first: usize, second: usize) -> u8
+    ensures { λ r. ⌜ RoomRefusal (calledTable n m (now (on .entry)) (now (dc .entry))) count first second r ⌝ }
+{
+    if room_right(first, second) {
+        return table_refusal(n, m, on, dc, count);
+    }
+    6
+}
+
+// All irredundant covers at once, by multiplication. The two lent rows take turns at each wanted cell; the one that holds the last products is
+// handed back, with the products first in it, rising, and their count. After a refusal, whose number is told, it is the first row, and the
+// count is 0. Every other entry of both rows may have changed.
+pub fn multiply_covers<'a>(
+    n: u8,
+    m: u8,
+    on: &[u8],
+    dc: &[u8],
+    terms: &[u32],
+    first: &'a mut [u64],
+    second: &'a mut [u64],
+    number: &mut u8,
+    count: &mut usize,
+) -> &'a mut [u64]
+    ensures { λ r. ⌜ HandedBack (multiplyCovers (record { n = n; m = m; on = now (on .entry); dc = now (dc .entry) }) (now (terms .entry)) (length (now (first .entry))) (length (now (second .entry)))) (first .entry) (second .entry) r (now (number .exit)) (now (count .exit)) ⌝ }
+{
+    *count = 0;
+    let early = room_refusal(n, m, on, dc, terms.len(), first.len(), second.len());
+    *number = early;
+    if early != 0 {
+        return first;
+    }
+    let p = problem_of(n, m, on, dc, terms);
+    let wrong = words_refusal(p, terms);
+    *number = wrong;
+    if wrong != 0 {
+        return first;
+    }
+    if matrix::is_covered(p) {
+        return products::multiply(p, first, second, number, count);
+    }
+    *number = 12;
+    first
 }

@@ -1,4 +1,4 @@
-// Runs the library call on the paper's cases and on odd parity of 7 inputs, and prints what it finds.
+// Runs the library calls on the paper's cases and on odd parity of 7 inputs, and prints what they find.
 ghost use Prim.Native.Nat.{_≤_};
 use cheapest::search;
 use cheapest::search::Optimum;
@@ -9,14 +9,16 @@ use model::Term;
 use primes::prime_list;
 use table::cells;
 
+mod products;
+
 // A number and a space.
 fn print_number(x: u64) {
     io::print_decimal(STDOUT_FILENO, x);
     io::write_all(STDOUT_FILENO, b" ");
 }
 
-// The first count of the sets, and whether more stand above.
-fn print_sets(sets: &[u64], count: usize, more: bool) {
+// The first count of the sets.
+fn print_first(sets: &[u64], count: usize) {
     let mut i: usize = 0;
     while i < sets.len() {
         if i < count {
@@ -24,6 +26,11 @@ fn print_sets(sets: &[u64], count: usize, more: bool) {
         }
         i += 1;
     }
+}
+
+// The first count of the sets, and whether more stand above.
+fn print_sets(sets: &[u64], count: usize, more: bool) {
+    print_first(sets, count);
     if more {
         io::write_all(STDOUT_FILENO, b"and more");
     }
@@ -204,4 +211,5 @@ fn main() {
     show_small();
     show_refused();
     show_parity();
+    products::show_all();
 }

@@ -66,6 +66,7 @@ does-by x bs Kind.A e g f =
 does-by x bs Kind.D e g f = let a = g 0 (omega arith) in record { refusals = rw a; answer = refl; after = rw a }
 does-by x bs Kind.L e g f = record { refusals = refl; answer = same-answer x (withRest x bs) refl Kind.L tt e; after = refl }
 does-by x bs Kind.C e g f = record { refusals = refl; answer = refl; after = refl }
+does-by x bs Kind.N e g f = record { refusals = refl; answer = refl; after = refl }
 does-by x bs Kind.E e g f = record { refusals = rw (f tt); answer = refl; after = refl }
 does-by x bs Kind.none e g f = record { refusals = refl; answer = refl; after = refl }
 

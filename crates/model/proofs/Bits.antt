@@ -1,16 +1,17 @@
--- Sets as numbers: members, and a set without one of them.
-use Prim.Native.Nat.{ℕ, zero, suc, _-_, _/_, _%_, _^_, _≤_, _<_}
+-- Sets as numbers: members, a set without one of them, and sets together.
+use Prim.Native.Nat.{ℕ, zero, suc, _-_, _/_, _%_, _^_, _≤_, _<_, min, max}
 use native.Mathlib.Omega.{arith}
 use native.Mathlib.Nat.{pow-suc}
-use mathlib.Core.Path.{_≡_, refl, sym}
+use mathlib.Core.Path.{_≡_, refl, sym, ap, subst}
 use mathlib.Core.Logic.{_≢_, _⊎_, inl, inr}
-use mathlib.Core.Bool.{not, cond}
+use mathlib.Core.Bool.{not, cond, _&&_, _||_}
 use lib.Dec.{T, eqb, eqb→eq}
 use lib.Arith.{bin-ind}
+use lib.Bits.{bitAnd, bitOr, and-step, or-step}
 use lib.Pow.{pow-pos}
 use Rattle.model.specs.Base.{bit}
 use Rattle.model.specs.Sets.{Within}
-use Rattle.model.proofs.Lists.{yes-or-no, T-true, T-false}
+use Rattle.model.proofs.Lists.{yes-or-no, T-true, T-false, or-cases, or-l, or-r}
 
 pub bit0-e : (s : ℕ) → T (bit 0 s) → s % 2 ≡ 1
 bit0-e s t = eqb→eq (s % 2) 1 t
@@ -95,3 +96,63 @@ within-without zero a s t n w (suc j) u =
     rw q (w (suc j) u)
 within-without (suc i) a s t n w zero u = rw (drop-low i s t) (w zero u)
 within-without (suc i) a s t n w (suc j) u = rw (drop-half i s t) (within-without i (a / 2) (s / 2) t n (within-half w) j u)
+
+-- ---- sets together
+
+pub within-both : (a b : ℕ) → Within a b → Within b a → a ≡ b
+within-both a b w v = omega (arith, within-le a b w, within-le b a v)
+
+-- the set without members
+pub bit-none : (i : ℕ) → T (bit i 0) → ⊥
+bit-none i t = omega (arith, bit-le i 0 t, pow-pos i)
+
+pub bit-or : (i p q : ℕ) → bit i (bitOr p q) ≡ (bit i p || bit i q)
+bit-or zero p q = go (yes-or-no (bit 0 p)) (yes-or-no (bit 0 q))
+  where
+    low : bitOr p q % 2 ≡ max (p % 2) (q % 2)
+    low = omega (arith, or-step p q)
+
+    go : T (bit 0 p) ⊎ T (not (bit 0 p)) → T (bit 0 q) ⊎ T (not (bit 0 q)) → bit 0 (bitOr p q) ≡ (bit 0 p || bit 0 q)
+    go (inl t) u = let e : max (p % 2) (q % 2) ≡ 1 = omega (arith, bit0-e p t) in rw (low, e, T-true {b = bit 0 p} t)
+    go (inr t) u = let e : max (p % 2) (q % 2) ≡ q % 2 = omega (arith, bit0-n p t) in rw (low, e, T-false {b = bit 0 p} t)
+bit-or (suc i) p q =
+    let e : bitOr p q / 2 ≡ bitOr (p / 2) (q / 2) = omega (arith, or-step p q) in
+    rw e (bit-or i (p / 2) (q / 2))
+
+pub bit-and : (i p q : ℕ) → bit i (bitAnd p q) ≡ (bit i p && bit i q)
+bit-and zero p q = go (yes-or-no (bit 0 p))
+  where
+    low : bitAnd p q % 2 ≡ min (p % 2) (q % 2)
+    low = omega (arith, and-step p q)
+
+    go : T (bit 0 p) ⊎ T (not (bit 0 p)) → bit 0 (bitAnd p q) ≡ (bit 0 p && bit 0 q)
+    go (inl t) = let e : min (p % 2) (q % 2) ≡ q % 2 = omega (arith, bit0-e p t) in rw (low, e, T-true {b = bit 0 p} t)
+    go (inr t) = let e : min (p % 2) (q % 2) ≡ 0 = omega (arith, bit0-n p t) in rw (low, e, T-false {b = bit 0 p} t)
+bit-and (suc i) p q =
+    let e : bitAnd p q / 2 ≡ bitAnd (p / 2) (q / 2) = omega (arith, and-step p q) in
+    rw e (bit-and i (p / 2) (q / 2))
+
+-- 2 ^ i has the member i and no other
+pub pow-here : (i : ℕ) → T (bit i (2 ^ i))
+pow-here zero = tt
+pow-here (suc i) = let e : 2 ^ suc i / 2 ≡ 2 ^ i = omega (arith, pow-suc 2 i) in rw e (pow-here i)
+
+pub pow-only : (i j : ℕ) → T (bit j (2 ^ i)) → j ≡ i
+pow-only zero zero t = refl
+pow-only zero (suc j) t = absurd (bit-none j t)
+pow-only (suc i) zero t = absurd (omega (arith, pow-suc 2 i, bit0-e (2 ^ suc i) t))
+pow-only (suc i) (suc j) t = let e : 2 ^ suc i / 2 ≡ 2 ^ i = omega (arith, pow-suc 2 i) in ap suc (pow-only i j (rw e at t))
+
+-- a set with member i put to it
+pub within-with : (p i : ℕ) → Within p (bitOr p (2 ^ i))
+within-with p i j t = rw (bit-or j p (2 ^ i)) (or-l (bit j p) (bit j (2 ^ i)) t)
+
+pub with-here : (p i : ℕ) → T (bit i (bitOr p (2 ^ i)))
+with-here p i = rw (bit-or i p (2 ^ i)) (or-r (bit i p) (bit i (2 ^ i)) (pow-here i))
+
+pub with-within : (p i s : ℕ) → Within p s → T (bit i s) → Within (bitOr p (2 ^ i)) s
+with-within p i s w t j u = go (or-cases (bit j p) (bit j (2 ^ i)) (rw (bit-or j p (2 ^ i)) at u))
+  where
+    go : T (bit j p) ⊎ T (bit j (2 ^ i)) → T (bit j s)
+    go (inl v) = w j v
+    go (inr v) = subst (λ (m : ℕ). T (bit m s)) (sym (pow-only i j v)) t

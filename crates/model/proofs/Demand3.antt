@@ -1,27 +1,29 @@
--- Demand 3, proved for every list of calls, and every choice among their L and C.
+-- Demand 3, proved for every list of calls, and every choice among their L, C and N.
 use Prim.Native.Nat.{ℕ}
 use native.Mathlib.Omega.{arith}
 use mathlib.Core.Path.{_≡_, refl, sym, ap, _∙_, subst, subst⁻¹}
 use mathlib.Core.Logic.{_↔_}
-use mathlib.Core.Bool.{Bool, true, false, not, cond}
-use mathlib.Core.List.{List, [], _∷_}
+use mathlib.Core.Bool.{Bool, true, false, not, cond, _&&_}
+use mathlib.Core.List.{List, [], _∷_, _++_}
 use lib.Dec.{T, ltb, eqb, eqb→eq, nltb→le}
 use lib.Arith.{le→nltb}
 use lib.ListN.{length}
-use Rattle.model.specs.Base.{All}
+use Rattle.model.specs.Base.{some, All}
 use Rattle.model.specs.Sets.{coverable, cost, cheapest, Best}
-use Rattle.model.specs.Pages.{PageOf}
+use Rattle.model.specs.Products.{tooMany}
+use Rattle.model.specs.Pages.{Page, PageOf, isLast}
 use Rattle.model.specs.Candidates.{Basis, covering, HoldsExactly, LegalBasis}
 use Rattle.model.specs.Commands.{Kind, is, isQueryKind, width, allowed, pricesOf, basisOf, Context, start, count, coveringOf}
 use Rattle.model.specs.Answers.{Answer, hasBytes, answerFor, answer, bytesOf}
-use Rattle.model.specs.Refusals.{refuse, refusalsOf}
+use Rattle.model.specs.Refusals.{Refusal, refuse, firstOf, refusalsOf}
 use Rattle.model.specs.Rules.{engine, refusalsBy, refusalBy, refusal}
 use Rattle.model.specs.Invariants.{Valid}
-use Rattle.model.specs.Exchanges.{Exchange, pageIn}
+use Rattle.model.specs.Exchanges.{Exchange, pageIn, pagesOf, Gives, EqualsPages}
 use Rattle.model.specs.Demand3.{isQuery, HasBasis, StandsOn, coversOf, NoCheaperList, setsIn, Correct, Acceptable, CorrectExchange, Demand, Demand3}
 use Rattle.model.proofs.Lists.{and-l, and-r, T-true, all-to}
 use Rattle.model.proofs.Sets.{listed, cheapest-irredundant}
 use Rattle.model.proofs.Pages.{rising, all-page}
+use Rattle.model.proofs.Products.{products-irredundants}
 use Rattle.model.proofs.Cheapest.{cheapest-best}
 use Rattle.model.proofs.Costs.{cost-dearer}
 use Rattle.model.proofs.Representations.{no-cheaper-list}
@@ -41,11 +43,18 @@ module _ (x : Context) (i : T (isQuery x)) where
   query-place = and-r (isQueryKind (x .kind)) (allowed (x .kind) (x .problem .place)) i
 
 named-query : (k : Kind) → T (isQueryKind k) → is k Kind.none ≡ false
-named-query = any-query (λ k. is k Kind.none ≡ false) (refl, (refl, tt))
+named-query = any-query (λ k. is k Kind.none ≡ false) (refl, (refl, (refl, tt)))
 
-pub refusalsOf-query : (x : Context) (k : Kind) → T (isQueryKind k) → refusalsOf x k ≡ refuse 12 (not (coverable (coveringOf x))) ∷ []
+-- 17 applies to a command of kind k
+abbrev pub manyAt : Context → Kind → Bool
+manyAt x k = is k Kind.N && tooMany (coveringOf x)
+
+-- 12, then 17 of an N, then what follows
+pub refusals-query : (x : Context) (rs : List Refusal) (k : Kind) → T (isQueryKind k)
+    → firstOf (refusalsOf x k ++ rs) ≡ cond (not (coverable (coveringOf x))) 12 (cond (manyAt x k) 17 (firstOf rs))
 unfolding refusalsOf
-refusalsOf-query x = any-query (λ k. refusalsOf x k ≡ refuse 12 (not (coverable (coveringOf x))) ∷ []) (refl, (refl, tt))
+refusals-query x rs =
+    any-query (λ k. firstOf (refusalsOf x k ++ rs) ≡ cond (not (coverable (coveringOf x))) 12 (cond (manyAt x k) 17 (firstOf rs))) (refl, (refl, (refl, tt)))
 
 short : Context → Bool
 short x = ltb (length (x .rest)) (width (x .kind))
@@ -53,18 +62,35 @@ short x = ltb (length (x .rest)) (width (x .kind))
 tight : Context → Bool
 tight x = ltb (x .free) (length (bytesOf (answer x)))
 
-abbrev which : Bool → Bool → Bool → ℕ
-which x y z = cond x 5 (cond (not y) 12 (cond z 14 0))
+abbrev which : Bool → Bool → Bool → Bool → ℕ
+which x y m z = cond x 5 (cond (not y) 12 (cond m 17 (cond z 14 0)))
 
-refusal-query : (x : Context) → T (isQueryKind (x .kind)) → T (allowed (x .kind) (x .problem .place)) → refusal x ≡ which (short x) (coverable (coveringOf x)) (tight x)
+refusal-query : (x : Context) → T (isQueryKind (x .kind)) → T (allowed (x .kind) (x .problem .place))
+    → refusal x ≡ which (short x) (coverable (coveringOf x)) (manyAt x (x .kind)) (tight x)
 unfolding refusalBy refusalsBy short tight
-refusal-query x a b = rw (named-query (x .kind) a, T-true {b = allowed (x .kind) (x .problem .place)} b, refusalsOf-query x (x .kind) a)
+refusal-query x a b = rw (named-query (x .kind) a, T-true {b = allowed (x .kind) (x .problem .place)} b, refusals-query x (refuse 14 (tight x) ∷ []) (x .kind) a)
 
-none-of : (x y z : Bool) → (which x y z ≡ 0) ↔ (T (not x) × T y × T (not z))
-none-of true y z = (λ e. absurd (omega arith), λ h. absurd (h .0))
-none-of false true true = (λ e. absurd (omega arith), λ h. absurd (h .2))
-none-of false true false = (λ e. (tt, tt, tt), λ h. refl)
-none-of false false z = (λ e. absurd (omega arith), λ h. absurd (h .1))
+none-of : (x y m z : Bool) → (which x y m z ≡ 0) ↔ (T (not x) × T y × T (not m) × T (not z))
+none-of true y m z = (λ e. absurd (omega arith), λ h. absurd (h .0))
+none-of false true true z = (λ e. absurd (omega arith), λ h. absurd (h .2))
+none-of false true false true = (λ e. absurd (omega arith), λ h. absurd (h .3))
+none-of false true false false = (λ e. (tt, tt, tt, tt), λ h. refl)
+none-of false false m z = (λ e. absurd (omega arith), λ h. absurd (h .1))
+
+-- 17 does not apply: where it is an N, the products are few enough
+few-to : (x : Context) (k : Kind) → T (not (manyAt x k)) → T (is k Kind.N) → T (not (tooMany (coveringOf x)))
+few-to x k n i = subst (λ (b : Bool). T (not (b && tooMany (coveringOf x)))) (T-true {b = is k Kind.N} i) n
+
+few-from : (x : Context) (k : Kind) → (T (is k Kind.N) → T (not (tooMany (coveringOf x)))) → T (not (manyAt x k))
+few-from x k h = go (is k Kind.N) h
+  where
+    go : (b : Bool) → (T b → T (not (tooMany (coveringOf x)))) → T (not (b && tooMany (coveringOf x)))
+    go true f = f tt
+    go false f = tt
+
+-- none of them applies
+abbrev NoneApplies : Context → Type 0
+NoneApplies x = T (not (short x)) × T (coverable (coveringOf x)) × T (not (manyAt x (x .kind))) × T (not (tight x))
 
 pub acceptable-iff : (b : Basis) (x : Context) → T (isQueryKind (x .kind)) → T (allowed (x .kind) (x .problem .place)) → HasBasis b x → (refusal x ≡ 0) ↔ Acceptable b x
 unfolding short tight
@@ -73,16 +99,29 @@ acceptable-iff b x a p s = (λ e. to (n .0 (sym (refusal-query x a p) ∙ e)), �
     same : coverable (coveringOf x) ≡ coverable (covering b)
     same = ap (λ (b : Basis). coverable (covering b)) s
 
-    n : (which (short x) (coverable (coveringOf x)) (tight x) ≡ 0) ↔ (T (not (short x)) × T (coverable (coveringOf x)) × T (not (tight x)))
-    n = none-of (short x) (coverable (coveringOf x)) (tight x)
+    many-same : tooMany (coveringOf x) ≡ tooMany (covering b)
+    many-same = ap (λ (b : Basis). tooMany (covering b)) s
 
-    to : T (not (short x)) × T (coverable (coveringOf x)) × T (not (tight x)) → Acceptable b x
-    to h = record { operands = nltb→le (length (x .rest)) (width (x .kind)) (h .0); coverable = subst (λ (y : Bool). T y) same (h .1); room = nltb→le (x .free) (length (bytesOf (answer x))) (h .2) }
+    n : (which (short x) (coverable (coveringOf x)) (manyAt x (x .kind)) (tight x) ≡ 0) ↔ NoneApplies x
+    n = none-of (short x) (coverable (coveringOf x)) (manyAt x (x .kind)) (tight x)
 
-    back : Acceptable b x → T (not (short x)) × T (coverable (coveringOf x)) × T (not (tight x))
-    back h = (le→nltb (length (x .rest)) (width (x .kind)) (h .operands), subst⁻¹ (λ (y : Bool). T y) same (h .coverable), le→nltb (x .free) (length (bytesOf (answer x))) (h .room))
+    to : NoneApplies x → Acceptable b x
+    to h = record {
+      operands = nltb→le (length (x .rest)) (width (x .kind)) (h .0);
+      coverable = subst (λ (y : Bool). T y) same (h .1);
+      few-products = λ i. subst (λ (y : Bool). T (not y)) many-same (few-to x (x .kind) (h .2) i);
+      room = nltb→le (x .free) (length (bytesOf (answer x))) (h .3);
+    }
 
--- ---- what each L and C is answered
+    back : Acceptable b x → NoneApplies x
+    back h = (
+      le→nltb (length (x .rest)) (width (x .kind)) (h .operands),
+      subst⁻¹ (λ (y : Bool). T y) same (h .coverable),
+      few-from x (x .kind) (λ i. subst⁻¹ (λ (y : Bool). T (not y)) many-same (h .few-products i)),
+      le→nltb (x .free) (length (bytesOf (answer x))) (h .room),
+    )
+
+-- ---- what each L, C and N is answered
 
 correct : (b : Basis) (x : Context) → HasBasis b x → T (coverable (covering b)) → Correct b x (answer x)
 unfolding answer answerFor
@@ -93,12 +132,19 @@ correct b x s h = subst (λ (z : Basis). T (coverable (covering z)) → Correct 
         let s = cheapest (coveringOf x) in
         (cost (coveringOf x) s, s, rw e, cheapest-best (coveringOf x) c, λ n f. no-cheaper-list (basisOf (x .problem)) (cost-dearer (pricesOf (x .problem)) n) (λ u. f u .0))
 
+    all : x .kind ≡ Kind.N → answer x ≡ Answer.productsAre (coversOf (basisOf (x .problem)))
+    all e = rw e (ap Answer.productsAre (products-irredundants (coveringOf x)))
+
     own : T (coverable (coveringOf x)) → Correct (basisOf (x .problem)) x (answer x)
-    own c = record { page = λ l. rw (is-kind (x .kind) Kind.L l); cheapest = λ k. best c (is-kind (x .kind) Kind.C k) }
+    own c = record {
+      page = λ l. rw (is-kind (x .kind) Kind.L l);
+      cheapest = λ k. best c (is-kind (x .kind) Kind.C k);
+      products = λ k. all (is-kind (x .kind) Kind.N k);
+    }
 
 pub has-bytes : (x : Context) (k : Kind) → T (isQueryKind k) → T (hasBytes (answerFor x k))
 unfolding answerFor
-has-bytes x = any-query (λ k. T (hasBytes (answerFor x k))) (tt, (tt, tt))
+has-bytes x = any-query (λ k. T (hasBytes (answerFor x k))) (tt, (tt, (tt, tt)))
 
 -- each set of the answer holds every wanted cell and no off cell
 sets-exactly : (b : Basis) (x : Context) → HasBasis b x → LegalBasis b → T (coverable (covering b)) → (k : Kind) → T (isQueryKind k) → All (HoldsExactly b) (setsIn (answerFor x k))
@@ -111,7 +157,10 @@ sets-exactly b x s l c = subst (λ (z : Basis). LegalBasis z → T (coverable (c
     own : LegalBasis z → T (coverable (covering z)) → (k : Kind) → T (isQueryKind k) → All (HoldsExactly z) (setsIn (answerFor x k))
     own l c = any-query (λ k. All (HoldsExactly z) (setsIn (answerFor x k))) (
       all-page (HoldsExactly z) (coversOf z) (start x) (count x) (all-exactly z l),
-      ((l .covers (cheapest (covering z)) .0 (cheapest-irredundant (covering z) c .covering), tt), tt),
+      (
+        (l .covers (cheapest (covering z)) .0 (cheapest-irredundant (covering z) c .covering), tt),
+        (subst⁻¹ (All (HoldsExactly z)) (products-irredundants (covering z)) (all-exactly z l), tt),
+      ),
     )
 
 -- the candidates of a valid problem are legal
@@ -167,12 +216,28 @@ pub lists-covers : (b : Basis) (x : Context) → HasBasis b x → Lists engine K
 unfolding answer answerFor
 lists-covers b x s i z = subst (λ (y : Basis). All (PageOf (coversOf y)) (pageIn x (answer x))) s (rw (is-kind (x .kind) Kind.L i) ((refl, refl), tt))
 
+-- ---- "It equals L's pages joined until no more is reported"
+
+-- of an exchange that is right, where the pages give the list that N is answered
+pub equals-pages : (list : List ℕ) (es : List Exchange) → Gives Kind.L list es → (b : Basis) → coversOf b ≡ list → (e : Exchange) → CorrectExchange b e → EqualsPages (pagesOf Kind.L es) e
+equals-pages list es g b same e c n h o l =
+    c .correct (c .answered .0 h) .products n ∙ ap Answer.productsAre (same ∙ sym (g .joined o .last (λ z. subst (λ (ps : List Page). T (some isLast ps)) z l) .0 l))
+
 demand : (b : Basis) (es : List Exchange) → All (RepliedIn engine Fine) es → All (StandsOn b) es → Demand b es
 demand b es r s = record {
   listed = listed (covering b);
-  each = all-correct b es r s;
-  pages = gives engine Kind.L (coversOf b) (StandsOn b) (λ e h. lists-covers b (e .context) (h .1)) (rising (covering b)) es (all-to (RepliedIn engine Fine) (Replied engine) (λ e h. h .0) es r) s;
+  each = each;
+  pages = pages;
+  products = all-to (CorrectExchange b) (EqualsPages (pagesOf Kind.L es)) (equals-pages (coversOf b) es pages b refl) es each;
 }
+  where
+    each : All (CorrectExchange b) es
+    each = all-correct b es r s
+
+    pages : Gives Kind.L (coversOf b) es
+    pages =
+        gives engine Kind.L (coversOf b) (StandsOn b) (λ e h. lists-covers b (e .context) (h .1)) (rising (covering b)) es
+        (all-to (RepliedIn engine Fine) (Replied engine) (λ e h. h .0) es r) s
 
 pub demand-3 : Demand3
 demand-3 b = claim engine engine-lawful Fine valid (StandsOn b) (Demand b) (demand b)

@@ -1,25 +1,26 @@
 -- Demand 3 is not vacuous: two calls on the paper's table and terms. The first gives a page of two sets and refuses a second, which the
--- buffer does not hold; the second, in a further job, gives the cheapest and the rest. What the calls return and leave is written out;
+-- buffer does not hold; the second, in a further job, gives the cheapest, the rest and the whole by N. What the calls return and leave is written out;
 -- the hypotheses hold by computation.
 use Prim.Native.Nat.{ℕ, _+_, _*_, _^_}
 use mathlib.Core.Path.{_≡_, refl}
-use mathlib.Core.List.{List, [], _∷_, _++_}
+use mathlib.Core.List.{List, [], _∷_, _++_, map}
 use mathlib.Core.Bool.{Bool, true, not, _&&_}
 use lib.Dec.{T, eqb, eqb→eq}
 use lib.Count.{ones, onesIn}
 use lib.ListN.{replicate}
-use Rattle.model.specs.Base.{implies, nonEmpty, filter, All}
+use Rattle.model.specs.Base.{implies, nonEmpty, some, filter, join, All}
 use Rattle.model.specs.Table.{isOn, onCells, isDc, isOff, cells, holds, formed, holdsNoOff, legal}
 use Rattle.model.specs.Sets.{irredundants, irredundant, redundant, covers, cover, coverable, cost, cheapest}
+use Rattle.model.specs.Products.{containsNoOther, holders, joined, kept, productsUpTo, products, tooMany}
 use Rattle.model.specs.Pages.{page, more, atOrAbove, nextStart, Page, isLast, joinedSets, InOrder, Joined}
 use Rattle.model.specs.Candidates.{literalsCharged, termCost, basis}
-use Rattle.model.specs.Commands.{Kind, kindOf, problemAfter}
-use Rattle.model.specs.Answers.{answer, answerFor}
+use Rattle.model.specs.Commands.{Kind, is, kindOf, low, problemAfter}
+use Rattle.model.specs.Answers.{hasBytes, answer, answerFor}
 use Rattle.model.specs.Refusals.{refusalsOf}
 use Rattle.model.specs.Rules.{engine, refusalBy, refusalsBy}
 use Rattle.model.specs.Job.{runBy, packed, written, bufferAfter}
 use Rattle.model.specs.Calls.{Call, Met, decoded, read}
-use Rattle.model.specs.Exchanges.{Exchange, readIn, allRead, pagesOf}
+use Rattle.model.specs.Exchanges.{Exchange, readIn, allRead, pagesOf, EqualsPages}
 use Rattle.model.specs.Demand3.{StandsOn, coversOf, Demand, isAsked}
 use Rattle.model.specs.Cases.{example, sixTerms, exampleHead}
 use Rattle.model.proofs.Lists.{implies-e, and-l, and-r, sublist-filter}
@@ -55,18 +56,18 @@ first = record {
 
 abbrev second : Call
 second = record {
-  job = exampleHead ++ (0x43 ∷ 0x4c ∷ 23 ∷ 0 ∷ 0 ∷ 0 ∷ 0 ∷ 0 ∷ 0 ∷ 0 ∷ 9 ∷ 0x45 ∷ []);
-  before = replicate 48 0xff;
-  returned = 55 * 2 ^ 16 + 47;
+  job = exampleHead ++ (0x43 ∷ 0x4c ∷ 23 ∷ 0 ∷ 0 ∷ 0 ∷ 0 ∷ 0 ∷ 0 ∷ 0 ∷ 9 ∷ 0x4e ∷ 0x45 ∷ []);
+  before = replicate 99 0xff;
+  returned = 56 * 2 ^ 16 + 98;
   after = 0x63 ∷ 3 ∷ 0 ∷ 41 ∷ 0 ∷ 0 ∷ 0 ∷ 0 ∷ 0 ∷ 0 ∷ 0
       ∷ 0x6c ∷ 4 ∷ 0 ∷ 26 ∷ 0 ∷ 0 ∷ 0 ∷ 0 ∷ 0 ∷ 0 ∷ 0 ∷ 41 ∷ 0 ∷ 0 ∷ 0 ∷ 0 ∷ 0 ∷ 0 ∷ 0 ∷ 52 ∷ 0 ∷ 0 ∷ 0 ∷ 0 ∷ 0 ∷ 0 ∷ 0 ∷ 56 ∷ 0 ∷ 0 ∷ 0 ∷ 0 ∷ 0 ∷ 0 ∷ 0
-      ∷ 0x65 ∷ 0xff ∷ [];
+      ∷ (0x6e ∷ 6 ∷ 0 ∷ (join (map (low 8) (11 ∷ 22 ∷ 26 ∷ 41 ∷ 52 ∷ 56 ∷ [])) ++ (0x65 ∷ 0xff ∷ [])));
 }
 
 abbrev calls : List Call
 calls = first ∷ second ∷ []
 
--- the L and C among what their bytes hold, and the pages among those
+-- the L, C and N among what their bytes hold, and the pages among those
 abbrev exchanges : List Exchange
 exchanges = filter isAsked (allRead engine calls)
 
@@ -74,19 +75,19 @@ abbrev pages : List Page
 pages = pagesOf Kind.L exchanges
 
 met : All Met calls
-unfolding irredundants irredundant redundant covers cover coverable cost cheapest page more atOrAbove isOn onCells isDc isOff cells holds formed holdsNoOff legal literalsCharged termCost ones onesIn runBy kindOf packed written bufferAfter refusalBy refusalsBy refusalsOf answer answerFor problemAfter
+unfolding irredundants irredundant redundant covers cover coverable cost cheapest page more atOrAbove isOn onCells isDc isOff cells holds formed holdsNoOff legal literalsCharged termCost ones onesIn runBy kindOf packed written bufferAfter refusalBy refusalsBy refusalsOf answer answerFor problemAfter products tooMany productsUpTo kept joined holders containsNoOther
 met = (record { returned = refl; after = refl }, (record { returned = refl; after = refl }, tt))
 
 stands : All (StandsOn (basis example sixTerms)) exchanges
-unfolding irredundants irredundant redundant covers cover coverable cost cheapest page more atOrAbove isOn onCells isDc isOff cells holds formed holdsNoOff legal literalsCharged termCost ones onesIn runBy kindOf refusalBy refusalsBy refusalsOf answer answerFor problemAfter decoded read readIn
-stands = ((tt, refl), ((tt, refl), ((tt, refl), ((tt, refl), tt))))
+unfolding irredundants irredundant redundant covers cover coverable cost cheapest page more atOrAbove isOn onCells isDc isOff cells holds formed holdsNoOff legal literalsCharged termCost ones onesIn runBy kindOf refusalBy refusalsBy refusalsOf answer answerFor problemAfter decoded read readIn products tooMany productsUpTo kept joined holders containsNoOther
+stands = ((tt, refl), ((tt, refl), ((tt, refl), ((tt, refl), ((tt, refl), tt)))))
 
 in-order : T (inOrder [] pages)
-unfolding irredundants irredundant redundant covers cover coverable cost cheapest page more atOrAbove isOn onCells isDc isOff cells holds formed holdsNoOff legal literalsCharged termCost ones onesIn runBy kindOf refusalBy refusalsBy refusalsOf answer answerFor problemAfter decoded read readIn
+unfolding irredundants irredundant redundant covers cover coverable cost cheapest page more atOrAbove isOn onCells isDc isOff cells holds formed holdsNoOff legal literalsCharged termCost ones onesIn runBy kindOf refusalBy refusalsBy refusalsOf answer answerFor problemAfter decoded read readIn products tooMany productsUpTo kept joined holders containsNoOther
 in-order = tt
 
 pub joined-are : joinedSets pages ≡ 11 ∷ 22 ∷ 26 ∷ 41 ∷ 52 ∷ 56 ∷ []
-unfolding irredundants irredundant redundant covers cover coverable cost cheapest page more atOrAbove isOn onCells isDc isOff cells holds formed holdsNoOff legal literalsCharged termCost ones onesIn runBy kindOf refusalBy refusalsBy refusalsOf answer answerFor problemAfter decoded read readIn
+unfolding irredundants irredundant redundant covers cover coverable cost cheapest page more atOrAbove isOn onCells isDc isOff cells holds formed holdsNoOff legal literalsCharged termCost ones onesIn runBy kindOf refusalBy refusalsBy refusalsOf answer answerFor problemAfter decoded read readIn products tooMany productsUpTo kept joined holders containsNoOther
 joined-are = refl
 
 pub all-right : Demand (basis example sixTerms) exchanges
@@ -94,3 +95,11 @@ all-right = demand-3 (basis example sixTerms) calls met .bytes exchanges (sublis
 
 pub all-joined : Joined (coversOf (basis example sixTerms)) pages
 all-joined = all-right .pages .joined (inOrder-e [] pages in-order)
+
+-- and an N that is answered has their sets: there is one, and the last page has more 0
+pub all-multiplied : All (EqualsPages pages) exchanges
+all-multiplied = all-right .products
+
+pub one-multiplied : T (some (λ e. is (e .context .kind) Kind.N && hasBytes (e .reply)) exchanges && some isLast pages)
+unfolding irredundants irredundant redundant covers cover coverable cost cheapest page more atOrAbove isOn onCells isDc isOff cells holds formed holdsNoOff legal literalsCharged termCost ones onesIn runBy kindOf refusalBy refusalsBy refusalsOf answer answerFor problemAfter decoded read readIn products tooMany productsUpTo kept joined holders containsNoOther
+one-multiplied = tt

@@ -45,6 +45,7 @@ pageTold c Answer.nothing = []
 pageTold c (Answer.primesAre ts) = []
 pageTold c (Answer.paged ss m) = record { start = number (take 8 (c .operands)); count = getD (c .operands) 8 0; sets = ss; above = m } ∷ []
 pageTold c (Answer.cheapestIs k s) = []
+pageTold c (Answer.productsAre ss) = []
 pageTold c Answer.ended = []
 
 page-of-L : (q : Problem) (bs : List ℕ) (free : ℕ) (a : Answer) → let x : Context = record { problem = q; kind = Kind.L; rest = bs; free = free } in pageIn x a ≡ pageTold (commandOf x) a
@@ -52,6 +53,7 @@ page-of-L q bs free Answer.nothing = refl
 page-of-L q bs free (Answer.primesAre ts) = refl
 page-of-L q bs free (Answer.paged ss m) = rw (take-take 8 9 bs (omega arith), getD-take 9 bs 8 0 (omega arith))
 page-of-L q bs free (Answer.cheapestIs k s) = refl
+page-of-L q bs free (Answer.productsAre ss) = refl
 page-of-L q bs free Answer.ended = refl
 
 pub page-told : (x : Context) (a : Answer) → cond (is (x .kind) Kind.L) (pageIn x a) [] ≡ cond (is (x .kind) Kind.L) (pageTold (commandOf x) a) []

@@ -1,4 +1,4 @@
--- K2: an L or C that is answered is answered the same in a fresh job with the standing candidates.
+-- K2: an L, C or N that is answered is answered the same in a fresh job with the standing candidates.
 use Prim.Native.Nat.{ℕ, suc, _-_, _*_, _≤_, _<_}
 use native.Mathlib.Omega.{arith}
 use mathlib.Core.Path.{_≡_, refl, sym, ap, _∙_, subst⁻¹}

@@ -11,6 +11,7 @@ use lib.ListN.{length, take, length-append, length-take}
 use Rattle.model.specs.Base.{join, All}
 use Rattle.model.specs.Table.{Term, formed, holdsNoOff, legal}
 use Rattle.model.specs.Sets.{irredundants, cost, cheapest}
+use Rattle.model.specs.Products.{products}
 use Rattle.model.specs.Pages.{page, more}
 use Rattle.model.specs.Candidates.{Basis, covering}
 use Rattle.model.specs.Commands.{begun, inTerms, queried, Kind, formOf, is, isQueryKind, width, allowed, Problem, atPlace, withCands, basisOf}
@@ -65,7 +66,7 @@ module _ (a : Answer) (room : ℕ) (bs : List ℕ) where
 -- it answers by table, candidates and operands alone
 pub same-answer : (x y : Context) → HasBasis (basisOf (x .problem)) y → (k : Kind) → T (isQueryKind k) → take (width k) (y .rest) ≡ take (width k) (x .rest) → answerFor y k ≡ answerFor x k
 unfolding answerFor
-same-answer x y s = any-query (λ k. take (width k) (y .rest) ≡ take (width k) (x .rest) → answerFor y k ≡ answerFor x k) (page-same, (cheapest-same, tt))
+same-answer x y s = any-query (λ k. take (width k) (y .rest) ≡ take (width k) (x .rest) → answerFor y k ≡ answerFor x k) (page-same, (cheapest-same, (products-same, tt)))
   where
     pageAt : Basis → ℕ → ℕ → Answer
     pageAt b from many = Answer.paged (page (irredundants (covering b)) from many) (more (irredundants (covering b)) from many)
@@ -77,6 +78,9 @@ same-answer x y s = any-query (λ k. take (width k) (y .rest) ≡ take (width k)
 
     cheapest-same : take 0 (y .rest) ≡ take 0 (x .rest) → answerFor y Kind.C ≡ answerFor x Kind.C
     cheapest-same e = ap (λ (b : Basis). Answer.cheapestIs (cost (covering b) (cheapest (covering b))) (cheapest (covering b))) s
+
+    products-same : take 0 (y .rest) ≡ take 0 (x .rest) → answerFor y Kind.N ≡ answerFor x Kind.N
+    products-same e = ap (λ (b : Basis). Answer.productsAre (products (covering b))) s
 
 -- what the queries have in common
 record QueryForm (k : Kind) : Type 0 where
@@ -90,7 +94,10 @@ query-form : (k : Kind) → T (isQueryKind k) → QueryForm k
 unfolding problemAfter
 query-form = any-query QueryForm (
   record { last = refl; first = tt; goes = tt; short = omega arith; after = λ x. refl },
-  (record { last = refl; first = tt; goes = tt; short = omega arith; after = λ x. refl }, tt),
+  (
+    record { last = refl; first = tt; goes = tt; short = omega arith; after = λ x. refl },
+    (record { last = refl; first = tt; goes = tt; short = omega arith; after = λ x. refl }, tt),
+  ),
 )
 
 module _ (x : Context) (i : T (isQuery x)) where
@@ -138,6 +145,7 @@ module _ (x : Context) (i : T (isQuery x)) (z : refusal x ≡ 0) (room : ℕ) (l
       good = record {
         operands = omega (arith, full, length-append operands ending);
         coverable = accepted .coverable;
+        few-products = accepted .few-products;
         room = subst⁻¹ (λ (a : Answer). length (bytesOf a) ≤ room) same (omega arith);
       }
 

@@ -50,6 +50,7 @@ others-keep x Kind.A n p = refl
 others-keep x Kind.D n p = refl
 others-keep x Kind.L n p = refl
 others-keep x Kind.C n p = refl
+others-keep x Kind.N n p = refl
 others-keep x Kind.E n p = refl
 others-keep x Kind.none n p = refl
 

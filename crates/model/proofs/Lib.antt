@@ -3,11 +3,16 @@ pub mod Lists
 pub mod Bits
 pub mod Sets
 pub mod Pages
+pub mod Distinct
 pub mod Joined
 pub mod Cheapest
 pub mod Rows
 pub mod Matrix
 pub mod Presence
+pub mod ProductsStep
+pub mod Products
+pub mod ProductsSame
+pub mod Remaining
 pub mod Cubes
 pub mod Drives
 pub mod Order
@@ -22,6 +27,7 @@ pub mod RowByRow
 pub mod Sound
 pub mod Valid
 pub mod Library
+pub mod Multiplied
 pub mod Caller
 pub mod Exchanges
 pub mod Demand3
@@ -49,4 +55,5 @@ pub mod Numbers
 pub mod Marked
 pub mod EightRows
 pub mod Example
+pub mod ManyProducts
 pub mod Changes

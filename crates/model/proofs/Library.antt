@@ -109,7 +109,7 @@ words-numbered : (p : Table) (words : List ℕ) → All Numbered (join (map (ref
 words-numbered p [] = tt
 words-numbered p (w ∷ ws) = (omega arith, (omega arith, words-numbered p ws))
 
-call-numbered : (p : Table) (words : List ℕ) → All Numbered (callRefusals p words)
+pub call-numbered : (p : Table) (words : List ℕ) → All Numbered (callRefusals p words)
 unfolding callRefusals
 call-numbered p words =
     let last = refuse 12 (not (coverable (covering (basis p (map unpack words))))) ∷ [] in

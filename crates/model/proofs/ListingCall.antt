@@ -16,7 +16,7 @@ use Rattle.model.specs.Rules.{engine}
 use Rattle.model.specs.Job.{run, written, bufferAfter}
 use Rattle.model.specs.Pages.{Page}
 use Rattle.model.specs.Calls.{Call, ran, Met, numberOf, replies, Reads}
-use Rattle.model.specs.Exchanges.{Exchange, answers, pair, readIn, pagesOf}
+use Rattle.model.specs.Exchanges.{Exchange, answers, pair, readIn, pagesOf, Gives, EqualsPages}
 use Rattle.model.specs.Demand3.{StandsOn, coversOf, CorrectExchange}
 use Rattle.model.specs.Standing.{Command, commandOf}
 use Rattle.model.specs.Pricing.{uncosted, askedOf, listing, SameListing}
@@ -29,7 +29,7 @@ use Rattle.model.proofs.Pages.{rising}
 use Rattle.model.proofs.Pricing.{listing-untouched}
 use Rattle.model.proofs.Caller.{written-is, caller}
 use Rattle.model.proofs.Exchanges.{Replied, RepliedIn, claim, Lists, gives}
-use Rattle.model.proofs.Demand3.{Fine, correct-exchange, lists-covers}
+use Rattle.model.proofs.Demand3.{Fine, correct-exchange, lists-covers, equals-pages}
 use Rattle.model.proofs.ExpandedCall.{pageTold, page-told}
 use Rattle.model.proofs.Unpriced.{uncosted-length, uncosted-bytes}
 use Rattle.model.proofs.Listing.{untouched}
@@ -63,6 +63,7 @@ uncosted-other Answer.nothing n = refl
 uncosted-other (Answer.primesAre ts) n = refl
 uncosted-other (Answer.paged ss m) n = refl
 uncosted-other (Answer.cheapestIs c s) n = absurd n
+uncosted-other (Answer.productsAre ss) n = refl
 uncosted-other Answer.ended n = refl
 
 none-uncosted : (rs : List Answer) → T (every (λ a. not (isCheapest a)) rs) → map uncosted rs ≡ rs
@@ -79,6 +80,7 @@ none-among (Answer.nothing ∷ rs) t = none-among rs t
 none-among (Answer.primesAre ts ∷ rs) t = none-among rs t
 none-among (Answer.paged ss m ∷ rs) t = none-among rs t
 none-among (Answer.cheapestIs c s ∷ rs) t = absurd t
+none-among (Answer.productsAre ss ∷ rs) t = none-among rs t
 none-among (Answer.ended ∷ rs) t = none-among rs t
 
 -- and an answer that is none stays so
@@ -90,6 +92,7 @@ none-there rs ss e t = subst (λ (b : Bool). T b) (kinds-of rs ∙ ap (every (λ
     one (Answer.primesAre ts) = refl
     one (Answer.paged ss m) = refl
     one (Answer.cheapestIs c s) = refl
+    one (Answer.productsAre ss) = refl
     one Answer.ended = refl
 
     kinds-of : (qs : List Answer) → every (λ a. not (isCheapest a)) qs ≡ every (λ a. not (isCheapest a)) (map uncosted qs)
@@ -107,6 +110,7 @@ page-uncosted c Answer.nothing = refl
 page-uncosted c (Answer.primesAre ts) = refl
 page-uncosted c (Answer.paged ss m) = refl
 page-uncosted c (Answer.cheapestIs k s) = refl
+page-uncosted c (Answer.productsAre ss) = refl
 page-uncosted c Answer.ended = refl
 
 pages-pair : (xs : List Context) (rs : List Answer) → pagesOf Kind.L (pair xs rs) ≡ pagesBy (map (λ t. t .0) (map askedOf xs)) (map uncosted rs)
@@ -177,9 +181,25 @@ each-at-any : (p : Table) (ts : List Term) (es : List Exchange) → All (Replied
 each-at-any p ts [] r s = tt
 each-at-any p ts (e ∷ es) r s = (correct-exchange (basisOf (e .context .problem)) e (r .0) (s .0 .0, refl), each-at-any p ts es (r .1) (s .1))
 
+-- N is no more touched than the pages are
+equal-at-any : (p : Table) (ts : List Term) (es : List Exchange) → Gives Kind.L (coversOf (basis p ts)) es → (us : List Exchange)
+    → All (λ e. CorrectExchange (basisOf (e .context .problem)) e) us → All (StandsAtAnyPrices p ts) us → All (EqualsPages (pagesOf Kind.L es)) us
+equal-at-any p ts es g [] c s = tt
+equal-at-any p ts es g (e ∷ us) c s =
+    let w = s .0 .1 .0 in
+    let same = ap coversOf (s .0 .1 .1) ∙ listing-untouched w usual p ts in
+    (equals-pages (coversOf (basis p ts)) es g (basisOf (e .context .problem)) same e (c .0), equal-at-any p ts es g us (c .1) (s .1))
+
+demand-at-any : (p : Table) (ts : List Term) (es : List Exchange) → All (RepliedIn engine Fine) es → All (StandsAtAnyPrices p ts) es → DemandAtAnyPrices p ts es
+demand-at-any p ts es r s = record { each = each; pages = pages; products = equal-at-any p ts es pages es each s }
+  where
+    each : All (λ e. CorrectExchange (basisOf (e .context .problem)) e) es
+    each = each-at-any p ts es r s
+
+    pages : Gives Kind.L (coversOf (basis p ts)) es
+    pages =
+        gives engine Kind.L (coversOf (basis p ts)) (StandsAtAnyPrices p ts) (lists-at-any p ts) (rising (covering (basis p ts))) es
+        (all-to (RepliedIn engine Fine) (Replied engine) (λ e h. h .0) es r) s
+
 pub at-any-prices : AtAnyPrices
-at-any-prices p ts = claim engine engine-lawful Fine valid (StandsAtAnyPrices p ts) (DemandAtAnyPrices p ts) (λ es r s. record {
-  each = each-at-any p ts es r s;
-  pages = gives engine Kind.L (coversOf (basis p ts)) (StandsAtAnyPrices p ts) (lists-at-any p ts) (rising (covering (basis p ts))) es
-      (all-to (RepliedIn engine Fine) (Replied engine) (λ e h. h .0) es r) s;
-})
+at-any-prices p ts = claim engine engine-lawful Fine valid (StandsAtAnyPrices p ts) (DemandAtAnyPrices p ts) (demand-at-any p ts)

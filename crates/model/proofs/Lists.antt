@@ -5,7 +5,7 @@ use native.Mathlib.Decide.{decLt}
 use mathlib.Core.Path.{_≡_, refl, ap, _∙_, subst, subst⁻¹}
 use mathlib.Core.Logic.{_⊎_, inl, inr}
 use mathlib.Core.Bool.{Bool, true, false, not, cond, _&&_, _||_}
-use mathlib.Core.List.{List, [], _∷_, _++_, map, List·Memᴰ, List·Memᴰ·head, List·Memᴰ·tail, Memᴰ·append-left, Memᴰ·append-right, Sublistᴰ, Sublistᴰ·slnil, Sublistᴰ·cons, Sublistᴰ·cons-cons}
+use mathlib.Core.List.{List, [], _∷_, _++_, map, List·Memᴰ, List·Memᴰ·head, List·Memᴰ·tail, Memᴰ·append-left, Memᴰ·append-right, List·Memᴰ·append-cases, Sublistᴰ, Sublistᴰ·slnil, Sublistᴰ·cons, Sublistᴰ·cons-cons}
 use lib.Dec.{T, eqb, eqb-refl}
 use lib.ListN.{getD, length, take, drop, replicate, length-replicate, getD-replicate, List·getD-eq-default}
 use Rattle.model.specs.Base.{from, below, every, some, filter, join, implies, without, All, Ordered}
@@ -99,6 +99,14 @@ module _ {A : Type 0} where
       go true h = h
       go false h = refl
 
+  pub every-same : (f g : A → Bool) (xs : List A) → ((x : A) → f x ≡ g x) → every f xs ≡ every g xs
+  every-same f g [] h = refl
+  every-same f g (x ∷ xs) h = rw (h x, every-same f g xs h)
+
+  pub some-same : (f g : A → Bool) (xs : List A) → ((x : A) → f x ≡ g x) → some f xs ≡ some g xs
+  some-same f g [] h = refl
+  some-same f g (x ∷ xs) h = rw (h x, some-same f g xs h)
+
   pub some-i : (f : A → Bool) {x : A} {xs : List A} → List·Memᴰ x xs → T (f x) → T (some f xs)
   some-i f (List·Memᴰ·head {x = y} {xs = ys} e) t = or-l (f y) (some f ys) (subst (λ (z : A). T (f z)) e t)
   some-i f (List·Memᴰ·tail {x = y} {xs = ys} h) t = or-r (f y) (some f ys) (some-i f h t)
@@ -148,6 +156,14 @@ module _ {A : Type 0} where
   join-i {x} m (List·Memᴰ·head {xs = yss} e) = Memᴰ·append-left (join yss) (subst (λ (l : List A). List·Memᴰ x l) e m)
   join-i m (List·Memᴰ·tail {x = ys} h) = Memᴰ·append-right ys (join-i m h)
 
+  pub join-e : {x : A} (xss : List (List A)) → List·Memᴰ x (join xss) → (xs : List A) × List·Memᴰ x xs × List·Memᴰ xs xss
+  join-e [] m = elim m [ ]
+  join-e {x} (ys ∷ yss) m = go (List·Memᴰ·append-cases ys m) (join-e yss)
+    where
+      go : List·Memᴰ x ys ⊎ List·Memᴰ x (join yss) → (List·Memᴰ x (join yss) → (xs : List A) × List·Memᴰ x xs × List·Memᴰ xs yss) → (xs : List A) × List·Memᴰ x xs × List·Memᴰ xs (ys ∷ yss)
+      go (inl h) r = (ys, h, List·Memᴰ·head refl)
+      go (inr h) r = let q = r h in (q .0, q .1, List·Memᴰ·tail (q .2))
+
 -- the numbers from i on
 pub from-i : (i k x : ℕ) → i ≤ x → x < i + k → List·Memᴰ x (from i k)
 from-i i zero x h l = absurd (omega arith)
@@ -180,6 +196,15 @@ zero-at n v = go (decLt v n)
     go : Dec (v < n) → _≡_ {A = ℕ} (getD (replicate n 0) v 0) 0
     go (yes h) = getD-replicate n v 0 0 h
     go (no h) = List·getD-eq-default (replicate n 0) 0 (omega (arith, length-replicate {A = ℕ} n 0))
+
+pub every-map : {A B : Type 0} (f : B → Bool) (g : A → B) (xs : List A) → every f (map g xs) ≡ every (λ x. f (g x)) xs
+every-map f g [] = refl
+every-map f g (x ∷ xs) = rw (every-map f g xs)
+
+pub take-map : {A B : Type 0} (f : A → B) (i : ℕ) (xs : List A) → take i (map f xs) ≡ map f (take i xs)
+take-map f zero xs = refl
+take-map f (suc i) [] = refl
+take-map f (suc i) (x ∷ xs) = ap (λ (ys : List _). f x ∷ ys) (take-map f i xs)
 
 pub map-without : {A B : Type 0} (f : A → B) (k : ℕ) (xs : List A) → map f (without k xs) ≡ without k (map f xs)
 map-without f k [] = refl

@@ -7,9 +7,9 @@ use mathlib.Core.Bool.{Bool, true, false, cond, _&&_}
 use mathlib.Core.List.{List, [], _∷_, map, List·Memᴰ, List·Memᴰ·head, List·Memᴰ·tail}
 use lib.Bits.{bitAnd}
 use lib.ListN.{getD, length, length-map}
-use Rattle.model.specs.Base.{bit, from, below, every, some, filter, sum}
+use Rattle.model.specs.Base.{bit, from, below, some, filter, sum}
 use Rattle.model.specs.Sets.{Covering, members, covers, cover, coverable, redundant, irredundant, irredundants, cost, least, leastOf, cheapest, rowOf, ofRows}
-use Rattle.model.proofs.Lists.{bool-ext, below-e}
+use Rattle.model.proofs.Lists.{bool-ext, every-same, every-map, below-e}
 use Rattle.model.proofs.Bits.{bit-flag}
 use Rattle.model.proofs.Sets.{members-all}
 use Rattle.model.proofs.Rows.{held-iff}
@@ -42,13 +42,9 @@ row-bits (suc k) i r q f l =
 
 -- ---- two covering problems with the same covers
 
-filter-same : {A : Type 0} (f g : A → Bool) (xs : List A) → ((x : A) → List·Memᴰ x xs → f x ≡ g x) → filter f xs ≡ filter g xs
+pub filter-same : {A : Type 0} (f g : A → Bool) (xs : List A) → ((x : A) → List·Memᴰ x xs → f x ≡ g x) → filter f xs ≡ filter g xs
 filter-same f g [] h = refl
 filter-same f g (x ∷ xs) h = rw (h x (List·Memᴰ·head refl), filter-same f g xs (λ y m. h y (List·Memᴰ·tail m)))
-
-every-same : {A : Type 0} (f g : A → Bool) (xs : List A) → ((x : A) → f x ≡ g x) → every f xs ≡ every g xs
-every-same f g [] h = refl
-every-same f g (x ∷ xs) h = rw (h x, every-same f g xs h)
 
 least-same : (f g : ℕ → ℕ) (b : ℕ) (ss : List ℕ) → ((s : ℕ) → f s ≡ g s) → least f b ss ≡ least g b ss
 least-same f g b [] h = refl
@@ -100,10 +96,6 @@ sum-index w (t ∷ ts) cs i s f = go (bit 0 s) (sum-index w ts cs (suc i) (s / 2
     go true later = ap₂ (λ (x y : ℕ). x + y) first later
     go false later = later
 
-every-map : {A B : Type 0} (f : B → Bool) (g : A → B) (xs : List A) → every f (map g xs) ≡ every (λ x. f (g x)) xs
-every-map f g [] = refl
-every-map f g (x ∷ xs) = rw (every-map f g xs)
-
 module _ {A X : Type 0} (k : Covering A X) where
   abbrev rows : List ℕ
   rows = map (rowOf (k .holds) (k .cands)) (k .points)
@@ -118,21 +110,21 @@ module _ {A X : Type 0} (k : Covering A X) where
   rows-size : length (byRows .cands) ≡ length (k .cands)
   rows-size = from-length 0 (length costs) ∙ length-map (k .cands) (k .weight)
 
-  rows-held : (s : ℕ) (x : X) → some (λ i. bit i (rowOf (k .holds) (k .cands) x)) (members (below (length costs)) s) ≡ some (λ t. k .holds t x) (members (k .cands) s)
-  rows-held s x =
+  -- candidate i by its number, of as many numbers as there are candidates
+  pub rows-held : (n : ℕ) → n ≡ length (k .cands) → (s : ℕ) (x : X) → some (λ i. bit i (rowOf (k .holds) (k .cands) x)) (members (below n) s) ≡ some (λ t. k .holds t x) (members (k .cands) s)
+  rows-held n m s x =
       let r : ℕ = rowOf (k .holds) (k .cands) x in
-      let m = length-map (k .cands) (k .weight) in
-      let l : r < 2 ^ length costs = subst⁻¹ (λ (n : ℕ). r < 2 ^ n) m (rowOf-lt (k .holds) (k .cands) x) in
-      let e : rowOf bit (below (length costs)) r ≡ r = row-bits (length costs) 0 r r (λ j. let z : 0 + j ≡ j = omega arith in ap (λ (i : ℕ). bit i r) z) l in
-      let a = held-iff bit (below (length costs)) r s in
+      let l : r < 2 ^ n = subst⁻¹ (λ (c : ℕ). r < 2 ^ c) m (rowOf-lt (k .holds) (k .cands) x) in
+      let e : rowOf bit (below n) r ≡ r = row-bits n 0 r r (λ j. let z : 0 + j ≡ j = omega arith in ap (λ (i : ℕ). bit i r) z) l in
+      let a = held-iff bit (below n) r s in
       let b = held-iff (k .holds) (k .cands) x s in
-      bool-ext (some (λ i. bit i r) (members (below (length costs)) s)) (some (λ t. k .holds t x) (members (k .cands) s))
+      bool-ext (some (λ i. bit i r) (members (below n) s)) (some (λ t. k .holds t x) (members (k .cands) s))
       (λ t. b .1 (subst (λ (q : ℕ). 0 < bitAnd s q) e (a .0 t)))
       (λ t. a .1 (subst⁻¹ (λ (q : ℕ). 0 < bitAnd s q) e (b .0 t)))
 
   rows-cover : (s : ℕ) → cover byRows s ≡ cover k s
   unfolding cover covers
-  rows-cover s = every-map _ (rowOf (k .holds) (k .cands)) (k .points) ∙ every-same _ _ (k .points) (rows-held s)
+  rows-cover s = every-map _ (rowOf (k .holds) (k .cands)) (k .points) ∙ every-same _ _ (k .points) (rows-held (length costs) (length-map (k .cands) (k .weight)) s)
 
   pub rows-cost : (s : ℕ) → cost byRows s ≡ cost k s
   unfolding cost

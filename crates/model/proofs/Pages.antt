@@ -29,7 +29,7 @@ rising-filter f b (x ∷ xs) r = go (f x) (rising-filter f (suc x) xs (r .1))
     go true h = (r .0, h)
     go false h = rising-down b (suc x) (filter f xs) (omega (arith, r .0)) h
 
-rising-from : (i k : ℕ) → Rising i (from i k)
+pub rising-from : (i k : ℕ) → Rising i (from i k)
 rising-from i zero = tt
 rising-from i (suc k) = (le-refl i, rising-from (suc i) k)
 

@@ -34,6 +34,7 @@ prices-kept c Kind.A b i w = refl
 prices-kept c Kind.D b i w = refl
 prices-kept c Kind.L b i w = refl
 prices-kept c Kind.C b i w = refl
+prices-kept c Kind.N b i w = refl
 prices-kept c Kind.E b i w = refl
 prices-kept c Kind.none b i w = refl
 

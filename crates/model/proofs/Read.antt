@@ -14,12 +14,13 @@ use Rattle.model.specs.Commands.{low, number}
 use Rattle.model.specs.Answers.{Answer, termBytes, bytesOf, hasBytes}
 use Rattle.model.specs.Calls.{readTerms, readSets, decoded, readUpTo, read}
 
--- the sets and the cost fit the bytes that the answer has for them
+-- the sets, the cost and the count fit the bytes that the answer has for them
 abbrev pub Fits : Answer → Type 0
 Fits Answer.nothing = Unit {0}
 Fits (Answer.primesAre ts) = Unit {0}
 Fits (Answer.paged ss m) = All (λ s. s < 2 ^ 64) ss
 Fits (Answer.cheapestIs c s) = (c < 2 ^ 16) × (s < 2 ^ 64)
+Fits (Answer.productsAre ss) = (length ss < 2 ^ 16) × All (λ s. s < 2 ^ 64) ss
 Fits Answer.ended = Unit {0}
 
 low-length : (w x : ℕ) → length (low w x) ≡ w
@@ -48,6 +49,11 @@ sets-read (s ∷ ss) bs a =
     ∙ ap₂ (λ (x : ℕ) (l : List ℕ). x ∷ readSets (length ss) l) (take-low 8 s more (a .0)) (drop-at (low 8 s) more 8 (low-length 8 s))
     ∙ ap (λ (l : List ℕ). s ∷ l) (sets-read ss bs (a .1))
 
+-- as many as the two bytes before them say
+counted-read : (ss : List ℕ) (bs : List ℕ) → (length ss < 2 ^ 16) × All (λ s. s < 2 ^ 64) ss
+    → (let cs = (low 2 (length ss) ++ join (map (low 8) ss)) ++ bs in readSets (number (take 2 cs)) (drop 2 cs)) ≡ ss
+counted-read ss bs f = ap (λ (k : ℕ). readSets k (join (map (low 8) ss) ++ bs)) (number-low 2 (length ss) (f .0)) ∙ sets-read ss bs (f .1)
+
 -- ---- one answer, then all
 
 flag-back : (m : Bool) → eqb (cond m 1 0) 1 ≡ m
@@ -67,6 +73,7 @@ read-one (Answer.primesAre ts) f t bs k = behind (Answer.primesAre ts) 0x70 (len
 read-one (Answer.paged ss m) f t bs k =
     behind (Answer.paged ss m) 0x6c (length ss ∷ cond m 1 0 ∷ join (map (low 8) ss)) bs refl (ap₂ Answer.paged (sets-read ss bs f) (flag-back m)) k
 read-one (Answer.cheapestIs c s) f t bs k = behind (Answer.cheapestIs c s) 0x63 (low 2 c ++ low 8 s) bs refl (ap₂ Answer.cheapestIs (number-low 2 c (f .0)) (number-low 8 s (f .1))) k
+read-one (Answer.productsAre ss) f t bs k = behind (Answer.productsAre ss) 0x6e (low 2 (length ss) ++ join (map (low 8) ss)) bs refl (ap Answer.productsAre (counted-read ss bs f)) k
 read-one Answer.ended f t bs k = behind Answer.ended 0x65 [] bs refl refl k
 
 read-none : (k : ℕ) → readUpTo k [] ≡ []

@@ -53,6 +53,7 @@ weighed-after x Kind.A a v w = weighed-added (x .problem) _ w
 weighed-after x Kind.D a v w = weighed-without (x .problem) _ w
 weighed-after x Kind.L a v w = w
 weighed-after x Kind.C a v w = w
+weighed-after x Kind.N a v w = w
 weighed-after x Kind.E a v w = w
 weighed-after x Kind.none a v w = w
 
@@ -154,6 +155,7 @@ unread x Kind.A = record { refusals = refl; answer = refl; after = refl }
 unread x Kind.D = record { refusals = refl; answer = refl; after = refl }
 unread x Kind.L = record { refusals = refl; answer = refl; after = refl }
 unread x Kind.C = record { refusals = refl; answer = refl; after = refl }
+unread x Kind.N = record { refusals = refl; answer = refl; after = refl }
 unread x Kind.E = record { refusals = refl; answer = refl; after = refl }
 unread x Kind.none = record { refusals = refl; answer = refl; after = refl }
 

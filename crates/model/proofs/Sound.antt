@@ -2,7 +2,7 @@
 use Prim.Native.Nat.{ℕ, zero, suc, _*_, _/_, _^_, _≤_, _<_}
 use native.Mathlib.Omega.{arith}
 use native.Mathlib.Nat.{mul-suc}
-use mathlib.Core.Path.{_≡_, subst}
+use mathlib.Core.Path.{_≡_, subst, subst⁻¹}
 use mathlib.Core.Bool.{Bool, true, false, not, cond, _&&_, _||_}
 use mathlib.Core.List.{List, [], _∷_, map}
 use lib.Dec.{T, leb, ltb, leb→le, nleb→lt, nltb→le}
@@ -12,6 +12,7 @@ use Rattle.model.specs.Base.{bit, below, join, sum, All, Bytes}
 use Rattle.model.specs.Table.{Table, Term, formed}
 use Rattle.model.specs.Primes.{primes}
 use Rattle.model.specs.Sets.{Covering, members, coverable, irredundant, irredundants, cost, cheapest}
+use Rattle.model.specs.Products.{mostProducts, products}
 use Rattle.model.specs.Pages.{atOrAbove, page, more}
 use Rattle.model.specs.Candidates.{Prices, usual, termCost, weigh}
 use Rattle.model.specs.Commands.{queried, Kind, kindOf, width, Problem, empty, atPlace, Context, low, operand, operandTerm, operandNumber, operandPrices}
@@ -25,6 +26,8 @@ use Rattle.model.proofs.Lists.{twice, not-or-l, not-or-r, and-l, and-r,
 use Rattle.model.proofs.Bits.{within-le}
 use Rattle.model.proofs.Sets.{cheapest-irredundant}
 use Rattle.model.proofs.Pages.{all-page}
+use Rattle.model.proofs.Products.{products-irredundants}
+use Rattle.model.proofs.Remaining.{few-products}
 use Rattle.model.proofs.Costs.{cost-small}
 use Rattle.model.proofs.Cubes.{Formed, formed-e, legal-formed, prime-e, primes-e}
 use Rattle.model.proofs.Codes.{is-kind}
@@ -171,6 +174,15 @@ fits-C t a s =
     let c = sum-small (weigh (basisOf (t .problem))) 850 (t .problem .cands) (cheapest (coveringOf t)) (costs-small (pricesOf (t .problem)) (s .prices) (t .problem .cands) (s .small)) in
     cheapest-fits (t .rest) (cost (coveringOf t) (cheapest (coveringOf t))) (cheapest (coveringOf t)) (omega (arith, c, s .few)) (omega (arith, i .among))
 
+products-fit : (rest ss : List ℕ) → length ss ≤ mostProducts → All (λ s. s < 2 ^ 64) ss → FitsBehind rest (Answer.productsAre ss)
+products-fit rest ss l a = ((omega arith, a), λ b. (omega arith, all-append (λ (b : ℕ). b < 256) (low 2 (length ss)) (join (map (low 8) ss)) (low-bytes 2 (length ss)) (sets-bytes ss)))
+
+fits-N : (t : Context) → NoneApplies (refusalsOf t Kind.N) → Sound (t .problem) → FitsBehind (t .rest) (answerFor t Kind.N)
+unfolding refusalsOf answerFor
+fits-N t a s =
+    let k = coveringOf t in
+    products-fit (t .rest) (products k) (few-products k (a .1 .0)) (subst⁻¹ (All (λ s. s < 2 ^ 64)) (products-irredundants k) (listed-small k (s .few)))
+
 lawful-at : (t : Context) (k : Kind) → LawfulAt t k
 unfolding refusalsOf problemAfter answerFor
 lawful-at t Kind.I = record { numbered = (omega arith, tt); sound = λ a s. sound-I t a; fits = λ a s. (tt, λ b. tt) }
@@ -215,6 +227,7 @@ lawful-at t Kind.L = record {
   fits = λ a s. page-fits t (irredundants (coveringOf t)) (more (irredundants (coveringOf t)) (start t) (count t)) (listed-small (coveringOf t) (s .few));
 }
 lawful-at t Kind.C = record { numbered = (omega arith, tt); sound = λ a s. sound-at queried (t .problem) s; fits = fits-C t }
+lawful-at t Kind.N = record { numbered = (omega arith, (omega arith, tt)); sound = λ a s. sound-at queried (t .problem) s; fits = fits-N t }
 lawful-at t Kind.E = record { numbered = (omega arith, tt); sound = λ a s. s; fits = λ a s. (tt, λ b. (omega arith, tt)) }
 lawful-at t Kind.none = record { numbered = tt; sound = λ a s. s; fits = λ a s. (tt, λ b. tt) }
 

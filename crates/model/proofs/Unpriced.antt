@@ -8,6 +8,7 @@ use mathlib.Core.List.{List, [], _∷_, _++_, append-nil}
 use lib.Dec.{T}
 use lib.Seq.{take-all, take-at, drop-at, length-take-le}
 use lib.ListN.{length, take, drop, replicate, length-replicate, length-append, length-drop, length-take, drop-of-length-le}
+use Rattle.model.specs.Products.{holders, joined, kept, productsUpTo, products, tooMany}
 use Rattle.model.specs.Sets.{coverable, cover, redundant, irredundant, irredundants}
 use Rattle.model.specs.Candidates.{usual}
 use Rattle.model.specs.Commands.{Kind, is, kindOf, width, Problem, Context, Row, rowsOfB, addRow, addRows, withPrices, withCands, problemAfter}
@@ -98,7 +99,7 @@ pub record Unpriced (x : Context) (k : Kind) : Type 0 where
   pub after : erased (problemAfter (plain x) k) ≡ erased (problemAfter x k)
 
 pub unpriced-by : (x : Context) (k : Kind) → Unpriced x k
-unfolding refusalsOf answerFor problemAfter coverable irredundants irredundant redundant cover
+unfolding refusalsOf answerFor problemAfter coverable irredundants irredundant redundant cover products tooMany productsUpTo kept joined holders
 unpriced-by x Kind.I = record { refusals = refl; answer = refl; after = refl }
 unpriced-by x Kind.W = record { refusals = refl; answer = refl; after = refl }
 unpriced-by x Kind.R = record { refusals = refl; answer = refl; after = refl }
@@ -109,6 +110,7 @@ unpriced-by x Kind.A = record { refusals = refl; answer = refl; after = refl }
 unpriced-by x Kind.D = record { refusals = refl; answer = refl; after = refl }
 unpriced-by x Kind.L = record { refusals = refl; answer = refl; after = refl }
 unpriced-by x Kind.C = record { refusals = refl; answer = refl; after = refl }
+unpriced-by x Kind.N = record { refusals = refl; answer = refl; after = refl }
 unpriced-by x Kind.E = record { refusals = refl; answer = refl; after = refl }
 unpriced-by x Kind.none = record { refusals = refl; answer = refl; after = refl }
 
@@ -118,6 +120,7 @@ uncosted-length Answer.nothing = refl
 uncosted-length (Answer.primesAre ts) = refl
 uncosted-length (Answer.paged ss m) = refl
 uncosted-length (Answer.cheapestIs c s) = refl
+uncosted-length (Answer.productsAre ss) = refl
 uncosted-length Answer.ended = refl
 
 pub uncosted-bytes : (a : Answer) → hasBytes (uncosted a) ≡ hasBytes a
@@ -125,6 +128,7 @@ uncosted-bytes Answer.nothing = refl
 uncosted-bytes (Answer.primesAre ts) = refl
 uncosted-bytes (Answer.paged ss m) = refl
 uncosted-bytes (Answer.cheapestIs c s) = refl
+uncosted-bytes (Answer.productsAre ss) = refl
 uncosted-bytes Answer.ended = refl
 
 pub same-length : (a b : Answer) → uncosted a ≡ uncosted b → length (bytesOf a) ≡ length (bytesOf b)

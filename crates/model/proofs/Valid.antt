@@ -164,6 +164,7 @@ after-valid t Kind.D p a s = record {
   legal = all-without (λ (u : Term). T (legal (tableOf (t .problem)) u)) (operandNumber t) (t .problem .cands) (s .legal);
 }
 after-valid t Kind.L p a s = valid-cands (t .problem) queried (t .problem .cands) _ (omega arith) (place-one Kind.L (t .problem .place) tt p) s (s .legal) (after-sound t Kind.L a (s .sound))
+after-valid t Kind.N p a s = valid-cands (t .problem) queried (t .problem .cands) _ (omega arith) (place-one Kind.N (t .problem .place) tt p) s (s .legal) (after-sound t Kind.N a (s .sound))
 after-valid t Kind.C p a s = valid-cands (t .problem) queried (t .problem .cands) _ (omega arith) (place-one Kind.C (t .problem .place) tt p) s (s .legal) (after-sound t Kind.C a (s .sound))
 after-valid t Kind.E p a s = s
 after-valid t Kind.none p a s = s

@@ -1,4 +1,4 @@
--- Paper 01, "Job stream": the answers, as data and as bytes.
+-- Paper 01, "Job stream", and K8: the answers, as data and as bytes.
 use Prim.Native.Nat.{ℕ}
 use mathlib.Core.Bool.{Bool, cond}
 use mathlib.Core.List.{List, [], _∷_, _++_, map}
@@ -7,6 +7,7 @@ use Rattle.model.specs.Base.{nonEmpty, join}
 use Rattle.model.specs.Table.{Term}
 use Rattle.model.specs.Primes.{primes}
 use Rattle.model.specs.Sets.{irredundants, cheapest, cost}
+use Rattle.model.specs.Products.{products}
 use Rattle.model.specs.Pages.{page, more}
 use Rattle.model.specs.Commands.{Kind, Context, low, start, count, coveringOf, tableOf}
 
@@ -16,18 +17,20 @@ pub data Answer : Type 0 where
   primesAre : List Term → Answer
   paged : List ℕ → Bool → Answer
   cheapestIs : ℕ → ℕ → Answer
+  productsAre : List ℕ → Answer
   ended : Answer
 
 abbrev pub termBytes : Term → List ℕ
 termBytes t = t .care ∷ t .value ∷ t .outputs ∷ []
 
 -- P: "0x70, count byte, then care, value and outputs of each prime"; L: "0x6C, sets k, more (0 or 1), k times 8 bytes";
--- C: "0x63, cost (2 bytes), set (8) of the cheapest"; E: "0x65"
+-- C: "0x63, cost (2 bytes), set (8) of the cheapest"; N: "0x6E, a two-byte count and the sets, rising"; E: "0x65"
 abbrev pub bytesOf : Answer → List ℕ
 bytesOf nothing = []
 bytesOf (primesAre ts) = 0x70 ∷ length ts ∷ join (map termBytes ts)
 bytesOf (paged ss m) = 0x6c ∷ length ss ∷ cond m 1 0 ∷ join (map (low 8) ss)
 bytesOf (cheapestIs c s) = 0x63 ∷ (low 2 c ++ low 8 s)
+bytesOf (productsAre ss) = 0x6e ∷ (low 2 (length ss) ++ join (map (low 8) ss))
 bytesOf ended = 0x65 ∷ []
 
 -- an answer of one byte or more
@@ -50,6 +53,7 @@ answerFor x Kind.L =
 answerFor x Kind.C =
     let s = cheapest (coveringOf x) in
     cheapestIs (cost (coveringOf x) s) s
+answerFor x Kind.N = productsAre (products (coveringOf x))
 answerFor x Kind.E = ended
 answerFor x Kind.none = nothing
 

@@ -27,7 +27,7 @@ literalsCharged t = cond (ltb (ones (t .care)) 2) 0 (ones (t .care))
 unfoldable pub termCost : Prices → Term → ℕ
 termCost w t = w .term + w .literal * literalsCharged t + w .connection * ones (t .outputs)
 
--- what the commands L and C stand on: "one table and the candidates", and "the prices set"
+-- what the commands L, C and N stand on: "one table and the candidates", and "the prices set"
 pub record Basis : Type 0 where
   pub table : Table
   pub prices : Prices

@@ -1,13 +1,13 @@
 -- Paper 01, "The two-output example of document 003": the marked cases as one table, the presence function on some of them, and the job
 -- with all its bytes; tables of jobs and library calls that pin the order of refusals, of jobs in which candidates come and go, of jobs with
--- eight rows in a command, of the weights in the records that jobs leave, and of prices (theorems: proofs/Marked, proofs/EightRows,
--- proofs/Pricing).
+-- eight rows in a command, of the weights in the records that jobs leave, of prices, and of products (theorems: proofs/Marked,
+-- proofs/EightRows, proofs/Pricing).
 use Prim.Native.Nat.{ℕ, zero, suc, _+_, _<_}
 use mathlib.Core.Bool.{Bool, true, false, cond}
 use mathlib.Core.List.{List, [], _∷_, _++_, map}
 use lib.Dec.{T}
 use lib.ListN.{length, take, drop, replicate}
-use Rattle.model.specs.Base.{join}
+use Rattle.model.specs.Base.{below, join}
 use Rattle.model.specs.Table.{Table, Term, term, represents}
 use Rattle.model.specs.Primes.{primes}
 use Rattle.model.specs.Sets.{coverable, irredundants, cost, cheapest}
@@ -235,6 +235,13 @@ stops =
     ∷ stopped (i11 (0x50 ∷ w 1 1 0 [])) 9 4 4 2
     ∷ stopped (i11 (l 0 (w 1 1 0 []))) 9 4 13 3
     ∷ stopped (i11 (0x43 ∷ w 1 1 0 [])) 20 4 4 11
+    -- 4: N before I; W, R, B, T and P behind N
+    ∷ stopped (0x4e ∷ []) 9 4 0 0
+    ∷ stopped (i11 (0x4e ∷ w 1 1 0 [])) 20 4 4 11
+    ∷ stopped (i11 (0x4e ∷ row 0 0 1 [])) 20 4 4 11
+    ∷ stopped (i11 (0x4e ∷ zeros 0 [])) 20 4 4 11
+    ∷ stopped (i11 (0x4e ∷ t 0 0 1 [])) 20 4 4 11
+    ∷ stopped (i11 (0x4e ∷ 0x50 ∷ [])) 20 4 4 11
     -- 5: before 6; an L of eight operand bytes
     ∷ stopped (0x49 ∷ 0 ∷ []) 9 5 0 0
     ∷ stopped (i11 (0x4c ∷ 0 ∷ 0 ∷ 0 ∷ 0 ∷ 0 ∷ 0 ∷ 0 ∷ 0 ∷ [])) 9 5 3 0
@@ -307,10 +314,12 @@ stops =
     -- 0: the 65th by an A behind a D; T behind A and D
     ∷ stopped (sixtyFour (d 63 (a 0 0 1 (0x45 ∷ [])))) 9 0 274 1
     ∷ stopped (goneAgain (t 0 0 1 (0x45 ∷ []))) 9 0 22 1
-    -- 12: before 14, at L, at an L of count 0, at C
+    -- 12: before 14, at L, at an L of count 0, at C, at N. More than 1,024 products are too many for this table: 17 is the law `many-products`, its
+    -- order `unheld-before-products` and `products-before-room`
     ∷ stopped (i11 (row 0 1 0 (l 1 []))) 0 12 7 0
     ∷ stopped (i11 (row 0 1 0 (l 0 []))) 0 12 7 0
     ∷ stopped (i11 (row 0 1 0 (0x43 ∷ []))) 0 12 7 0
+    ∷ stopped (i11 (row 0 1 0 (0x4e ∷ []))) 0 12 7 0
     -- 12: a cell wanted by the last row of a B
     ∷ stopped (0x49 ∷ 3 ∷ 1 ∷ b 0 (replicate 14 0 ++ (1 ∷ 0 ∷ [])) (0x43 ∷ [])) 0 12 21 0
     -- 13: before 14; the offset is E's
@@ -318,6 +327,9 @@ stops =
     -- 14: the finished C stands; an L of count 0 has three bytes
     ∷ stopped (i11 (0x43 ∷ l 1 [])) 21 14 4 11
     ∷ stopped (i11 (l 0 [])) 2 14 3 0
+    -- 14: N has three bytes and eight for each set
+    ∷ stopped (i11 (0x4e ∷ [])) 10 14 3 0
+    ∷ stopped (i11 (0x4e ∷ 0x4e ∷ [])) 21 14 4 11
     -- 0: that L where it fits
     ∷ stopped countZeroJob 4 0 14 4
     ∷ []
@@ -610,6 +622,57 @@ pub record Undercut (b : Basis) (qs : List Term) : Type 0 where
   pub representing : T (represents (b .table) qs)
   pub cheaper : listCost b qs < cost (covering b) (cheapest (covering b))
 
+-- ---- K8: the products after each cell, worked out by hand, and jobs with N
+
+-- of a table and candidates: before any cell, and after each
+pub record Multiplying : Type 0 where
+  pub of : Table
+  pub by : List Term
+  pub products : List (List ℕ)
+
+abbrev multiplying : Table → List Term → List (List ℕ) → Multiplying
+multiplying p ts all = record { of = p; by = ts; products = all }
+
+-- a; c; d, where a cell leaves no more than the one before it; e, "no wanted cell"; f; g, "one copy of each"; h, and f's table with a term that
+-- holds its first cell alone: no product is left, and 12 applies
+abbrev pub multiplyings : List Multiplying
+multiplyings =
+    multiplying example sixTerms ((0 ∷ []) ∷ (2 ∷ 32 ∷ []) ∷ (3 ∷ 18 ∷ 33 ∷ 48 ∷ []) ∷ (11 ∷ 18 ∷ 41 ∷ 48 ∷ []) ∷ (11 ∷ 22 ∷ 26 ∷ 41 ∷ 52 ∷ 56 ∷ []) ∷ [])
+    ∷ multiplying example examplePrimes ((0 ∷ []) ∷ (4 ∷ 16 ∷ []) ∷ (5 ∷ 17 ∷ 36 ∷ 48 ∷ []) ∷ (13 ∷ 25 ∷ 36 ∷ 48 ∷ []) ∷ (13 ∷ 25 ∷ 38 ∷ 44 ∷ 50 ∷ 56 ∷ []) ∷ [])
+    ∷ multiplying crawled sixTerms ((0 ∷ []) ∷ (1 ∷ 32 ∷ []) ∷ (3 ∷ 32 ∷ []) ∷ (3 ∷ 34 ∷ 36 ∷ []) ∷ (3 ∷ 37 ∷ 50 ∷ 52 ∷ []) ∷ (11 ∷ 19 ∷ 45 ∷ 50 ∷ 52 ∷ []) ∷ (11 ∷ 23 ∷ 45 ∷ 52 ∷ 58 ∷ []) ∷ [])
+    ∷ multiplying noRows [] ((0 ∷ []) ∷ [])
+    ∷ multiplying bothOn (term 0 0 1 ∷ []) ((0 ∷ []) ∷ (1 ∷ []) ∷ (1 ∷ []) ∷ [])
+    ∷ multiplying bothOn (term 0 0 1 ∷ term 0 0 1 ∷ []) ((0 ∷ []) ∷ (1 ∷ 2 ∷ []) ∷ (1 ∷ 2 ∷ []) ∷ [])
+    ∷ multiplying bothOn [] ((0 ∷ []) ∷ ([]) ∷ ([]) ∷ [])
+    ∷ multiplying bothOn (term 1 0 1 ∷ []) ((0 ∷ []) ∷ (1 ∷ []) ∷ ([]) ∷ [])
+    ∷ []
+
+-- N's answer
+abbrev productBytes : List ℕ → List ℕ
+productBytes ss = 0x6e ∷ (low 2 (length ss) ++ join (map (low 8) ss))
+
+abbrev pub multipliedJobs : List AnsweredJob
+multipliedJobs =
+    -- the example's, before a page of four sets and behind it
+    writes (exampleHead ++ (0x4e ∷ l 4 (0x4e ∷ 0x45 ∷ [])))
+    (join (productBytes (11 ∷ 22 ∷ 26 ∷ 41 ∷ 52 ∷ 56 ∷ []) ∷ (0x6c ∷ 4 ∷ 1 ∷ join (map (low 8) (11 ∷ 22 ∷ 26 ∷ 41 ∷ []))) ∷ productBytes (11 ∷ 22 ∷ 26 ∷ 41 ∷ 52 ∷ 56 ∷ [])
+    ∷ (0x65 ∷ []) ∷ []))
+    -- no wanted cell
+    ∷ writes (i11 (0x4e ∷ 0x45 ∷ [])) (productBytes (0 ∷ []) ++ (0x65 ∷ []))
+    -- at other prices, and behind D and A
+    ∷ writes (i11 (w 7 0 3 (row 0 1 0 (row 1 1 0 (t 0 0 1 (t 1 0 1 (t 1 1 1 (0x4e ∷ d 0 (0x4e ∷ a 0 0 1 (0x4e ∷ 0x45 ∷ []))))))))))
+    (join (productBytes (1 ∷ 6 ∷ []) ∷ productBytes (3 ∷ []) ∷ productBytes (3 ∷ 4 ∷ []) ∷ (0x65 ∷ []) ∷ []))
+    ∷ []
+
+-- eleven wanted vertices, and for each two equal terms that hold it alone: each doubles the products, up to 2^11 = 2,048 (theorem:
+-- proofs/ManyProducts)
+abbrev pub manyProductsTerms : List Term
+manyProductsTerms = join (map (λ v. term 15 v 1 ∷ term 15 v 1 ∷ []) (below 11))
+
+abbrev pub manyProductsJob : List ℕ
+manyProductsJob =
+    0x49 ∷ 4 ∷ 1 ∷ (join (map (λ v. row v 1 0 []) (below 11)) ++ (join (map (λ s. t (s .care) (s .value) (s .outputs) []) manyProductsTerms) ++ (0x4e ∷ 0x45 ∷ [])))
+
 -- ---- library calls that are refused, each with its number. Where two refusals apply, the first in the paper's order is given
 
 pub record RefusedCall : Type 0 where
@@ -647,3 +710,38 @@ refusedCalls =
     -- 12
     ∷ refusedCall bothOn [] 12
     ∷ []
+
+-- K8: calls of the multiplication with lent rows of these lengths: the number, the sets and at how many cells the rows took turns
+pub record MultiplyCall : Type 0 where
+  pub of : Table
+  pub words : List ℕ
+  pub first : ℕ
+  pub second : ℕ
+  pub gives : ℕ × List ℕ × ℕ
+
+abbrev multiplyCall : Table → List ℕ → ℕ → ℕ → ℕ × List ℕ × ℕ → MultiplyCall
+multiplyCall p words a b gives = record { of = p; words = words; first = a; second = b; gives = gives }
+
+abbrev pub multiplyCalls : List MultiplyCall
+multiplyCalls =
+    -- 6: each lent row too short or too long; before 8
+    multiplyCall bothOn (whole ∷ []) 1023 1024 (6, [], 0)
+    ∷ multiplyCall bothOn (whole ∷ []) 1024 1023 (6, [], 0)
+    ∷ multiplyCall bothOn (whole ∷ []) 1025 1024 (6, [], 0)
+    ∷ multiplyCall bothOn (whole ∷ []) 1024 1025 (6, [], 0)
+    ∷ multiplyCall (table 1 1 (0 ∷ 1 ∷ []) (0 ∷ 1 ∷ [])) [] 0 1024 (6, [], 0)
+    -- 6 of the table, 8, 9 and 12, as the lister has them
+    ∷ multiplyCall (table 1 1 (1 ∷ []) (1 ∷ [])) [] 1024 1024 (6, [], 0)
+    ∷ multiplyCall (table 1 1 (0 ∷ 1 ∷ []) (0 ∷ 1 ∷ [])) [] 1024 1024 (8, [], 0)
+    ∷ multiplyCall bothOn (malformed ∷ []) 1024 1024 (9, [], 0)
+    ∷ multiplyCall bothOn [] 1024 1024 (12, [], 0)
+    -- 0: cases e, f and g; and one wanted cell
+    ∷ multiplyCall noRows [] 1024 1024 (0, 0 ∷ [], 0)
+    ∷ multiplyCall bothOn (whole ∷ []) 1024 1024 (0, 1 ∷ [], 2)
+    ∷ multiplyCall bothOn (whole ∷ whole ∷ []) 1024 1024 (0, 1 ∷ 2 ∷ [], 2)
+    ∷ multiplyCall (table 1 1 (1 ∷ 0 ∷ []) (0 ∷ 1 ∷ [])) (whole ∷ []) 1024 1024 (0, 1 ∷ [], 1)
+    ∷ []
+
+-- whose row it is then: the first one's behind an even number of cells, the second one's behind an odd one
+abbrev pub turns : List (ℕ × ℕ)
+turns = (0, 1) ∷ (1, 2) ∷ (2, 1) ∷ (3, 2) ∷ (2048, 1) ∷ []

@@ -1,4 +1,4 @@
--- Paper 01, "Job stream", and K2, K3, K5 and K6: the commands, the problem so far, and what a command makes of it.
+-- Paper 01, "Job stream", and K2, K3, K5, K6 and K8: the commands, the problem so far, and what a command makes of it.
 use Prim.Native.Nat.{ℕ, zero, suc, _+_, _*_, _/_, _%_, _^_, max}
 use mathlib.Core.Bool.{Bool, true, false, cond, _&&_}
 use mathlib.Core.List.{List, [], _∷_, _++_, map}
@@ -23,7 +23,7 @@ number (b ∷ bs) = b + 256 * number bs
 
 -- ---- places
 
--- the place in a job, by the furthest that came: nothing, I, W, a row (R or B), a term (T or A), or a P, L or C. Each is behind those before it
+-- the place in a job, by the furthest that came: nothing, I, W, a row (R or B), a term (T or A), or a P, L, C or N. Each is behind those before it
 abbrev pub atStart : ℕ
 atStart = 0
 
@@ -46,7 +46,7 @@ queried = 5
 
 -- "commands of one byte"; `none` is a byte that is no command
 pub data Kind : Type 0 where
-  I W R B T P A D L C E none : Kind
+  I W R B T P A D L C N E none : Kind
 
 -- "one byte with operands of fixed widths": the byte, the width, the last place at which the command may stand, and whether it is a
 -- query, which asks for covers
@@ -61,7 +61,7 @@ form code width last query = record { code = code; width = width; last = last; q
 
 -- I "first, once"; W "may stand once, after I and before any R, B, T, A, P, L or C"; R "after I, before any T, P, L or C"; B "stands where R may
 -- stand"; T "after I and any R, not after P, L or C"; P "at most once, no T before it, not after L or C"; A and D "may stand anywhere after I and
--- before E"; L, C and E "after I"
+-- before E"; L, C and E "after I"; N "where L may stand", and "for the place of the other commands it counts as an L"
 abbrev pub formOf : Kind → Form
 formOf I = form 0x49 2 atStart false
 formOf W = form 0x57 3 begun false
@@ -73,6 +73,7 @@ formOf A = form 0x41 3 queried false
 formOf D = form 0x44 1 queried false
 formOf L = form 0x4c 9 queried true
 formOf C = form 0x43 0 queried true
+formOf N = form 0x4e 0 queried true
 formOf E = form 0x45 0 queried false
 formOf none = form 0 0 atStart false
 
@@ -92,7 +93,7 @@ firstKind b (k ∷ ks) = let r = firstKind b ks in cond (eqb b (formOf k .code))
 
 -- all commands
 abbrev pub kinds : List Kind
-kinds = I ∷ W ∷ R ∷ B ∷ T ∷ P ∷ A ∷ D ∷ L ∷ C ∷ E ∷ []
+kinds = I ∷ W ∷ R ∷ B ∷ T ∷ P ∷ A ∷ D ∷ L ∷ C ∷ N ∷ E ∷ []
 
 unfoldable pub kindOf : ℕ → Kind
 kindOf b = firstKind b kinds
@@ -156,7 +157,7 @@ pub record Context : Type 0 where
   pub rest : List ℕ
   pub free : ℕ
 
--- the covering problem that an L or a C finds
+-- the covering problem that an L, a C or an N finds
 abbrev pub coveringOf : Context → Covering Term Cell
 coveringOf x = covering (basisOf (x .problem))
 
@@ -259,5 +260,6 @@ problemAfter x A = addTerm (x .problem) (operandTerm x)
 problemAfter x D = takeOut (x .problem) (operandNumber x)
 problemAfter x L = atPlace queried (x .problem)
 problemAfter x C = atPlace queried (x .problem)
+problemAfter x N = atPlace queried (x .problem)
 problemAfter x E = x .problem
 problemAfter x none = x .problem

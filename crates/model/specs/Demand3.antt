@@ -1,8 +1,9 @@
--- Demand 3 of paper 01: "a single claim about the whole list of L and C commands", of the answers and of the bytes that calls leave.
+-- Demand 3 of paper 01: "a single claim about the whole list of L and C commands", with K8's N among them, of the answers and of the bytes that
+-- calls leave.
 use Prim.Native.Nat.{ℕ, _≤_}
 use mathlib.Core.Path.{_≡_}
 use mathlib.Core.Logic.{_↔_}
-use mathlib.Core.Bool.{Bool, _&&_}
+use mathlib.Core.Bool.{Bool, not, _&&_}
 use mathlib.Core.List.{List, [], _∷_, List·Memᴰ}
 use lib.Dec.{T}
 use lib.ListN.{length}
@@ -10,17 +11,18 @@ use Rattle.model.specs.Base.{All}
 use Rattle.model.specs.Table.{Term, represents}
 use Rattle.model.specs.Primes.{prime}
 use Rattle.model.specs.Sets.{Irredundant, coverable, irredundants, Best}
+use Rattle.model.specs.Products.{tooMany}
 use Rattle.model.specs.Pages.{page, more}
 use Rattle.model.specs.Candidates.{Basis, covering, listCost, HoldsExactly, LegalBasis}
 use Rattle.model.specs.Commands.{Kind, is, isQueryKind, allowed, width, basisOf, Context, start, count}
 use Rattle.model.specs.Answers.{Answer, bytesOf, hasBytes, answer}
 use Rattle.model.specs.Rules.{engine}
 use Rattle.model.specs.Calls.{Call, Met}
-use Rattle.model.specs.Exchanges.{Exchange, Gives, Claim}
+use Rattle.model.specs.Exchanges.{Exchange, pagesOf, Gives, EqualsPages, Claim}
 
--- ---- the list of L and C commands
+-- ---- the list of L and C commands, and N
 
--- a query: an L or a C behind I
+-- a query: an L, a C or an N behind I
 abbrev pub isQuery : Context → Bool
 isQuery x = isQueryKind (x .kind) && allowed (x .kind) (x .problem .place)
 
@@ -50,16 +52,18 @@ ArePrimes b = (t : Term) → T (prime (b .table) t) ↔ List·Memᴰ t (b .cands
 abbrev pub NoCheaperList : Basis → ℕ → Type 0
 NoCheaperList b c = b .prices .connection ≡ 0 → ArePrimes b → (qs : List Term) → T (represents (b .table) qs) → c ≤ listCost b qs
 
--- neither 5, 12 nor 14 applies (3 and 4 do not: it is an L or a C behind I)
+-- neither 5, 12, 17 nor 14 applies (3 and 4 do not: it is an L, a C or an N behind I)
 pub record Acceptable (b : Basis) (x : Context) : Type 0 where
   pub operands : width (x .kind) ≤ length (x .rest)
   pub coverable : T (coverable (covering b))
+  pub few-products : T (is (x .kind) Kind.N) → T (not (tooMany (covering b)))
   pub room : length (bytesOf (answer x)) ≤ x .free
 
--- the answer to an L and to a C
+-- the answer to an L, to a C and to an N
 pub record Correct (b : Basis) (x : Context) (a : Answer) : Type 0 where
   pub page : T (is (x .kind) Kind.L) → a ≡ Answer.paged (page (coversOf b) (start x) (count x)) (more (coversOf b) (start x) (count x))
   pub cheapest : T (is (x .kind) Kind.C) → (c : ℕ) × (s : ℕ) × (a ≡ Answer.cheapestIs c s) × Best (covering b) c s × NoCheaperList b c
+  pub products : T (is (x .kind) Kind.N) → a ≡ Answer.productsAre (coversOf b)
 
 -- the sets that an answer gives
 abbrev pub setsIn : Answer → List ℕ
@@ -67,6 +71,7 @@ setsIn Answer.nothing = []
 setsIn (Answer.primesAre ts) = []
 setsIn (Answer.paged ss m) = ss
 setsIn (Answer.cheapestIs c s) = s ∷ []
+setsIn (Answer.productsAre ss) = ss
 setsIn Answer.ended = []
 
 -- every candidate that it finds is legal, and each set that it is answered holds every wanted cell and no off cell; it is answered
@@ -82,10 +87,12 @@ pub record CorrectExchange (b : Basis) (e : Exchange) : Type 0 where
 pub record Demand (b : Basis) (es : List Exchange) : Type 0 where
   -- the list is that of the irredundant covers, rising, so each once
   pub listed : (s : ℕ) → List·Memᴰ s (coversOf b) ↔ Irredundant (covering b) s
-  -- each L and C by itself
+  -- each L, C and N by itself
   pub each : All (CorrectExchange b) es
   -- and the pages joined
   pub pages : Gives Kind.L (coversOf b) es
+  -- which each N equals
+  pub products : All (EqualsPages (pagesOf Kind.L es)) es
 
 -- for every list of calls that each meet their contract, and every table, candidates and prices, however the jobs came by them: "a further job
 -- sets the same table and candidates anew"

@@ -5,8 +5,8 @@ use mathlib.Core.Logic.{_↔_}
 use mathlib.Core.Bool.{Bool, cond}
 use mathlib.Core.List.{List, [], _∷_, _++_, map, Sublistᴰ}
 use lib.Dec.{T}
-use Rattle.model.specs.Base.{filter, join, All}
-use Rattle.model.specs.Pages.{Rising, Page, PageOf, InOrder, Joined}
+use Rattle.model.specs.Base.{some, filter, join, All}
+use Rattle.model.specs.Pages.{Rising, Page, PageOf, isLast, joinedSets, InOrder, Joined}
 use Rattle.model.specs.Commands.{Kind, is, Context, start, count}
 use Rattle.model.specs.Answers.{Answer, hasBytes}
 use Rattle.model.specs.Rules.{Rules, refusalBy}
@@ -75,6 +75,7 @@ pageIn x Answer.nothing = []
 pageIn x (Answer.primesAre ts) = []
 pageIn x (Answer.paged ss m) = record { start = start x; count = count x; sets = ss; above = m } ∷ []
 pageIn x (Answer.cheapestIs c s) = []
+pageIn x (Answer.productsAre ss) = []
 pageIn x Answer.ended = []
 
 -- the pages that commands of kind k got
@@ -87,3 +88,9 @@ pub record Gives (k : Kind) (list : List ℕ) (es : List Exchange) : Type 0 wher
   pub rising : Rising 0 list
   pub each : All (PageOf list) (pagesOf k es)
   pub joined : InOrder [] (pagesOf k es) → Joined list (pagesOf k es)
+
+-- K8, "It equals L's pages joined until no more is reported": with these pages, in order and the last with more 0, an N that is answered has
+-- their sets
+abbrev pub EqualsPages : List Page → Exchange → Type 0
+EqualsPages ps e =
+    T (is (e .context .kind) Kind.N) → T (hasBytes (e .reply)) → InOrder [] ps → T (some isLast ps) → e .reply ≡ Answer.productsAre (joinedSets ps)

@@ -5,6 +5,7 @@ pub mod Table
 pub mod Primes
 pub mod Sets
 pub mod Presence
+pub mod Products
 pub mod Candidates
 pub mod Pages
 pub mod Commands

@@ -1,5 +1,5 @@
--- Paper 01, "The lister" and the last lines of "When a job stops": the library call.
-use Prim.Native.Nat.{ℕ, _/_, _%_, _^_}
+-- Paper 01, "The lister" and the last lines of "When a job stops": the library call; and K8: that of the multiplication.
+use Prim.Native.Nat.{ℕ, zero, suc, _/_, _%_, _^_}
 use mathlib.Core.Bool.{Bool, false, not, cond, _&&_}
 use mathlib.Core.List.{List, [], _∷_, _++_, map}
 use lib.Dec.{ltb, eqb}
@@ -7,6 +7,7 @@ use lib.ListN.{getD, length, take, drop}
 use Rattle.model.specs.Base.{below, some, join}
 use Rattle.model.specs.Table.{Table, Term, term, formed, holdsNoOff}
 use Rattle.model.specs.Sets.{coverable, irredundants}
+use Rattle.model.specs.Products.{mostProducts, products, tooMany}
 use Rattle.model.specs.Pages.{page, more, nextStart}
 use Rattle.model.specs.Candidates.{basis, covering}
 use Rattle.model.specs.Refusals.{Refusal, refuse, firstOf, size, badRow}
@@ -58,3 +59,33 @@ setsOf l = take (l .filled) (l .row)
 abbrev pub joinedRows : Table → List ℕ → List ℕ → List (List ℕ) → List ℕ
 joinedRows p words g [] = g
 joinedRows p words g (old ∷ olds) = joinedRows p words (g ++ setsOf (listCovers p words (nextStart g) old)) olds
+
+-- ---- K8: "The library call takes the lister's table and terms and two lent rows of 1,024 products"
+
+-- lent rows of a and b entries are so long
+abbrev pub rightRoom : ℕ → ℕ → Bool
+rightRoom a b = eqb a mostProducts && eqb b mostProducts
+
+-- "it tries the lister's refusals, then 17"; "A lent row of another length is refused under 6"
+unfoldable pub multiplyRefusals : Table → List ℕ → ℕ → ℕ → List Refusal
+multiplyRefusals p words a b =
+    refuse 6 (not (rightRoom a b)) ∷ (callRefusals p words ++ (refuse 17 (tooMany (covering (basis p (map unpack words)))) ∷ []))
+
+-- what the call tells, the sets that stand first in the row handed back, "rising", and at how many cells the rows took turns
+pub record Multiplied : Type 0 where
+  pub number : ℕ
+  pub sets : List ℕ
+  pub turns : ℕ
+
+-- "After a refusal the first row is handed back and the count is 0"
+unfoldable pub multiplyCovers : Table → List ℕ → ℕ → ℕ → Multiplied
+multiplyCovers p words a b =
+    let n = firstOf (multiplyRefusals p words a b) in
+    let all = covering (basis p (map unpack words)) in
+    let fine : Multiplied = record { number = 0; sets = products all; turns = length (all .points) } in
+    cond (eqb n 0) fine (record { number = n; sets = []; turns = 0 })
+
+-- "which take turns at each wanted cell", "The first product stands in the first row": of two rows, the one that holds the products after i cells
+abbrev pub turn : {R : Type 0} → ℕ → R → R → R
+turn zero first second = first
+turn (suc i) first second = turn i second first

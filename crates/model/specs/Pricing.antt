@@ -14,7 +14,7 @@ use Rattle.model.specs.Answers.{Answer, bytesOf}
 use Rattle.model.specs.Rules.{engine}
 use Rattle.model.specs.Job.{Run, run}
 use Rattle.model.specs.Calls.{Call, Met, numberOf, offsetOf, writtenOf, replies}
-use Rattle.model.specs.Exchanges.{Exchange, answers, readIn, pagesOf, Gives, Claim}
+use Rattle.model.specs.Exchanges.{Exchange, answers, readIn, pagesOf, Gives, EqualsPages, Claim}
 use Rattle.model.specs.Demand3.{isAsked, HasBasis, coversOf, CorrectExchange}
 use Rattle.model.specs.Standing.{Command, commandOf, Behind, pricesIn, noneCame}
 use Rattle.model.specs.Pieces.{Piece, pieceKind, pieces}
@@ -49,6 +49,7 @@ uncosted Answer.nothing = Answer.nothing
 uncosted (Answer.primesAre ts) = Answer.primesAre ts
 uncosted (Answer.paged ss m) = Answer.paged ss m
 uncosted (Answer.cheapestIs c s) = Answer.cheapestIs 0 0
+uncosted (Answer.productsAre ss) = Answer.productsAre ss
 uncosted Answer.ended = Answer.ended
 
 -- the commands with an answer that a job reads, a refused one too: each with its operands, and the table and the candidates that it finds
@@ -75,6 +76,7 @@ isCheapest Answer.nothing = false
 isCheapest (Answer.primesAre ts) = false
 isCheapest (Answer.paged ss m) = false
 isCheapest (Answer.cheapestIs c s) = true
+isCheapest (Answer.productsAre ss) = false
 isCheapest Answer.ended = false
 
 -- what a caller reads from two calls: each answer stands at the same place, and has the same bytes unless it is a C's
@@ -95,14 +97,15 @@ UntouchedRead = (c d : Call) → Met c → Met d → SameButPrices (c .job) (d .
 
 -- ---- any jobs, whatever prices each set
 
--- an L or a C that finds this table and these candidates, at some prices
+-- an L, a C or an N that finds this table and these candidates, at some prices
 abbrev pub StandsAtAnyPrices : Table → List Term → Exchange → Type 0
 StandsAtAnyPrices p ts e = T (isAsked e) × ((w : Prices) × HasBasis (priced w p ts) (e .context))
 
--- each by itself at the prices that it finds, and the pages joined over all of them
+-- each by itself at the prices that it finds, and the pages joined over all of them, which each N equals
 pub record DemandAtAnyPrices (p : Table) (ts : List Term) (es : List Exchange) : Type 0 where
   pub each : All (λ e. CorrectExchange (basisOf (e .context .problem)) e) es
   pub pages : Gives Kind.L (coversOf (basis p ts)) es
+  pub products : All (EqualsPages (pagesOf Kind.L es)) es
 
 -- demand 3 over all prices together (law `at-any-prices`)
 abbrev pub AtAnyPrices : Type 0

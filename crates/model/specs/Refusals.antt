@@ -1,4 +1,4 @@
--- Paper 01, "When a job stops", and K2, K3 and K6: the refusals of a command, as data. 1 and 2 are the job's own (`Job`).
+-- Paper 01, "When a job stops", and K2, K3, K6 and K8: the refusals of a command, as data. 1 and 2 are the job's own (`Job`).
 use Prim.Native.Nat.{ℕ, _^_}
 use mathlib.Core.Bool.{Bool, not, cond, _&&_, _||_}
 use mathlib.Core.List.{List, [], _∷_, _++_}
@@ -9,12 +9,13 @@ use Rattle.model.specs.Base.{some}
 use Rattle.model.specs.Table.{formed, holdsNoOff}
 use Rattle.model.specs.Primes.{primes}
 use Rattle.model.specs.Sets.{coverable}
+use Rattle.model.specs.Products.{tooMany}
 use Rattle.model.specs.Candidates.{Prices}
 use Rattle.model.specs.Commands.{Kind, Problem, Context, operand, Row, rowOfR, rowsOfB, addRow, operandTerm, operandNumber, coveringOf, tableOf, operandPrices}
 
 -- the largest number
 abbrev pub largestNumber : ℕ
-largestNumber = 16
+largestNumber = 17
 
 -- a refusal's number, and whether it applies
 pub record Refusal : Type 0 where
@@ -61,11 +62,12 @@ candidateRefusals x =
     ∷ refuse 11 (leb 64 (length (x .problem .cands)))
     ∷ []
 
--- 6 to 13, 15 and 16, by command:
+-- 6 to 13 and 15 to 17, by command:
 -- 6 "I has n or m outside 1 to 8"; 16 "after 6, W has a price above 50"
 -- 7 and 8 of R's row, and of B's eight; "missing operands of B itself give 5 before any of these" (`Rules`)
 -- 11 ".. or there are more than 64 primes"; 15 "after 5, D names a number that is not standing"
--- 12 "at L or C a wanted cell is held by no candidate"; 13 "bytes follow E"
+-- 12 "at L or C a wanted cell is held by no candidate", and "N meets 12 as L does"; 17 "after 12, more than 1,024 products remain at some
+-- cell"; 13 "bytes follow E"
 unfoldable pub refusalsOf : Context → Kind → List Refusal
 refusalsOf x Kind.I = refuse 6 (not (size (operand x 0) && size (operand x 1))) ∷ []
 refusalsOf x Kind.W = refuse 16 (dear (operandPrices x)) ∷ []
@@ -77,5 +79,6 @@ refusalsOf x Kind.A = candidateRefusals x
 refusalsOf x Kind.D = refuse 15 (leb (length (x .problem .cands)) (operandNumber x)) ∷ []
 refusalsOf x Kind.L = refuse 12 (not (coverable (coveringOf x))) ∷ []
 refusalsOf x Kind.C = refuse 12 (not (coverable (coveringOf x))) ∷ []
+refusalsOf x Kind.N = refuse 12 (not (coverable (coveringOf x))) ∷ refuse 17 (tooMany (coveringOf x)) ∷ []
 refusalsOf x Kind.E = refuse 13 (ltb 0 (length (x .rest))) ∷ []
 refusalsOf x Kind.none = []

@@ -1,4 +1,4 @@
--- Paper 02, K2, with K3's B and K6's W: the standing candidates, the place behind an A, pages behind the same commands, and the fresh job of a query.
+-- Paper 02, K2, with K3's B, K6's W and K8's N: the standing candidates, the place behind an A, pages behind the same commands, and the fresh job of a query.
 use Prim.Native.Nat.{ℕ, suc, _^_, _≤_, _<_, max}
 use mathlib.Core.Path.{_≡_}
 use mathlib.Core.Logic.{_↔_}
@@ -80,6 +80,7 @@ setsTo c Kind.A b = priced (b .prices) (b .table) (b .cands ++ (termOf c ∷ [])
 setsTo c Kind.D b = priced (b .prices) (b .table) (without (operandOf c 0) (b .cands))
 setsTo c Kind.L b = b
 setsTo c Kind.C b = b
+setsTo c Kind.N b = b
 setsTo c Kind.E b = b
 setsTo c Kind.none b = b
 
@@ -119,6 +120,7 @@ raises Kind.A = inTerms
 raises Kind.D = begun
 raises Kind.L = queried
 raises Kind.C = queried
+raises Kind.N = queried
 raises Kind.E = atStart
 raises Kind.none = atStart
 
@@ -134,13 +136,14 @@ Placed = (job : List ℕ) (room : ℕ) (before : List Context) (x : Context) →
 abbrev pub noneCame : List Kind → List Context → Bool
 noneCame ks before = every (λ y. not (some (is (y .kind)) ks)) before
 
--- so, behind I: W stands where no W came and no R, B, T, A, P, L or C; R, B and P stand where no T, A, P, L or C came, T where no P, L or C came (law `places`)
+-- so, behind I: W stands where no W came and no R, B, T, A, P, L, C or N; R, B and P stand where no T, A, P, L, C or N came, T where no P, L, C or
+-- N came (law `places`)
 pub record PlacesBehind (before : List Context) (place : ℕ) : Type 0 where
-  pub prices : T (allowed Kind.W place) ↔ T (noneCame (Kind.W ∷ Kind.R ∷ Kind.B ∷ Kind.T ∷ Kind.A ∷ Kind.P ∷ Kind.L ∷ Kind.C ∷ []) before)
-  pub row : T (allowed Kind.R place) ↔ T (noneCame (Kind.T ∷ Kind.A ∷ Kind.P ∷ Kind.L ∷ Kind.C ∷ []) before)
-  pub rows : T (allowed Kind.B place) ↔ T (noneCame (Kind.T ∷ Kind.A ∷ Kind.P ∷ Kind.L ∷ Kind.C ∷ []) before)
-  pub primes : T (allowed Kind.P place) ↔ T (noneCame (Kind.T ∷ Kind.A ∷ Kind.P ∷ Kind.L ∷ Kind.C ∷ []) before)
-  pub term : T (allowed Kind.T place) ↔ T (noneCame (Kind.P ∷ Kind.L ∷ Kind.C ∷ []) before)
+  pub prices : T (allowed Kind.W place) ↔ T (noneCame (Kind.W ∷ Kind.R ∷ Kind.B ∷ Kind.T ∷ Kind.A ∷ Kind.P ∷ Kind.L ∷ Kind.C ∷ Kind.N ∷ []) before)
+  pub row : T (allowed Kind.R place) ↔ T (noneCame (Kind.T ∷ Kind.A ∷ Kind.P ∷ Kind.L ∷ Kind.C ∷ Kind.N ∷ []) before)
+  pub rows : T (allowed Kind.B place) ↔ T (noneCame (Kind.T ∷ Kind.A ∷ Kind.P ∷ Kind.L ∷ Kind.C ∷ Kind.N ∷ []) before)
+  pub primes : T (allowed Kind.P place) ↔ T (noneCame (Kind.T ∷ Kind.A ∷ Kind.P ∷ Kind.L ∷ Kind.C ∷ Kind.N ∷ []) before)
+  pub term : T (allowed Kind.T place) ↔ T (noneCame (Kind.P ∷ Kind.L ∷ Kind.C ∷ Kind.N ∷ []) before)
 
 abbrev pub Places : Type 0
 Places = (job : List ℕ) (room : ℕ) (before : List Context) (x : Context) → Behind (run job room) before x → begun ≤ x .problem .place → PlacesBehind before (x .problem .place)
@@ -166,11 +169,11 @@ pub record SetBy (cs : List Command) (x : Context) : Type 0 where
   pub behind : Behind (run job room) before x
   pub same : filter (λ c. not (isQueryKind (c .kind))) (map commandOf before) ≡ cs
 
--- an L or a C that stands so
+-- an L, a C or an N that stands so
 abbrev pub AskedBehind : List Command → Exchange → Type 0
 AskedBehind cs e = T (isAsked e) × SetBy cs (e .context)
 
--- "pages are joined only where the same A and D commands stand before each, in a further job too": demand 3 of any such L and C, in one job
+-- "pages are joined only where the same A and D commands stand before each, in a further job too": demand 3 of any such L, C and N, in one job
 -- or several, a corollary of `Demand3` (law `standing-demand-3`). Its rival is met only where the standing candidates are the primes
 abbrev pub StandingDemand3 : Type 0
 StandingDemand3 = (cs : List Command) (calls : List Call) → All Met calls → Claim engine (AskedBehind cs) (Demand (standing cs)) calls
@@ -194,7 +197,7 @@ pub record GivesAlone (a : Answer) (r : Run) : Type 0 where
   pub answers : filter hasBytes (r .answers) ≡ a ∷ Answer.ended ∷ []
   pub bytes : written r ≡ bytesOf a ++ bytesOf Answer.ended
 
--- "in an accepted job, L and C answer as they would in a fresh job": in every buffer that is no shorter (law `fresh`)
+-- "in an accepted job, L and C answer as they would in a fresh job", and so does N: in every buffer that is no shorter (law `fresh`)
 abbrev pub Fresh : Type 0
 Fresh = (job : List ℕ) (room : ℕ) → run job room .number ≡ 0 → (before : List Context) (x : Context) → Behind (run job room) before x → T (isQuery x)
     → (larger : ℕ) → room ≤ larger → larger ≤ 32768 → GivesAlone (answer x) (run (freshJob (map commandOf before) (commandOf x)) larger)

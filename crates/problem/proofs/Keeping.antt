@@ -214,7 +214,7 @@ after-D x p k h e l m =
 
 pub after-query : (x : Context) (p : Problem) (k : model.Kind) → T (isQueryKind k) → Holds p (x .problem) → Holds (atPlace model.queried p) (problemAfter x k)
 unfolding problemAfter
-after-query x p k t h = any-query (λ k. Holds (atPlace model.queried p) (problemAfter x k)) (kept, (kept, tt)) k t
+after-query x p k t h = any-query (λ k. Holds (atPlace model.queried p) (problemAfter x k)) (kept, (kept, (kept, tt))) k t
   where
     kept : Holds (atPlace model.queried p) (model.atPlace model.queried (x .problem))
     kept = holds-candidates model.queried p (x .problem) (p .candidates) (x .problem .cands) (x .problem .weights) h (h .cands)

@@ -4,11 +4,14 @@ use mathlib.Core.Path.{_≡_}
 use mathlib.Core.Bool.{Bool}
 use mathlib.Core.List.{List, map}
 use lib.ListN.{length, take, replicate}
-use Rattle.model.specs.Sets.{coverable, irredundants, cheapest, ofRows}
+use denote.Ref.{RefT}
+use Rattle.model.specs.Table.{holds, onCells}
+use Rattle.model.specs.Sets.{coverable, irredundants, cheapest, rowOf, ofRows}
 use Rattle.model.specs.Presence.{presence, allOf}
 use Rattle.model.specs.Candidates.{Basis, weigh, covering}
 use Rattle.model.specs.Commands as model
-use Rattle.model.specs.Commands.{basisOf}
+use Rattle.model.specs.Commands.{tableOf, basisOf}
+use Rattle.product.specs.Outcome.{RowsBelow, MultipliedTo}
 use Rattle.problem.specs.declared.Problem.{Problem}
 use Rattle.problem.specs.declared.matrix.Matrix.{Matrix}
 use Rattle.problem.specs.Problems.{Holds}
@@ -31,7 +34,14 @@ TellsCovered p r = (q : model.Problem) → Holds p q → r ≡ coverable (coveri
 abbrev pub PresenceOfAll : Problem → Bool → Type 0
 PresenceOfAll p r = (q : model.Problem) → Holds p q → r ≡ presence (covering (basisOf q)) (allOf (covering (basisOf q)))
 
--- the first r entries are the rows of the problem that p holds
+-- the first r entries are the rows of the wanted cells, "by vertex, then output", of the problem that p holds
+pub record CellRows (p : Problem) (out : List ℕ) (r : ℕ) : Type 0 where
+  pub size : length out ≡ 2048
+  pub within : r ≤ 2048
+  pub small : RowsBelow (p .candidates .count) (take r out)
+  pub rows : (q : model.Problem) → Holds p q → take r out ≡ map (rowOf holds (q .cands)) (onCells (tableOf q))
+
+-- the first r entries are rows with the covers of the problem that p holds
 pub record PutsRows (p : Problem) (out : List ℕ) (r : ℕ) : Type 0 where
   pub size : length out ≡ 2048
   pub within : r ≤ 2048
@@ -42,3 +52,7 @@ pub record Prepares (p : Problem) (out : List ℕ) (m : Matrix) : Type 0 where
   pub size : length out ≡ 2048
   pub within : m .count ≤ 2048
   pub matrix : (q : model.Problem) → Holds p q → MatrixOf (basisOf q) (take (m .count) out) (m .covered)
+
+-- what the multiplication of the problem that p holds tells and hands back
+abbrev pub Multiplies : Problem → RefT (List ℕ) → RefT (List ℕ) → RefT (List ℕ) → ℕ → ℕ → Type 0
+Multiplies p first second row number count = (q : model.Problem) → Holds p q → MultipliedTo (covering (basisOf q)) first second row number count

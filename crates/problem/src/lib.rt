@@ -1,6 +1,7 @@
 // The problem so far: one record by value with its settings, its rows and its candidates.
 //
-// `refusals` has the refusals that operands can meet in it, `weights` what stands beside a candidate, `matrix` its covering matrix.
+// `refusals` has the refusals that operands can meet in it, `weights` what stands beside a candidate, `cells` the rows of its cells, `matrix`
+// its covering matrix, `products` the multiplication of its cells.
 // proofs/Keeping says that the record goes on holding the problem of the definitions.
 ghost use mathlib.Core.Path.{_≡_};
 ghost use Prim.Native.Nat.{_≤_, _<_, max};
@@ -11,7 +12,9 @@ use model::Prices;
 use model::Term;
 use primes::prime_list::PrimeList;
 
+pub mod cells;
 pub mod matrix;
+pub mod products;
 pub mod refusals;
 pub mod weights;
 
@@ -202,7 +205,7 @@ pub fn with_primes(p: Problem, primes: PrimeList) -> Problem
     }
 }
 
-// Behind an L or a C.
+// Behind an L, a C or an N.
 pub fn after_query(p: Problem) -> Problem
     ensures { λ r. ⌜ r ≡ atPlace model.queried p ⌝ }
 {

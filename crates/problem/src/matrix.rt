@@ -15,7 +15,7 @@ pub struct Matrix {
 }
 
 // Whether each on cell is held by a candidate: document 000's presence function at the set of all candidates.
-fn is_covered(p: Problem) -> bool
+pub fn is_covered(p: Problem) -> bool
     requires { ⌜ Sized p ⌝ }
     ensures { λ r. ⌜ PresenceOfAll p r ⌝ }
 {
@@ -33,7 +33,7 @@ fn is_covered(p: Problem) -> bool
 }
 
 // Puts the rows that contain no other row in front of `out`, those with few members first, and returns how many.
-fn put_rows(p: Problem, out: &mut [u64]) -> usize
+pub fn put_rows(p: Problem, out: &mut [u64]) -> usize
     requires { ⌜ Sized p ⌝ }
     requires { ⌜ length (now out) ≡ 2048 ⌝ }
     ensures { λ r. ⌜ PutsRows p (now (out .exit)) r ⌝ }

@@ -18,7 +18,7 @@ pub fn covers(rows: &[u64], m: u64) -> bool
 }
 
 // The members of s that are the only member of s in some row.
-fn privates(rows: &[u64], s: u64) -> u64
+pub fn privates(rows: &[u64], s: u64) -> u64
     ensures { λ r. ⌜ Privates (now (rows .entry)) s r ⌝ }
 {
     let mut acc: u64 = 0;

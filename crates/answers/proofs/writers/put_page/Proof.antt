@@ -56,7 +56,7 @@ part-put-sets-end c = search needs
 
 put-sets-requires : tie.Need-put-sets-requires
 put-sets-requires c κs = let c5 = c .before .before .before .before .before in
-    (c5 .pre .0, c5 .pre .1, headed-room (0x6c ∷ _ ∷ _ ∷ []) (Old c5) _ (c .before .before .if1 .left))
+    (c5 .pre .0, omega (arith, c5 .pre .1), headed-room (0x6c ∷ _ ∷ _ ∷ []) (Old c5) _ (c .before .before .if1 .left))
 
 same-length : tie.Need-same-length
 same-length c = let c5 = c .before .before .before .before .before in let c8 = c5 .before .before .before in

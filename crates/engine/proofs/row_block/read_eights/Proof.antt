@@ -6,7 +6,8 @@ use mathlib.Core.Bool.{Bool}
 use denote.Ref.{now}
 use lib.Dec.{T}
 use lib.ListN.{length}
-use Rattle.engine.specs.Blocks.{EightAt, rowsOf, ReadsInto}
+use Rattle.eight_rows.specs.Rows.{EightAt, rowsOf}
+use Rattle.engine.specs.Blocks.{ReadsInto}
 use Rattle.engine.proofs.Blocks.{reads-none, reads-eight}
 use borrow.Author.Needs.{needs}
 use Rattle.engine.proofs.row_block.read_eights.Statement.{statement}

@@ -3,7 +3,8 @@ use Prim.Native.Nat.{_-_, _≤_}
 use native.Mathlib.Omega.{arith}
 use lib.ListN.{length}
 use Rattle.problem.proofs.Keeping.{reached-sized}
-use Rattle.engine.specs.Blocks.{rowsOf, ReadsInto}
+use Rattle.eight_rows.specs.Rows.{rowsOf}
+use Rattle.engine.specs.Blocks.{ReadsInto}
 use Rattle.engine.proofs.Blocks.{reads-none, reads-then, reads-record}
 use borrow.Author.Needs.{needs}
 use Rattle.engine.proofs.row_block.read_rows.Statement.{statement}

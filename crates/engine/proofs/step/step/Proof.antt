@@ -6,7 +6,7 @@ use denote.Ref.{now}
 use lib.ListN.{length}
 use Rattle.model.specs.Commands.{width}
 use Rattle.codec.specs.Kinds.{kindIs}
-use Rattle.engine.proofs.Dispatching.{Read, operands-there, term-there, rows-may-come, step-early, step-I, step-W, step-R, step-B, step-term, step-P, step-D, step-L, step-C, step-E, step-none}
+use Rattle.engine.proofs.Dispatching.{Read, operands-there, term-there, rows-may-come, step-early, step-I, step-W, step-R, step-B, step-term, step-P, step-D, step-L, step-C, step-N, step-E, step-none}
 use borrow.Author.Needs.{needs}
 use Rattle.engine.proofs.step.step.Statement.{statement}
 use Rattle.engine.proofs.step.step.Tie as tie
@@ -164,11 +164,17 @@ least-cost-requires c κs = search needs
 enum-told-9 : tie.Need-enum-told-9
 enum-told-9 c = search needs
 
-end-requires : tie.Need-end-requires
-end-requires c κs = search needs
+multiply-requires : tie.Need-multiply-requires
+multiply-requires c κs = search needs
 
 enum-told-10 : tie.Need-enum-told-10
 enum-told-10 c = search needs
+
+end-requires : tie.Need-end-requires
+end-requires c κs = search needs
+
+enum-told-11 : tie.Need-enum-told-11
+enum-told-11 c = search needs
 
 refused-requires-2 : tie.Need-refused-requires-2
 refused-requires-2 c κs = search needs
@@ -223,10 +229,17 @@ same-length-4 c = search needs
 
 returns-11 : tie.Need-returns-11
 returns-11 c = let c4 = c .before .before .before .before in let c6 = c4 .before .before in
-    step-E (read (c6 .before)) (c6 .if1 .left) (ap kindIs (c4 .enum-told9 .given .1)) (c .before .before .end .ensures)
+    step-N (read (c6 .before)) (c6 .if1 .left) (ap kindIs (c4 .enum-told9 .given .1)) (c .before .before .multiply .ensures)
+
+same-length-5 : tie.Need-same-length-5
+same-length-5 c = search needs
 
 returns-12 : tie.Need-returns-12
-returns-12 c = step-none (read (c .before .before .before .before)) (c .before .before .before .if1 .left) (ap kindIs (c .before .enum-told10 .given .1))
+returns-12 c = let c4 = c .before .before .before .before in let c6 = c4 .before .before in
+    step-E (read (c6 .before)) (c6 .if1 .left) (ap kindIs (c4 .enum-told10 .given .1)) (c .before .before .end .ensures)
+
+returns-13 : tie.Need-returns-13
+returns-13 c = step-none (read (c .before .before .before .before)) (c .before .before .before .if1 .left) (ap kindIs (c .before .enum-told11 .given .1))
 
 pub step-spec : {M : Type 1} → statement M
 step-spec = tie.close (tie.spec shared-slice-read-kind-of kind-of-requires sub-rest sub-rest-2 early-refusal-requires refused-requires returns
@@ -234,5 +247,5 @@ step-spec = tie.close (tie.spec shared-slice-read-kind-of kind-of-requires sub-r
     prices-requires enum-told-3 add-wide shared-slice-read-wide wide-requires add-row shared-slice-read-row add-row-2 shared-slice-read-row-2
     row-requires enum-told-4 add-eight-rows eight-rows-requires add-term-at term-at-requires term-requires enum-told-5 primes-requires enum-told-6
     add-remove shared-slice-read-remove remove-requires enum-told-7 add-number-at number-at-requires add-list shared-slice-read-list list-requires
-    enum-told-8 least-cost-requires enum-told-9 end-requires enum-told-10 refused-requires-2 returns-2 returns-3 returns-4 returns-5 returns-6
-    same-length returns-7 returns-8 same-length-2 returns-9 same-length-3 returns-10 same-length-4 returns-11 returns-12)
+    enum-told-8 least-cost-requires enum-told-9 multiply-requires enum-told-10 end-requires enum-told-11 refused-requires-2 returns-2 returns-3 returns-4 returns-5 returns-6
+    same-length returns-7 returns-8 same-length-2 returns-9 same-length-3 returns-10 same-length-4 returns-11 same-length-5 returns-12 returns-13)

@@ -2,7 +2,7 @@
 use native.Mathlib.Omega.{arith}
 use mathlib.Core.Path.{sym, _∙_}
 use lib.Seq.{length-take-le}
-use Rattle.problem.proofs.Preparing.{few-rows, prepared}
+use Rattle.problem.proofs.Preparing.{few-rows, cells-put, prepared}
 use borrow.Author.Needs.{needs}
 use Rattle.problem.proofs.matrix.put_rows.Statement.{statement}
 use Rattle.problem.proofs.matrix.put_rows.Tie as tie
@@ -32,7 +32,7 @@ same-length c = search needs
 
 returns : tie.Need-returns
 returns c = let c6 = c .before .before .before .before .before .before in let c12 = c6 .before .before .before .before .before .before in
-    prepared (c12 .args .p) (c12 .pre .0) _ _ _ (c6 .rows .ensures) _ _ (same-length c ∙ c12 .pre .1) (c .before .before .reduce .ensures)
+    prepared (cells-put (c12 .args .p) (c12 .pre .0) _ _ _ (c6 .rows .ensures) (c .before .before .before .before .before .all2 .given)) _ _ (same-length c ∙ c12 .pre .1) (c .before .before .reduce .ensures)
 
 pub put-rows-spec : {M : Type 1} → statement M
 put-rows-spec = tie.close (tie.spec slice-aggregate-rows rows-requires array-share-prefix-all slice-aggregate-reduce reduce-requires same-length
