@@ -5,7 +5,7 @@
  *   bench [-t SECONDS] [-r ROUNDS] [-m] [-c FILE] FOLDER
  *   bench -a [-t SECONDS] FOLDER
  *
- * For every *.job of the folder: the whole job, the commands before its first query, then each of its L and C
+ * For every *.job of the folder: the whole job, the commands before its first query, then each of its L, C and N
  * commands. A command is timed by a job of its own, the commands before it that are no queries, the one query and E,
  * less the time of that job without the query; so it counts the making of the covering matrix, and has no ratio where
  * it is less than 5 % of that job. Each time is the best of many runs, in ROUNDS rounds that alternate between the
@@ -15,10 +15,11 @@
  * Then the stack that a call of cover_job uses, over all jobs, and the times of jobs of 32,768 bytes that ask L all
  * along, or A, L and D in turn (long_job.h). -m prints the jobs as a markdown table, -c writes the times to a file as
  * CSV. The last line sums up. -a runs every job once in both engines, compares the answers and measures nothing; so it
- * does for the jobs at other prices, by W, and for drawn ones with W (priced_job.h) and with P (prime_job.h).
+ * does for the jobs at other prices, by W, and with N in the place of their queries, and for drawn ones with W
+ * (priced_job.h), with P (prime_job.h) and with N (product_job.h).
  *
- * A job with a command that the other engine does not know (the plain C engine: one that is not of paper 01, K2, K3 or
- * K6) is newer than that engine, and is left out.
+ * A job with a command that the other engine does not know (the plain C engine: one that is not of paper 01, K2, K3,
+ * K6 or K8) is newer than that engine, and is left out.
  *
  * The exit status is 1 where answers differ or the stack use reaches 256 KiB (with -a also where a job did not end), 2
  * where nothing was run.
@@ -43,6 +44,7 @@
 #include "price_list.h"
 #include "priced_job.h"
 #include "prime_job.h"
+#include "product_job.h"
 
 enum { MOST_JOBS = 4096, MOST_QUERIES = 64 };
 enum { DRAWN = 400 }; /* drawn jobs with W that are compared */
@@ -96,8 +98,8 @@ static bool starts_with(const char *s, const char *head) { return strncmp(s, hea
 /* Whether a job's table is a natural one, not made to be hard. */
 static bool natural(const char *name)
 {
-    static const char *const made[] = {"adv",    "cheaphard", "listhard", "cyc64",  "dup",
-                                       "edges",  "ring64",    "sub64",    "dupcyc"};
+    static const char *const made[] = {"adv",   "cheaphard", "listhard", "cyc64",  "dup",
+                                       "edges", "ring64",    "sub64",    "dupcyc", "products"};
     for (size_t i = 0; i < sizeof made / sizeof *made; i++)
         if (starts_with(name, made[i]))
             return false;
@@ -318,11 +320,11 @@ static void raise_to(Worst *w, double time, const char *name)
 }
 
 /* What is timed of a job. */
-enum { PAGE, CHEAPEST, HEAD, PARTS };
-static const char *const part_names[PARTS] = {"page", "C", "before the queries"};
+enum { PAGE, CHEAPEST, PRODUCTS, HEAD, PARTS };
+static const char *const part_names[PARTS] = {"page", "C", "N", "before the queries"};
 
-static Worst worst[2][2];        /* of the engine: page, C; of natural tables, of the others */
-static int open_queries[2][2];   /* how many of these did not end */
+static Worst worst[2][HEAD];      /* of the engine: page, C, N; of natural tables, of the others */
+static int open_queries[2][HEAD]; /* how many of these did not end */
 static Worst worst_parts[PARTS]; /* by the ratio */
 static int newer = 0;            /* jobs that the other engine does not know */
 static int asked = 0, same = 0;  /* jobs of -a, and those with the same answers */
@@ -383,6 +385,11 @@ static Pair before_queries(const Job *job, size_t head, const char *name)
     return counted(compare(&bare, NULL), HEAD, name);
 }
 
+static int part_of(uint8_t query)
+{
+    return query == COVER_LIST ? PAGE : query == COVER_CHEAPEST ? CHEAPEST : PRODUCTS;
+}
+
 /* The query at `at`, behind the commands before it that are no queries. */
 static Pair query(const Job *job, size_t at, const char *name)
 {
@@ -393,7 +400,7 @@ static Pair query(const Job *job, size_t at, const char *name)
     put_settings(&one, job->bytes, at);
     put(&one, job->bytes + at, cover_command_bytes(job->bytes[at]));
     put_end(&one);
-    return counted(compare(&one, &bare), job->bytes[at] == COVER_LIST ? PAGE : CHEAPEST, name);
+    return counted(compare(&one, &bare), part_of(job->bytes[at]), name);
 }
 
 static void print_header(void)
@@ -444,8 +451,8 @@ static void keep_most(Pair *most, const Pair *p)
         most->nodes = p->nodes;
 }
 
-/* Each L and each C of the job; page and least get the most of them. */
-static void run_queries(const Job *job, size_t head, const char *name, Pair *page, Pair *least)
+/* Each L, C and N of the job; `most` gets the most of each. */
+static void run_queries(const Job *job, size_t head, const char *name, Pair most[HEAD])
 {
     int number = 0;
     for (size_t at = head, next; at < job->len && job->bytes[at] != COVER_END && number < MOST_QUERIES; at = next) {
@@ -453,7 +460,7 @@ static void run_queries(const Job *job, size_t head, const char *name, Pair *pag
         if (!is_query(job->bytes[at]) || next - at != cover_command_bytes(job->bytes[at]))
             continue;
         Pair q = query(job, at, name);
-        keep_most(job->bytes[at] == COVER_LIST ? page : least, &q);
+        keep_most(&most[part_of(job->bytes[at])], &q);
         number++;
         if (!markdown) {
             print_line(&q);
@@ -465,7 +472,7 @@ static void run_queries(const Job *job, size_t head, const char *name, Pair *pag
 static void run_job(Job *job, const char *name)
 {
     size_t head = head_of(job->bytes, job->len);
-    Pair page = {.ended = {true, true}}, least = page, whole = compare(job, NULL);
+    Pair none = {.ended = {true, true}}, most[HEAD] = {none, none, none}, whole = compare(job, NULL);
     differ |= whole.differ;
     newer += whole.newer;
     ended += whole.ended[0];
@@ -482,13 +489,15 @@ static void run_job(Job *job, const char *name)
         print_line(&first);
         printf("  %s\n", part_names[HEAD]);
     }
-    run_queries(job, head, name, &page, &least);
+    run_queries(job, head, name, most);
     if (markdown)
-        print_row(name, &whole, &page, &least);
+        print_row(name, &whole, &most[PAGE], &most[CHEAPEST]);
     write_csv(name, "job", &whole);
     write_csv(name, part_names[HEAD], &first);
-    write_csv(name, part_names[PAGE], &page);
-    write_csv(name, part_names[CHEAPEST], &least);
+    write_csv(name, part_names[PAGE], &most[PAGE]);
+    write_csv(name, part_names[CHEAPEST], &most[CHEAPEST]);
+    if (most[PRODUCTS].time[0] > 0 || !both_ended(&most[PRODUCTS])) /* few jobs have an N */
+        write_csv(name, part_names[PRODUCTS], &most[PRODUCTS]);
 }
 
 /* One run in both engines at the same time; only the answers are looked at. */
@@ -518,6 +527,16 @@ static void run_priced_answers(Job *job, const char *name)
     }
 }
 
+/* The same job with N in the place of its queries, then with its pages and N behind each of them. */
+static void run_product_answers(Job *job, const char *name)
+{
+    static Job multiplied;
+    for (int pages = 0; pages < 2; pages++) {
+        put_products(&multiplied, job, pages);
+        run_answers(&multiplied, name);
+    }
+}
+
 static void run_drawn_answers(void)
 {
     static Job job;
@@ -528,6 +547,10 @@ static void run_drawn_answers(void)
     for (unsigned number = 0; number < PRIME_JOBS; number++) {
         prime_job(&job, number);
         run_answers(&job, "a drawn job with P");
+    }
+    for (uint64_t seed = 1; seed <= PRODUCT_JOBS; seed++) {
+        product_job(&job, seed);
+        run_answers(&job, "a drawn job with N");
     }
 }
 
@@ -618,8 +641,9 @@ static void print_worst(const char *what, const Worst *w, int open)
 static void print_longest(int other)
 {
     printf("%s tables, engine: ", other ? "other" : "natural");
-    print_worst("longest page", &worst[other][0], open_queries[other][0]);
-    print_worst("; longest C", &worst[other][1], open_queries[other][1]);
+    print_worst("longest page", &worst[other][PAGE], open_queries[other][PAGE]);
+    print_worst("; longest C", &worst[other][CHEAPEST], open_queries[other][CHEAPEST]);
+    print_worst("; longest N", &worst[other][PRODUCTS], open_queries[other][PRODUCTS]);
     printf("\n");
 }
 
@@ -658,11 +682,11 @@ static void print_summary(void)
            worst_ratio.name ? worst_ratio.name : "none", median_ratio());
     if (newer)
         printf("%d jobs have commands that " OTHER " does not know; ", newer);
-    for (int kind = 0; kind < 2; kind++) {
+    for (int kind = 0; kind < HEAD; kind++) {
         const Worst *a = &worst[0][kind], *b = &worst[1][kind];
         bool first = b->name == NULL || (a->name != NULL && a->time > b->time);
-        print_worst(kind ? "; slowest C" : "slowest page", first ? a : b,
-                    open_queries[0][kind] + open_queries[1][kind]);
+        printf("%sslowest ", kind ? "; " : "");
+        print_worst(part_names[kind], first ? a : b, open_queries[0][kind] + open_queries[1][kind]);
     }
     printf("\n");
 }
@@ -711,6 +735,7 @@ static int compare_all(const char *folder)
     most_runs = 1;
     run_folder(folder, run_answers);
     run_folder(folder, run_priced_answers);
+    run_folder(folder, run_product_answers);
     run_drawn_answers();
     each_long_job(folder, run_long_answers);
     int failed = asked - newer - same;

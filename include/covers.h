@@ -5,7 +5,7 @@
  * answer buffer, and one number tells how it ended.
  *
  * What is promised
- *   - Every job ends: it is accepted, or it is refused with one of the numbers 1 to 16.
+ *   - Every job ends: it is accepted, or it is refused with one of the numbers 1 to 17.
  *   - Accepted: the number is 0, the offset is the job's length, and each command with an
  *     answer has put it into the answer buffer, in the order of the commands.
  *   - Refused: the offset is that of the first byte of the command that was refused, and
@@ -31,24 +31,24 @@
  *   COVER_PRICES    term, literal,         the price of a term, of a literal and of an output
  *                   connection             connection, each 0 to 50; without it 1, 1 and 0; once,
  *                                          right behind sizes and before everything else
- *   COVER_ROW       vertex, on, dc         before any term, add, primes, list or cheapest
+ *   COVER_ROW       vertex, on, dc         before any term, add, primes or query
  *   COVER_ROWS      vertex, 8 x (on, dc)   the rows of this vertex and of the seven above it, in
  *                                          rising order; where a row may stand
- *   COVER_TERM      care, value, outputs   adds a candidate at the end; not after primes, list or
- *                                          cheapest
+ *   COVER_TERM      care, value, outputs   adds a candidate at the end; not after primes or a query
  *   COVER_PRIMES                           the primes become the candidates; once, no term or add
- *                                          before it, not after list or cheapest
+ *                                          before it, not after a query
  *   COVER_ADD       care, value, outputs   adds a candidate at the end; anywhere, also after
- *                                          primes, list or cheapest
+ *                                          primes or a query
  *   COVER_REMOVE    number                 takes this candidate out, and those above it move down
  *                                          by one; anywhere, as an add
  *   COVER_LIST      start (8 bytes), count (1)
  *   COVER_CHEAPEST
+ *   COVER_MULTIPLY
  *   COVER_END                              last
- * An operand is one byte unless its width is given. Where nothing else is said, a command may
- * stand anywhere behind COVER_SIZES and before COVER_END. For the places of row, rows and primes
- * an add counts even if its candidate has been taken out again. A term may follow an add or a
- * remove as long as no primes, list or cheapest came.
+ * List, cheapest and multiply are the queries. An operand is one byte unless its width is given.
+ * Where nothing else is said, a command may stand anywhere behind COVER_SIZES and before COVER_END.
+ * For the places of row, rows and primes an add counts even if its candidate has been taken out
+ * again. A term may follow an add or a remove as long as no primes or query came.
  *
  * COVER_ROWS equals eight COVER_ROW commands, one by one; both kinds may stand in one job, in any
  * order of the vertices. A vertex above 255 counts as one of 2^n or more and does not wrap, so the
@@ -71,11 +71,20 @@
  *                   more, plus the price of a connection for each of its outputs; a set costs the
  *                   sum over its members. A term costs 850 at most and a set 64 x 850 = 54,400, so
  *                   that the cost fits its two bytes.
+ *   COVER_MULTIPLY  0x6E, sets k (2 bytes), then k times 8 bytes: all irredundant covers, rising;
+ *                   1,024 at most, so that the answer has at most 8,195 bytes
  *   COVER_END       0x65
  * Bit i of a set stands for candidate i of those that stand at the command, as the terms, primes,
- * adds and removes before it leave them. List and cheapest answer as in a fresh job that has the
- * same prices and rows, and these candidates, in this order, as its terms. The prices are for the
- * cheapest alone: primes and list answer the same bytes at any prices.
+ * adds and removes before it leave them. The queries answer as in a fresh job that has the same
+ * prices and rows, and these candidates, in this order, as its terms. The prices are for the
+ * cheapest alone: primes, list and multiply answer the same bytes at any prices.
+ *
+ * COVER_MULTIPLY is for tables with few wanted cells: its sets are those of the pages joined until
+ * no more is reported, in one answer. It takes the wanted cells by vertex, then output, and behind
+ * each it has all products: the sets that hold every cell up to there, and of which no smaller part
+ * does. With no wanted cell there is one product, 0. It is refused with number 17, after 12 and
+ * before 14, where more than 1,024 products remain at some cell, even if few would remain at the
+ * last one. Then ask for pages: they have no such limit.
  *
  * Paging: the first page starts at 0, each further one at one above the last set of the page
  * before; a page without sets leaves the start as it was. No page follows one that says no
@@ -111,7 +120,8 @@ extern "C" {
 #define COVER_MOST_INPUTS 8u
 #define COVER_MOST_OUTPUTS 8u
 #define COVER_MOST_CANDIDATES 64u
-#define COVER_MOST_SETS 255u /* on one page */
+#define COVER_MOST_SETS 255u      /* on one page */
+#define COVER_MOST_PRODUCTS 1024u /* by one multiply */
 #define COVER_MOST_PRICE 50u
 
 /* The first byte of each command. */
@@ -126,6 +136,7 @@ enum cover_command {
     COVER_REMOVE = 0x44,   /* D */
     COVER_LIST = 0x4C,     /* L */
     COVER_CHEAPEST = 0x43, /* C */
+    COVER_MULTIPLY = 0x4E, /* N */
     COVER_END = 0x45       /* E */
 };
 
@@ -140,6 +151,7 @@ enum cover_command {
 #define COVER_REMOVE_BYTES 2u
 #define COVER_LIST_BYTES 10u
 #define COVER_CHEAPEST_BYTES 1u
+#define COVER_MULTIPLY_BYTES 1u
 #define COVER_END_BYTES 1u
 
 /* The first byte of each answer. */
@@ -147,6 +159,7 @@ enum cover_answer {
     COVER_PRIMES_ANSWER = 0x70,
     COVER_LIST_ANSWER = 0x6C,
     COVER_CHEAPEST_ANSWER = 0x63,
+    COVER_MULTIPLY_ANSWER = 0x6E,
     COVER_END_ANSWER = 0x65
 };
 
@@ -154,36 +167,38 @@ enum cover_answer {
 #define COVER_PRIMES_ANSWER_BYTES(count) (2u + 3u * (count))
 #define COVER_LIST_ANSWER_BYTES(sets) (3u + 8u * (sets))
 #define COVER_CHEAPEST_ANSWER_BYTES 11u
+#define COVER_MULTIPLY_ANSWER_BYTES(sets) (3u + 8u * (sets))
 #define COVER_END_ANSWER_BYTES 1u
 
 /*
  * How a job ended. At each command the refusals are tried in the order in which they stand here,
- * 15 right after 5 and 16 right after 6, and the first that applies is given. At COVER_ROWS 7 and
- * 8 are tried row by row: 8 of a row comes before 7 of a later one. The offset is that of the
- * command, whichever row it was.
+ * 15 right after 5, 16 right after 6 and 17 right after 12, and the first that applies is given. At
+ * COVER_ROWS 7 and 8 are tried row by row: 8 of a row comes before 7 of a later one. The offset is
+ * that of the command, whichever row it was.
  */
 enum cover_refusal {
     COVER_ACCEPTED = 0,
-    COVER_TOO_LONG = 1,         /* the job or the answer buffer is longer than 32,768 bytes */
-    COVER_NO_END = 2,           /* the job ends where a command byte is due */
-    COVER_NO_COMMAND = 3,       /* the byte is no command */
-    COVER_WRONG_PLACE = 4,      /* the command is not allowed at this place */
-    COVER_NO_OPERANDS = 5,      /* operand bytes are missing */
-    COVER_WRONG_CANDIDATE = 15, /* no candidate has the number that is to be removed */
-    COVER_WRONG_SIZES = 6,      /* n or m is outside 1 to 8 */
-    COVER_WRONG_PRICES = 16,    /* a price is above 50 */
-    COVER_WRONG_VERTEX = 7,     /* the vertex is 2^n or more, or has a row already */
-    COVER_WRONG_ROW = 8,        /* on and dc share a bit, or one has bit m or above */
-    COVER_MALFORMED_TERM = 9,   /* a care bit n or above, a value bit outside care, outputs 0,
-                                   or an output bit m or above */
-    COVER_OFF_CELL = 10,        /* the term holds an off cell */
-    COVER_TOO_MANY = 11,        /* a 65th standing candidate, or more than 64 primes */
-    COVER_UNHELD_CELL = 12,     /* a wanted cell is held by no candidate */
-    COVER_BYTES_AFTER_END = 13, /* bytes follow the end command; its answer isn't written */
-    COVER_NO_ROOM = 14          /* the answer is longer than the free part of the buffer */
+    COVER_TOO_LONG = 1,           /* the job or the answer buffer is longer than 32,768 bytes */
+    COVER_NO_END = 2,             /* the job ends where a command byte is due */
+    COVER_NO_COMMAND = 3,         /* the byte is no command */
+    COVER_WRONG_PLACE = 4,        /* the command is not allowed at this place */
+    COVER_NO_OPERANDS = 5,        /* operand bytes are missing */
+    COVER_WRONG_CANDIDATE = 15,   /* no candidate has the number that is to be removed */
+    COVER_WRONG_SIZES = 6,        /* n or m is outside 1 to 8 */
+    COVER_WRONG_PRICES = 16,      /* a price is above 50 */
+    COVER_WRONG_VERTEX = 7,       /* the vertex is 2^n or more, or has a row already */
+    COVER_WRONG_ROW = 8,          /* on and dc share a bit, or one has bit m or above */
+    COVER_MALFORMED_TERM = 9,     /* a care bit n or above, a value bit outside care, outputs 0,
+                                     or an output bit m or above */
+    COVER_OFF_CELL = 10,          /* the term holds an off cell */
+    COVER_TOO_MANY = 11,          /* a 65th standing candidate, or more than 64 primes */
+    COVER_UNHELD_CELL = 12,       /* a wanted cell is held by no candidate */
+    COVER_TOO_MANY_PRODUCTS = 17, /* at a multiply more than 1,024 products remain at some cell */
+    COVER_BYTES_AFTER_END = 13,   /* bytes follow the end command; its answer isn't written */
+    COVER_NO_ROOM = 14            /* the answer is longer than the free part of the buffer */
 };
 
-#define COVER_LAST_REFUSAL 16u /* the largest number */
+#define COVER_LAST_REFUSAL 17u /* the largest number */
 
 /* Runs a job. Gives number * 2^32 + offset * 2^16 + written. */
 uint64_t cover_job(const uint8_t *job, size_t job_len, uint8_t *answers, size_t answers_len);
@@ -224,7 +239,7 @@ static inline void cover_put_number(uint8_t *bytes, size_t width, uint64_t numbe
  * bytes, and gives their count: length += cover_put_row(job + length, vertex, on, dc).
  */
 
-/* A command without operands: COVER_PRIMES, COVER_CHEAPEST, COVER_END. */
+/* A command without operands: COVER_PRIMES, COVER_CHEAPEST, COVER_MULTIPLY, COVER_END. */
 static inline size_t cover_put_command(uint8_t *at, enum cover_command command)
 {
     at[0] = (uint8_t)command;
@@ -318,6 +333,7 @@ static inline size_t cover_command_bytes(uint8_t byte)
     case COVER_REMOVE: return COVER_REMOVE_BYTES;
     case COVER_LIST: return COVER_LIST_BYTES;
     case COVER_CHEAPEST: return COVER_CHEAPEST_BYTES;
+    case COVER_MULTIPLY: return COVER_MULTIPLY_BYTES;
     case COVER_END: return COVER_END_BYTES;
     default: return 0;
     }
@@ -335,6 +351,8 @@ static inline size_t cover_answer_bytes(const uint8_t *answer)
     case COVER_PRIMES_ANSWER: return COVER_PRIMES_ANSWER_BYTES((size_t)answer[1]);
     case COVER_LIST_ANSWER: return COVER_LIST_ANSWER_BYTES((size_t)answer[1]);
     case COVER_CHEAPEST_ANSWER: return COVER_CHEAPEST_ANSWER_BYTES;
+    case COVER_MULTIPLY_ANSWER:
+        return COVER_MULTIPLY_ANSWER_BYTES((size_t)cover_get_number(answer + 1, 2));
     case COVER_END_ANSWER: return COVER_END_ANSWER_BYTES;
     default: return 0;
     }
@@ -385,6 +403,17 @@ static inline unsigned cover_cheapest_cost(const uint8_t *answer)
 static inline uint64_t cover_cheapest_set(const uint8_t *answer)
 {
     return cover_get_number(answer + 3, 8);
+}
+
+/* The answer to COVER_MULTIPLY: how many sets it has, set i. */
+static inline size_t cover_multiply_sets(const uint8_t *answer)
+{
+    return (size_t)cover_get_number(answer + 1, 2);
+}
+
+static inline uint64_t cover_multiply_set(const uint8_t *answer, size_t i)
+{
+    return cover_get_number(answer + COVER_MULTIPLY_ANSWER_BYTES(i), 8);
 }
 
 #ifdef __cplusplus

@@ -1,13 +1,15 @@
 /*
  * Links the engine as the fitter does and asks it for lists that are known: pages over several
  * jobs and buffers, joined, against the whole list; the marked cases; candidates that come and go;
- * eight rows in a command; prices; every refusal once. Every call lies between guard bytes, and the
- * bytes behind `written` are held to be unchanged.
+ * eight rows in a command; prices; the whole list in one answer; every refusal once. Every call lies
+ * between guard bytes, and the bytes behind `written` are held to be unchanged.
  */
 #include "changes.h"
 #include "lists.h"
 #include "prices.h"
 #include "problems.h"
+#include "product_stand_ins.h"
+#include "products.h"
 #include "stand_ins.h"
 #include "tables.h"
 
@@ -65,6 +67,7 @@ static void test_widths(void)
     CHECK(cover_put_remove(at, 0) == 2 && cover_command_bytes(at[0]) == 2);
     CHECK(cover_put_list(at, 0, 1) == 10 && cover_command_bytes(at[0]) == 10);
     CHECK(cover_put_command(at, COVER_CHEAPEST) == 1 && cover_command_bytes(at[0]) == 1);
+    CHECK(cover_put_command(at, COVER_MULTIPLY) == 1 && cover_command_bytes(at[0]) == 1);
     CHECK(cover_put_command(at, COVER_END) == 1 && cover_command_bytes(at[0]) == 1);
 
     /* A byte has a width exactly when the engine takes it for a command. */
@@ -370,6 +373,19 @@ static const struct refused refused[] = {
     {COVER_NO_END, 7, 0, 9, "I\1\1W\62\62\62"},
     {COVER_WRONG_CANDIDATE, 7, 0, 9, "I\1\1W\1\1\1D\1"},
     {COVER_BYTES_AFTER_END, 3, 0, 9, "I\1\1EW"},
+    {COVER_WRONG_PLACE, 0, 0, 99, "N"},
+    {COVER_WRONG_PLACE, 0, 0, 99, "NE"},
+    {COVER_NO_END, 4, 11, 11, "I\1\1N"},
+    {COVER_NO_ROOM, 3, 0, 10, "I\1\1N"},
+    {COVER_NO_ROOM, 4, 11, 21, "I\1\1NN"},
+    {COVER_NO_COMMAND, 4, 11, 99, "I\1\1Nn"},
+    {COVER_UNHELD_CELL, 7, 0, 0, "I\1\2R\1\1\2NE"},
+    {COVER_WRONG_PLACE, 4, 11, 11, "I\1\1NT"},
+    {COVER_WRONG_PLACE, 4, 11, 11, "I\1\1NW\63"},
+    {COVER_NO_OPERANDS, 4, 11, 11, "I\1\1NA\1"},
+    {COVER_NO_OPERANDS, 4, 11, 11, "I\1\1NL"},
+    {COVER_WRONG_CANDIDATE, 4, 11, 11, "I\1\1ND\1E"},
+    {COVER_BYTES_AFTER_END, 3, 0, 9, "I\1\1EN"},
 };
 
 static void test_refusals(void)
@@ -473,6 +489,8 @@ int main(void)
     test_blocks_and_rows();
     test_prices();
     test_stand_ins();
+    test_products();
+    test_product_stand_ins();
     test_fresh();
     test_lengths();
     test_turns();

@@ -4,7 +4,7 @@
 
 #include "problems.h"
 
-enum { MOST_LISTED = 1000 };
+enum { MOST_LISTED = 1100 };
 
 struct list {
     uint64_t sets[MOST_LISTED];
@@ -40,7 +40,8 @@ static size_t join(struct paging *paging, const uint8_t *page, unsigned count)
 /* Whether a command has an answer. */
 static int answered(uint8_t command)
 {
-    return command == COVER_PRIMES || command == COVER_LIST || command == COVER_CHEAPEST || command == COVER_END;
+    return command == COVER_PRIMES || command == COVER_LIST || command == COVER_CHEAPEST || command == COVER_MULTIPLY ||
+           command == COVER_END;
 }
 
 /* What a job without an end gives where its answers do not all fit: it stops at the first that does not. */

@@ -560,7 +560,7 @@ static void test_header_of_prices(void)
     CHECK(cover_put_prices(at, 37, 23, 11) == 4 && memcmp(at, "\x57\x25\x17\x0B", 4) == 0);
     CHECK(cover_put_prices(at, 0, 50, 255) == 4 && memcmp(at, "\x57\x00\x32\xFF", 4) == 0);
     CHECK(COVER_PRICES == 0x57 && COVER_PRICES_BYTES == 4 && cover_command_bytes(0x57) == 4);
-    CHECK(COVER_MOST_PRICE == 50 && COVER_WRONG_PRICES == 16 && COVER_LAST_REFUSAL == 16);
+    CHECK(COVER_MOST_PRICE == 50 && COVER_WRONG_PRICES == 16);
     static const uint8_t dear[] = {0x63, 0x80, 0xD4, 255, 255, 255, 255, 255, 255, 255, 255};
     CHECK(cover_cheapest_cost(dear) == 54400 && cover_cheapest_set(dear) == UINT64_MAX);
 }

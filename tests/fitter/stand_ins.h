@@ -350,36 +350,53 @@ static unsigned (*const wrong_rules[])(struct prices, const uint8_t *) = {
 
 enum { WRONG_RULES = sizeof wrong_rules / sizeof wrong_rules[0] };
 
+struct tests {
+    void (*const *all)(void);
+    size_t count;
+};
+
 /* Whether one of the tests fails; what they count and print is not shown. */
-static int is_seen(void)
+static int is_seen(struct tests tests)
 {
     unsigned passed_before = passed, failed_before = failed;
     failed = MOST_PRINTED;
-    for (size_t i = 0; i < PRICE_TESTS && failed == MOST_PRINTED; i++)
-        price_tests[i]();
+    for (size_t i = 0; i < tests.count && failed == MOST_PRINTED; i++)
+        tests.all[i]();
     int seen = failed > MOST_PRINTED;
     passed = passed_before;
     failed = failed_before;
     return seen;
 }
 
-static void test_stand_ins(void)
+/* The same, as a check; gives 1 where it is seen. */
+static unsigned see(const char *name, struct tests tests)
+{
+    int seen = is_seen(tests);
+    if (!seen)
+        printf("not seen: %s\n", name);
+    CHECK(seen);
+    return (unsigned)seen;
+}
+
+/* Each stands in for the engine while the tests run; gives how many are seen. */
+static unsigned see_engines(const struct stand_in *engines, size_t count, struct tests tests)
 {
     unsigned seen = 0;
-    for (standing_in = stand_ins; standing_in < stand_ins + STAND_INS; standing_in++) {
+    for (standing_in = engines; standing_in < engines + count; standing_in++) {
         called = standing_in->engine;
-        int noticed = is_seen();
-        if (!noticed)
-            printf("not seen: %s\n", standing_in->name);
-        CHECK(noticed);
-        seen += (unsigned)noticed;
+        seen += see(standing_in->name, tests);
     }
     called = cover_job;
+    return seen;
+}
+
+static void test_stand_ins(void)
+{
+    struct tests tests = {price_tests, PRICE_TESTS};
+    unsigned seen = see_engines(stand_ins, STAND_INS, tests);
     for (size_t i = 0; i < WRONG_RULES; i++) {
         cost_of = wrong_rules[i];
-        int noticed = is_seen();
-        CHECK(noticed);
-        seen += (unsigned)noticed;
+        seen += see("a rule of cost", tests);
     }
     cost_of = cost_by_rule;
     printf("%u of %d wrong engines and rules of cost seen\n", seen, STAND_INS + WRONG_RULES);

@@ -5,19 +5,20 @@
 //! 1. here: an entry in `COMMANDS`, with a kind of operand of its own where none fits, and
 //!    `LAST_NUMBER` where it brings a number;
 //! 2. `reference/job.rs`: where it may stand (`allowed`), what refuses it and what it does
-//!    (`command`), from the paper's text. The table stands still from the first T, A, P, L or C on;
-//!    the candidates do not, and a command that changes them forgets the covers found so far;
+//!    (`command`), from the paper's text. The table stands still from the first T, A, P, L, C or N
+//!    on; the candidates do not, and a command that changes them forgets the covers found so far;
 //! 3. `generate/sound.rs` (settings, candidates), `generate/tables.rs` (rows),
 //!    `generate/changes.rs` (candidates that come and go) or `generate/queries.rs`: where a sound
 //!    job has it;
 //! 4. `generate/purpose.rs` (`purpose_changes.rs` for A and D, `purpose_blocks.rs` for B,
-//!    `purpose_prices.rs` for W and `purpose_cubes.rs` for P): its borders, in every run;
-//!    `selftest.rs`: the paper's cases;
+//!    `purpose_prices.rs` for W, `purpose_cubes.rs` for P and `purpose_products.rs` for N): its
+//!    borders, in every run; `selftest.rs`: the paper's cases;
 //! 5. `fresh.rs`: whether a fresh job with the same table has it, and which pages go on behind it;
 //! 6. `expanded.rs`: what it is written out as, where it stands for other commands as B does;
 //! 7. `walk.rs`: what it makes of prices, table and candidates, and how long its answer is;
 //! 8. `reference/record.rs`: what a dump of the record shows of it, as its place;
-//! 9. `charged.rs` and `listing.rs`: what it makes of costs, and that the pages leave that aside.
+//! 9. `charged.rs` and `listing.rs`: what it makes of costs, and that the pages leave that aside;
+//! 10. `implicants.rs` and `products.rs`: what its answer is by document 000, and by other commands.
 //!
 //! A stored job that has it needs `stored.rs` too. Every command at every place, damage, cuts and
 //! moved or doubled commands go by the table, and a run fails where a command was never accepted
@@ -29,7 +30,7 @@ use Operand::{Candidate, Inputs, Number, Outputs, Price, Size};
 pub const BLOCK: usize = 8;
 
 /// The largest number of a refusal. Each from 0 on must come in every run.
-pub const LAST_NUMBER: u64 = 16;
+pub const LAST_NUMBER: u64 = 17;
 
 /// What an operand is: how many bytes it has, and what damage puts there (`generate/damage.rs`).
 #[derive(Clone, Copy)]
@@ -77,7 +78,7 @@ pub struct Command {
     pub refusals: &'static [u64],
 }
 
-/// The seven commands of paper 01, A and D of K2, B of K3, and W of K6.
+/// The seven commands of paper 01, A and D of K2, B of K3, W of K6, and N of K8.
 pub const COMMANDS: &[Command] = &[
     Command {
         byte: b'I',
@@ -148,6 +149,13 @@ pub const COMMANDS: &[Command] = &[
         operands: &[],
         part: Part::Other,
         refusals: &[12, 14],
+    },
+    Command {
+        byte: b'N',
+        good: &[],
+        operands: &[],
+        part: Part::Other,
+        refusals: &[12, 17, 14],
     },
     Command {
         byte: b'E',
@@ -223,7 +231,7 @@ pub fn number(bytes: &[u8]) -> u64 {
         .fold(0, |x, &byte| x << 8 | u64::from(byte))
 }
 
-/// The sets in the answer of a page.
+/// The sets in the answer to L or N: both have three bytes before them.
 pub fn sets(answer: &[u8]) -> Vec<u64> {
     answer[3..].chunks(8).map(number).collect()
 }

@@ -1,6 +1,6 @@
-//! What K2 promises of an accepted job, asked of the engine: each L and C answers as in a fresh job
-//! with the standing candidates in the standing order, and pages are joined over further jobs that
-//! have the same A and D commands before them.
+//! What K2 promises of an accepted job, asked of the engine: each L and C, and each N, which equals
+//! pages of L, answers as in a fresh job with the standing candidates in the standing order, and
+//! pages are joined over further jobs that have the same A and D commands before them.
 
 use crate::engine;
 use crate::expanded::expand;
@@ -12,7 +12,7 @@ use crate::report::{hex, matches};
 /// The most bytes that P, one page and E answer with.
 const PRIMES_PAGE_END: usize = (2 + 3 * 64) + (3 + 8 * 255) + 1;
 
-/// How many L and C commands were held to a fresh job, and how many lists, each of two pages or
+/// How many L, C and N commands were held to a fresh job, and how many lists, each of two pages or
 /// more, were joined over further jobs.
 #[derive(Default)]
 pub struct Held {
@@ -45,7 +45,7 @@ pub fn check(job: &[u8], asked: &Asked) -> Result<Held, String> {
 }
 
 /// The commands that begin with such a byte.
-fn kept(job: &[u8], keep: impl Fn(u8) -> bool) -> Vec<u8> {
+pub fn kept(job: &[u8], keep: impl Fn(u8) -> bool) -> Vec<u8> {
     let mut commands = cut(job).expect("an accepted job is a list of commands");
     commands.retain(|command| keep(command[0]));
     commands.concat()
@@ -75,15 +75,12 @@ fn as_in_a_fresh_job(head: &[u8], query: &Query) -> Result<(), String> {
 
 /// The list at this query in pages of half its sets, each page in a further job; how many pages.
 fn joined_over_jobs(job: &[u8], asked: &Asked, query: &Query) -> Result<usize, String> {
-    let list = match reference::irredundant_covers(&asked.table, &query.candidates) {
-        Covers::All(list) => list,
-        _ => return Err("no list where L or C was answered".into()),
-    };
+    let list = list_at(asked, query)?;
     let count = list.len().div_ceil(2).clamp(1, 255) as u8;
-    // The same A and D commands stand in both, with the L and C commands between them and without.
+    // The same A and D commands stand in both, with the queries between them and without.
     // The table is the same, too, where the second one has R for B.
     let whole = &job[..query.at];
-    let quiet = kept(whole, |byte| !b"LC".contains(&byte));
+    let quiet = kept(whole, |byte| !b"LCN".contains(&byte));
     let by_rows = expand(&quiet).job;
     let short = by_rows.len() + 11 <= LONGEST;
     let heads = [whole, if short { &by_rows } else { &quiet }];
@@ -99,6 +96,17 @@ fn joined_over_jobs(job: &[u8], asked: &Asked, query: &Query) -> Result<usize, S
         }
     }
     unreachable!("the heads take turns without end")
+}
+
+/// All irredundant covers. An N has them, where they may be too many for the reference's L.
+fn list_at(asked: &Asked, query: &Query) -> Result<Vec<u64>, String> {
+    if query.command == b"N" {
+        return Ok(sets(&query.answer));
+    }
+    match reference::irredundant_covers(&asked.table, &query.candidates) {
+        Covers::All(list) => Ok(list),
+        _ => Err("no list where L or C was answered".into()),
+    }
 }
 
 /// The answer of a page behind a head.

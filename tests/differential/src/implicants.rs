@@ -1,7 +1,7 @@
-//! What document 000 says of each L and C, asked of their answers: 12 is refused where the presence
-//! of all candidates is 0, and each set in an answer is a prime implicant of the presence function.
-//! Over few candidates every set is tried: the presence is the cover test of the reference, and a
-//! page has the prime implicants and none else.
+//! What document 000 says of each L, C and N, asked of their answers: 12 is refused where the
+//! presence of all candidates is 0, and each set in an answer is a prime implicant of the presence
+//! function. Over few candidates every set is tried: the presence is the cover test of the
+//! reference, a page has the prime implicants and none else, and N has all of them.
 
 use crate::format::{number, sets};
 use crate::reference::{self, Outcome, Presence};
@@ -13,7 +13,7 @@ const FEW: usize = 10;
 /// What a job was held to.
 #[derive(Default)]
 pub struct Held {
-    /// L and C commands that 12 does not refuse, and those that it does.
+    /// L, C and N commands that 12 does not refuse, and those that it does.
     pub answered: usize,
     pub refused: usize,
     /// The sets in the answers.
@@ -23,7 +23,9 @@ pub struct Held {
     /// Pages held to the prime implicants, and how many of them are the whole list.
     pub pages: usize,
     pub lists: usize,
-    /// Whether the document's delta would have let a refused L or C pass, or changed a list.
+    /// N commands held to the prime implicants.
+    pub products: usize,
+    /// Whether the document's delta would have let a refused command pass, or changed a list.
     pub passed_by_delta: bool,
     pub changed_by_delta: bool,
 }
@@ -77,7 +79,7 @@ fn sets_are_prime(presence: &Presence, query: &Query, held: &mut Held) -> Result
 
 fn sets_in(query: &Query) -> Vec<u64> {
     match (query.command[0], query.answer) {
-        (b'L', Ok(answer)) => sets(answer),
+        (b'L' | b'N', Ok(answer)) => sets(answer),
         (_, Ok(answer)) => vec![number(&answer[3..])],
         _ => Vec::new(),
     }
@@ -98,6 +100,7 @@ fn every_set(presence: &Presence, standing: &Standing, held: &mut Held) -> Resul
     let primes = reference::prime_implicants(&of_every_set);
     for query in &standing.queries {
         page_has_all(&primes, query, held)?;
+        products_are_all(&primes, query, held)?;
     }
     let with_delta = presence.of_every_set(Presence::presence_with_delta);
     let answered = presence.presence(presence.all());
@@ -121,5 +124,17 @@ fn page_has_all(primes: &[u64], query: &Query, held: &mut Held) -> Result<(), St
     }
     held.pages += 1;
     held.lists += usize::from(start == 0 && more == 0);
+    Ok(())
+}
+
+/// N has every prime implicant.
+fn products_are_all(primes: &[u64], query: &Query, held: &mut Held) -> Result<(), String> {
+    let (b'N', Ok(answer)) = (query.command[0], query.answer) else {
+        return Ok(());
+    };
+    if sets(answer) != primes {
+        return Err("the products are not the prime implicants".into());
+    }
+    held.products += 1;
     Ok(())
 }

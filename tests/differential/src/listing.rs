@@ -9,7 +9,7 @@ use crate::report::{hex, matches};
 use crate::rng::Rng;
 use crate::walk;
 
-/// Where a W that is accepted stands: right behind I, as R to C may not stand before it and D has
+/// Where a W that is accepted stands: right behind I, as R to N may not stand before it and D has
 /// nothing to take out there.
 const PLACE: usize = 3;
 const BEHIND: usize = 7;
@@ -19,6 +19,8 @@ pub struct Held {
     /// The pages that are answered, and how many of them have a set.
     pub pages: usize,
     pub with_sets: usize,
+    /// The N commands that are answered.
+    pub products: usize,
     /// Whether a C answers otherwise there.
     pub other_cheapest: bool,
 }
@@ -39,12 +41,7 @@ pub fn check_of(
     if !accepted(&case.job, expected) {
         return Ok(None);
     }
-    let (pages, with_sets) = pages(&case.job, expected).ok_or("an answer is cut")?;
-    let mut held = Held {
-        pages,
-        with_sets,
-        other_cheapest: false,
-    };
+    let mut held = lists(&case.job, expected).ok_or("an answer is cut")?;
     for (job, shorter) in other_jobs(&case.job, expected) {
         let other = Case {
             job,
@@ -119,10 +116,14 @@ fn without_cheapest(job: &[u8], outcome: &Outcome) -> Option<Outcome> {
     })
 }
 
-/// How many pages are answered, and how many of them have a set.
-fn pages(job: &[u8], outcome: &Outcome) -> Option<(usize, usize)> {
-    let mut pages = answers(job, outcome)?;
-    pages.retain(|(byte, _)| *byte == b'L');
-    let with_sets = pages.iter().filter(|(_, answer)| answer[1] > 0);
-    Some((pages.len(), with_sets.count()))
+/// How many pages are answered, how many of them have a set, and how many N commands are answered.
+fn lists(job: &[u8], outcome: &Outcome) -> Option<Held> {
+    let answers = answers(job, outcome)?;
+    let of = |wanted: u8| answers.iter().filter(move |(byte, _)| *byte == wanted);
+    Some(Held {
+        pages: of(b'L').count(),
+        with_sets: of(b'L').filter(|(_, answer)| answer[1] > 0).count(),
+        products: of(b'N').count(),
+        other_cheapest: false,
+    })
 }

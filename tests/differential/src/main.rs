@@ -14,6 +14,7 @@ mod fresh;
 mod generate;
 mod implicants;
 mod listing;
+mod products;
 mod reference;
 mod report;
 mod rng;
@@ -32,7 +33,7 @@ use std::time::{Duration, Instant};
 use tally::Tally;
 
 const SEED: u64 = 20_240_229;
-const COUNT: usize = 37_300;
+const COUNT: usize = 41_700;
 /// Each case of this stride is asked twice and, with no more room than this, kept for the threads.
 const STRIDE: usize = 50;
 const MOST_ROOM_KEPT: usize = 1_000;
@@ -160,6 +161,10 @@ fn stored_jobs(run: &mut Run) -> bool {
         "{} of their cheapest at other prices checked fully, {} in part",
         tally.at_prices.full, tally.at_prices.part
     );
+    println!(
+        "N is answered over {} of their tables and refused with 17 over {}",
+        tally.multiplied.answered, tally.multiplied.refused
+    );
     run.passed += tally.jobs();
     false
 }
@@ -203,13 +208,14 @@ fn one(run: &mut Run, case: &Case, turn: usize) -> bool {
     true
 }
 
-/// What K3, document 000, K6 and K7 say of an outcome on which engine and reference agree.
+/// What K3, document 000, K6, K7 and K8 say of an outcome on which engine and reference agree.
 fn as_promised(run: &mut Run, case: &Case, before: &[u8], expected: &Outcome) -> bool {
     as_by_rows(run, case, before, expected)
         && as_by_points(run, case, before, expected)
         && as_by_prices(run, case, before, expected)
         && as_at_other_prices(run, case, before, expected)
         && as_by_cubes(run, case, before, expected)
+        && as_by_pages(run, case, before, expected)
 }
 
 /// False when the engine does not keep what K3 promises of a job with B.
@@ -227,7 +233,7 @@ fn as_by_rows(run: &mut Run, case: &Case, before: &[u8], expected: &Outcome) -> 
     true
 }
 
-/// False when the answers to L and C are not what document 000 says.
+/// False when the answers to L, C and N are not what document 000 says.
 fn as_by_points(run: &mut Run, case: &Case, before: &[u8], expected: &Outcome) -> bool {
     match implicants::check(&case.job, expected) {
         Ok(held) => run.tally.add_presence(&held),
@@ -282,6 +288,21 @@ fn as_by_cubes(run: &mut Run, case: &Case, before: &[u8], expected: &Outcome) ->
             println!("MISMATCH: {wrong}");
             report_wrong(case, before, |case, outcome| {
                 cubes::check(&case.job, outcome).is_err()
+            });
+            return false;
+        }
+    }
+    true
+}
+
+/// False when the answer to N is not what K8 says of L's pages.
+fn as_by_pages(run: &mut Run, case: &Case, before: &[u8], expected: &Outcome) -> bool {
+    match products::check(case, expected) {
+        Ok(held) => run.tally.add_products(&case.job, &held),
+        Err(wrong) => {
+            println!("MISMATCH: {wrong}");
+            report_wrong(case, before, |case, outcome| {
+                products::check(case, outcome).is_err()
             });
             return false;
         }

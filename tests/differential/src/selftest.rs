@@ -6,11 +6,13 @@ mod cubes;
 mod drawn;
 mod presence;
 mod prices;
+mod products;
 mod records;
 
 pub use blocks::{mixed, ring};
 pub use changes::{first_term_gone, prime_gone, seventh_term};
 pub use prices::{dearest, priced};
+pub use products::multiplied;
 
 use crate::format::COMMANDS;
 use crate::generate::{draft, page, row, term, Draft};
@@ -175,6 +177,7 @@ pub fn run(rng: &mut Rng) -> Checks {
     records::run(&mut checks);
     prices::run(&mut checks, rng);
     cubes::run(&mut checks, rng);
+    products::run(&mut checks, rng);
     drawn::run(&mut checks, rng);
     checks
 }
@@ -249,7 +252,7 @@ fn marked_rivals(checks: &mut Checks) {
     checks.check("no rival without the primes", none);
 }
 
-/// The rival's least cost at each L and C of a sound job, None where he is not met.
+/// The rival's least cost at each query of a sound job, None where he is not met.
 fn rivals(job: &[u8]) -> Vec<Option<u64>> {
     let asked = reference::asked(job).expect("a sound job");
     let at = |query: &Query| reference::rival(&asked.table, asked.prices, &query.candidates);

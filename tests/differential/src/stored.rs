@@ -3,7 +3,8 @@
 //! Every answer is held to the definitions as far as that can be done without a search: each set
 //! is an irredundant cover, sets rise from the start, the cost is that of the set. That no set
 //! is left out and none is cheaper needs a search; where it is given up the job is checked in part.
-//! Every job is held to document 000, too.
+//! Every job is held to document 000, too, and each of its tables is asked by N, which the reference
+//! does in full.
 //! A job that is checked fully is asked again with each candidate taken out and put in again, with
 //! its rows by R alone, by B alone, and at other prices: there the pages stay, and the cheapest is
 //! checked anew. Where candidates come and go between its queries, those that follow each other are
@@ -11,16 +12,18 @@
 
 mod heads;
 mod prices;
+mod products;
 
 use crate::engine;
 use crate::exact::{GivenUp, Search};
 use crate::format::{self, number, sets};
 use crate::generate::page;
 use crate::implicants;
-use crate::reference::{self, Outcome, Prices, Table, Term, LONGEST};
+use crate::reference::{self, Outcome, Prices, Products, Table, Term, LONGEST};
 use crate::threads;
 use heads::{by_blocks, by_rows, turned};
 use prices::{at_prices, Cheapest, PRICES};
+use products::{multiplied, Multiplied};
 use std::fs;
 use std::path::{Path, PathBuf};
 
@@ -44,6 +47,7 @@ pub struct Tally {
     pub few_sets: usize,
     pub part: Vec<String>,
     pub at_prices: Cheapest,
+    pub multiplied: Multiplied,
 }
 
 impl Tally {
@@ -77,7 +81,7 @@ pub fn run() -> Result<Tally, String> {
     tally(threads::each(&paths()?, |path| one(path)))
 }
 
-/// Every job of the folder without its L and C commands, which take time and leave table and
+/// Every job of the folder without its L, C and N commands, which take time and leave table and
 /// candidates as they are.
 pub fn without_queries() -> Result<Vec<Vec<u8>>, String> {
     paths()?.iter().map(|path| quiet(path)).collect()
@@ -89,7 +93,7 @@ fn quiet(path: &Path) -> Result<Vec<u8>, String> {
     let commands = format::cut(&job).ok_or_else(|| wrong("it is not a list of whole commands"))?;
     let kept = commands
         .iter()
-        .filter(|command| !b"LC".contains(&command[0]));
+        .filter(|command| !b"LCN".contains(&command[0]));
     Ok(kept.copied().collect::<Vec<_>>().concat())
 }
 
@@ -99,6 +103,8 @@ fn tally(seen: Vec<(String, Result<Checked, String>)>) -> Result<Tally, String> 
         let checked = checked.map_err(|wrong| format!("stored job {name}: {wrong}"))?;
         tally.at_prices.full += checked.at_prices.full;
         tally.at_prices.part += checked.at_prices.part;
+        tally.multiplied.answered += checked.multiplied.answered;
+        tally.multiplied.refused += checked.multiplied.refused;
         match checked.depth {
             Depth::Full => tally.full += 1,
             Depth::FewSets => tally.few_sets += 1,
@@ -107,6 +113,9 @@ fn tally(seen: Vec<(String, Result<Checked, String>)>) -> Result<Tally, String> 
     }
     if tally.at_prices.full == 0 {
         return Err("no cheapest of a stored job was checked at other prices".into());
+    }
+    if tally.multiplied.answered == 0 || tally.multiplied.refused == 0 {
+        return Err("N was never answered over a stored table, or never refused".into());
     }
     Ok(tally)
 }
@@ -141,6 +150,7 @@ struct Asked<'a> {
 struct Checked {
     depth: Depth,
     at_prices: Cheapest,
+    multiplied: Multiplied,
 }
 
 fn check(job: &[u8]) -> Result<Checked, String> {
@@ -151,12 +161,14 @@ fn check(job: &[u8]) -> Result<Checked, String> {
     let mut checked = Checked {
         depth: Depth::Full,
         at_prices: Cheapest::default(),
+        multiplied: Multiplied::default(),
     };
     let mut answers = Vec::new();
     for asked in asked_in(before) {
         let problem = problem(&asked.head)?;
         let answered = ask(&problem.head, &asked.queries)?;
         check_asked(&problem, &asked.queries, &answered, &mut checked)?;
+        multiplied(&problem, &mut checked.multiplied)?;
         answers.extend(answered.into_iter().flat_map(|query| query.answer));
     }
     answers.push(0x65);
@@ -173,7 +185,7 @@ fn asked_in<'a>(commands: &[&'a [u8]]) -> Vec<Asked<'a>> {
     let mut head = Vec::new();
     let mut goes_on = false;
     for &command in commands {
-        let is_query = matches!(command[0], b'L' | b'C');
+        let is_query = matches!(command[0], b'L' | b'C' | b'N');
         match list.last_mut() {
             Some(asked) if is_query && goes_on => asked.queries.push(command),
             _ if is_query => list.push(Asked {
@@ -284,6 +296,7 @@ fn ask(head: &[u8], queries: &[&[u8]]) -> Result<Vec<Query>, String> {
         let len = match (command[0], rest) {
             (b'L', [0x6c, k, ..]) => 3 + 8 * usize::from(*k),
             (b'C', [0x63, ..]) => 11,
+            (b'N', [0x6e, low, high, ..]) => 3 + 8 * number(&[*low, *high]) as usize,
             _ => return Err("an answer begins with another byte".into()),
         };
         let answer = rest.get(..len).ok_or("an answer is too short")?;
@@ -300,8 +313,10 @@ fn ask(head: &[u8], queries: &[&[u8]]) -> Result<Vec<Query>, String> {
 }
 
 fn check_query(problem: &Problem, search: &mut Search, query: &Query) -> Result<Depth, String> {
-    if query.command[0] == b'C' {
-        return check_cheapest(problem, search, &query.answer);
+    match query.command[0] {
+        b'C' => return check_cheapest(problem, search, &query.answer),
+        b'N' => return check_products(problem, &query.answer),
+        _ => {}
     }
     let start = number(&query.command[1..9]);
     if check_page(problem, search, query)? == Depth::Full {
@@ -354,6 +369,14 @@ fn check_cheapest(problem: &Problem, search: &mut Search, answer: &[u8]) -> Resu
         Err(GivenUp) => Ok(Depth::Part),
         Ok(true) => Ok(Depth::Full),
         Ok(false) => Err("another cover is cheaper or comes first".into()),
+    }
+}
+
+/// No search is needed: the reference multiplies, too.
+fn check_products(problem: &Problem, answer: &[u8]) -> Result<Depth, String> {
+    match reference::products(&problem.table, &problem.candidates) {
+        Products::All(list) if list == sets(answer) => Ok(Depth::Full),
+        _ => Err("the products are not the reference's".into()),
     }
 }
 

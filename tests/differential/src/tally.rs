@@ -1,14 +1,15 @@
 //! What a run has met: how often each number came, what became of each command, what was held to
-//! the promises of K2, K3, K6, K7 and to document 000, what the records showed, and, at each C of
-//! the drawn jobs, how often K1 and the prices changed cost or set of the cheapest and how often
+//! the promises of K2, K3, K6, K7, K8 and to document 000, what the records showed, and, at each C
+//! of the drawn jobs, how often K1 and the prices changed cost or set of the cheapest and how often
 //! the cost was held to the rival's. A run fails where one of these never came. The jobs made on
 //! purpose do not count for L and C, nor for the rows of B and for W: the marked cases and each row
-//! are among them, so that no count could stay at 0. For P they are counted apart.
+//! are among them, so that no count could stay at 0. For P and N they are counted apart.
 
 mod blocks;
 mod cubes;
 mod presence;
 mod prices;
+mod products;
 mod records;
 
 use crate::charged;
@@ -19,12 +20,14 @@ use crate::format::{self, Command, COMMANDS, LAST_NUMBER};
 use crate::fresh::Held;
 use crate::implicants;
 use crate::listing;
+use crate::products::Held as HeldProducts;
 use crate::reference::{self, Asked, Covers, Outcome, Prices, Query, Term};
 use crate::report::hex;
 use blocks::Blocks;
 use cubes::Primes;
 use presence::Presences;
 use prices::Priced;
+use products::Multiplied;
 use records::Records;
 use std::collections::BTreeMap;
 
@@ -41,14 +44,15 @@ pub struct Tally {
     records: Records,
     cheapest: Cheapest,
     priced: Priced,
+    multiplied: Multiplied,
 }
 
 /// The accepted drawn jobs whose candidates come and go.
 #[derive(Default)]
 struct Changes {
-    /// Those with an L or C whose candidates have changed since an earlier one.
+    /// Those with an L, C or N whose candidates have changed since an earlier one.
     jobs: usize,
-    /// L and C commands held to a fresh job, and lists joined over further jobs.
+    /// L, C and N commands held to a fresh job, and lists joined over further jobs.
     held: Held,
 }
 
@@ -80,6 +84,7 @@ impl Tally {
             records: Records::default(),
             cheapest: Cheapest::default(),
             priced: Priced::default(),
+            multiplied: Multiplied::default(),
         }
     }
 
@@ -157,7 +162,7 @@ impl Tally {
         }
     }
 
-    /// A job whose L and C commands were held to the presence function.
+    /// A job whose L, C and N commands were held to the presence function.
     pub fn add_presence(&mut self, held: &implicants::Held) {
         if self.drawn {
             self.presences.add(held);
@@ -167,6 +172,11 @@ impl Tally {
     /// A job whose P was held to the table of cubes.
     pub fn add_primes(&mut self, held: &HeldPrimes) {
         self.primes.add(held, self.drawn);
+    }
+
+    /// A job whose N commands were held to L's pages.
+    pub fn add_products(&mut self, job: &[u8], held: &HeldProducts) {
+        self.multiplied.add(job, held, self.drawn);
     }
 
     /// A job whose record was compared.
@@ -193,6 +203,7 @@ impl Tally {
         self.records.print();
         self.cheapest.print();
         self.priced.print();
+        self.multiplied.print();
     }
 
     /// What should have come and did not, and what came that the table of commands does not name.
@@ -222,6 +233,7 @@ impl Tally {
         list.extend(self.records.complaints());
         list.extend(self.cheapest.complaints());
         list.extend(self.priced.complaints());
+        list.extend(self.multiplied.complaints());
         list
     }
 }
@@ -235,8 +247,8 @@ fn never(counts: &[(usize, &str)]) -> Vec<String> {
 impl Changes {
     fn print(&self) {
         println!(
-            "{} drawn jobs ask again over changed candidates; {} L and C were held to a fresh job, \
-             {} lists joined over further jobs",
+            "{} drawn jobs ask again over changed candidates; {} L, C and N were held to a fresh \
+             job, {} lists joined over further jobs",
             self.jobs, self.held.queries, self.held.lists
         );
     }
@@ -245,9 +257,9 @@ impl Changes {
         never(&[
             (
                 self.jobs,
-                "no drawn job has an L or C whose candidates have changed since an earlier one",
+                "no drawn job has an L, C or N whose candidates have changed since an earlier one",
             ),
-            (self.held.queries, "no L or C was held to a fresh job"),
+            (self.held.queries, "no L, C or N was held to a fresh job"),
             (self.held.lists, "no list was joined over further jobs"),
         ])
     }

@@ -1,17 +1,17 @@
-//! A job walked along with its outcome: which prices and candidates stand at its L and C
+//! A job walked along with its outcome: which prices and candidates stand at its L, C and N
 //! commands, and what became of these; and the table at its P. It goes by what was answered and
 //! refused, and leaves the reference aside.
 
-use crate::format;
+use crate::format::{self, number};
 use crate::reference::{Outcome, Table, Term};
 
-/// An L or C with its answer or the number of its refusal.
+/// An L, C or N with its answer or the number of its refusal.
 pub struct Query<'a> {
     pub command: &'a [u8],
     pub answer: Result<&'a [u8], u64>,
 }
 
-/// Prices, table and candidates, and the L and C commands that met them, one behind the other.
+/// Prices, table and candidates, and the L, C and N commands that met them, one behind the other.
 pub struct Standing<'a> {
     /// W's operands, or what stands for them where there is no W.
     pub prices: [u8; 3],
@@ -20,8 +20,8 @@ pub struct Standing<'a> {
     pub queries: Vec<Query<'a>>,
 }
 
-/// The L and C commands that were answered, and the one that was refused with 12 or, what is tried
-/// behind it, with 14. None where the answers are not as long as the commands need.
+/// The L, C and N commands that were answered, and the one that was refused with 12 or, what is
+/// tried behind it, with 17 or 14. None where the answers are not as long as the commands need.
 pub fn walk<'a>(job: &'a [u8], outcome: &'a Outcome) -> Option<Vec<Standing<'a>>> {
     let (before, command) = job.split_at(outcome.offset);
     let mut answers = &outcome.buffer[..outcome.written];
@@ -38,7 +38,7 @@ pub fn walk<'a>(job: &'a [u8], outcome: &'a Outcome) -> Option<Vec<Standing<'a>>
             standing.set(command, answer);
         }
     }
-    if matches!(outcome.number, 12 | 14) && is_query(command) {
+    if matches!(outcome.number, 12 | 17 | 14) && is_query(command) {
         let answer = Err(outcome.number);
         standing.queries.push(Query { command, answer });
     }
@@ -64,7 +64,7 @@ pub fn primes<'a>(job: &[u8], outcome: &'a Outcome) -> Option<(Table, Result<&'a
 }
 
 fn is_query(command: &[u8]) -> bool {
-    matches!(command, [b'L' | b'C', ..])
+    matches!(command, [b'L' | b'C' | b'N', ..])
 }
 
 /// How long the answer to a command is, at the head of the answers from there on.
@@ -74,6 +74,7 @@ pub fn width(byte: u8, answers: &[u8]) -> Option<usize> {
         b'P' => count().map(|count| 2 + 3 * count),
         b'L' => count().map(|count| 3 + 8 * count),
         b'C' => Some(11),
+        b'N' => answers.get(1..3).map(|two| 3 + 8 * number(two) as usize),
         b'E' => Some(1),
         _ => Some(0),
     }

@@ -7,11 +7,13 @@ mod changes;
 mod damage;
 mod draft;
 mod prices;
+mod products;
 mod purpose;
 mod purpose_blocks;
 mod purpose_changes;
 mod purpose_cubes;
 mod purpose_prices;
+mod purpose_products;
 mod queries;
 mod records;
 mod sound;
@@ -20,9 +22,11 @@ mod tables;
 
 pub use draft::{block, come, draft, go, page, prices, row, term, Draft, Pairs};
 pub use prices::{drawn_prices, other_prices};
+pub use products::{drawn_plan, Plan};
 pub use purpose::on_purpose;
 pub use purpose_cubes::{cubes_on_purpose, two_corners};
 pub use purpose_prices::prices_on_purpose;
+pub use purpose_products::{by_orders, counted, products_on_purpose};
 pub use records::{records_drawn, records_on_purpose};
 pub use tables::{pairs, random_table, terms_for};
 
@@ -43,7 +47,8 @@ pub fn next(rng: &mut Rng) -> Vec<Case> {
         0..=219 => vec![sound::case(rng)],
         220..=339 => vec![damage::damaged(rng)],
         340..=387 => vec![damage::wild(rng)],
-        388..=397 => vec![damage::noise(rng)],
+        388..=395 => vec![damage::noise(rng)],
+        396 | 397 => vec![products::case(rng)],
         398 => {
             let job = sound::short(rng).job();
             let room = need(&job).unwrap_or(0) + rng.below(3);

@@ -6,6 +6,7 @@ use super::purpose_blocks;
 use super::purpose_changes;
 use super::purpose_cubes;
 use super::purpose_prices;
+use super::purpose_products;
 use super::sweeps::{every_byte, every_cut, every_room};
 use super::tables::{random_table, rows};
 use super::Case;
@@ -29,6 +30,7 @@ pub fn on_purpose(rng: &mut Rng) -> Vec<Case> {
     purpose_blocks::of_blocks(rng, &mut list);
     list.extend(purpose_prices::prices_on_purpose(rng));
     list.extend(purpose_cubes::cubes_on_purpose(rng));
+    list.extend(purpose_products::products_on_purpose(rng));
     list
 }
 

@@ -55,7 +55,7 @@ fn of_their_places(list: &mut Vec<Case>) {
         // Before I, right behind it, twice, and I again.
         "W WE WI WIE WIWE IW IWE IWWE IWWWE IWIE IWIWE IWRTLCWE",
         // Behind each command before which it stands, alone and where it came before.
-        "IRWE IBWE IRTWE IRAWE IPWE ILWE ICWE IRPWE IRTLWE IRTCWE IRPLWE IRPCWE",
+        "IRWE IBWE IRTWE IRAWE IPWE ILWE ICWE INWE IRPWE IRTLWE IRTCWE IRPLWE IRPCWE",
         "IWRWE IWBWE IWRTWE IWRAWE IWPWE IWLWE IWCWE IWRPWE IWRTLWE IWRTCWE IWRPLCWE",
         // The candidate has gone, and D with nothing standing.
         "IRTDWE IRADWE IRPDWE IWRTDWE IWRADWE IWRPDWE IDWE IWDE IWDWE IWRTDDE",
@@ -76,7 +76,7 @@ fn of_their_places(list: &mut Vec<Case>) {
 /// A price above 50 where W may not stand: 4 comes first.
 fn of_bad_places(list: &mut Vec<Case>) {
     for head in [
-        "", "IW", "IR", "IB", "IRT", "IRA", "IP", "IL", "IC", "IRPDA",
+        "", "IW", "IR", "IB", "IRT", "IRA", "IP", "IL", "IC", "IN", "IRPDA",
     ] {
         for bad in [[51, 0, 0], [0, 51, 0], [0, 0, 51], [255; 3], [50; 3]] {
             let job = [spelled(head), prices(bad), b"E".to_vec()].concat();

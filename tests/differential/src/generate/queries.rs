@@ -59,6 +59,9 @@ fn paging(rng: &mut Rng, covers: &[u64]) -> Vec<Vec<u8>> {
         if rng.chance(1, 8) {
             list.push(vec![b'C']);
         }
+        if rng.chance(1, 8) {
+            list.push(vec![b'N']);
+        }
         got = covers.len().min(got + usize::from(count));
         if got == covers.len() {
             break;
@@ -68,21 +71,24 @@ fn paging(rng: &mut Rng, covers: &[u64]) -> Vec<Vec<u8>> {
 }
 
 pub fn queries(rng: &mut Rng, covers: &[u64], candidates: usize) -> Vec<Vec<u8>> {
-    let mut list = Vec::new();
+    let mut list = vec![vec![b'N']; usize::from(rng.chance(1, 8))];
     if !covers.is_empty() && rng.chance(1, 2) {
         list.extend(paging(rng, covers));
     }
     for _ in 0..rng.below(4) {
         let start = any_start(rng, covers, candidates);
         let count = any_count(rng);
-        list.push(if rng.chance(1, 4) {
-            vec![b'C']
-        } else {
-            page(start, count)
+        list.push(match rng.below(8) {
+            0 | 1 => vec![b'C'],
+            2 => vec![b'N'],
+            _ => page(start, count),
         });
     }
     if rng.chance(2, 3) {
         list.push(vec![b'C']);
+    }
+    if rng.chance(1, 4) {
+        list.push(vec![b'N']);
     }
     list
 }

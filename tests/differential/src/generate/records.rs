@@ -1,16 +1,18 @@
-//! Jobs for the records that they leave: made on purpose for the weights of K5 and the prices of
-//! K6, some of the others made on purpose, and drawn ones.
+//! Jobs for the records that they leave: made on purpose for the weights of K5, the prices of K6 and
+//! N of K8, some of the others made on purpose, and drawn ones.
 
 use super::bytes::full;
 use super::damage::{damaged, wild};
 use super::draft::{block, come, draft, go, prices, row, term, Draft};
 use super::purpose::{on_purpose, primes};
+use super::purpose_products::counted;
 use super::sound::sound;
 use crate::format::BLOCK;
 use crate::reference::LONGEST;
 use crate::rng::Rng;
 use crate::selftest::{
-    bytes, dearest, first_term_gone, marked, odd_parity, priced, prime_gone, seventh_term, EXAMPLE,
+    bytes, dearest, first_term_gone, marked, multiplied, odd_parity, priced, prime_gone,
+    seventh_term, EXAMPLE,
 };
 
 type Commands = Vec<Vec<u8>>;
@@ -27,6 +29,7 @@ pub fn records_on_purpose(rng: &mut Rng) -> Jobs {
     of_every_number(&mut list);
     of_primes(&mut list);
     of_prices(&mut list);
+    of_products(rng, &mut list);
     of_lengths(&mut list);
     let mut others: Jobs = on_purpose(rng).into_iter().map(|case| case.job).collect();
     // Those that differ in their buffers alone leave one record.
@@ -150,6 +153,18 @@ fn of_prices(list: &mut Jobs) {
     for own in refused {
         list.push(priced(marked('a'), own).job());
         list.push(priced(priced(marked('a'), own), [7, 5, 3]).job());
+    }
+}
+
+/// N leaves all but the place, and where it is refused, with 17 among others, that too; behind it
+/// candidates go and come.
+fn of_products(rng: &mut Rng, list: &mut Jobs) {
+    for case in "acdegh".chars() {
+        behind_each(list, &multiplied(marked(case)), 1);
+    }
+    for (plan, _) in counted() {
+        let asked = vec![vec![b'N'], go(0), come(255, 0, 1), vec![b'N']];
+        list.push(plan.job(rng, asked).job());
     }
 }
 

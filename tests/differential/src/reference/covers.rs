@@ -6,7 +6,7 @@ use super::table::{Table, Term};
 /// Up to this many candidates every subset is tried.
 const MOST_BY_SUBSETS: usize = 14;
 /// Above that the sums are multiplied out, as long as no more than this many products stand.
-const MOST_PRODUCTS: usize = 1_000;
+const MOST_PRODUCTS: usize = 2_100;
 
 /// What the candidates make of the table.
 #[derive(Clone, PartialEq, Eq, Debug)]
@@ -87,9 +87,9 @@ pub fn covers_by_products(sums: &[u64]) -> Option<Vec<u64>> {
             if !products.iter().any(|smaller| smaller & !set == 0) {
                 products.push(set);
             }
-        }
-        if products.len() > MOST_PRODUCTS {
-            return None;
+            if products.len() > MOST_PRODUCTS {
+                return None;
+            }
         }
     }
     products.sort_unstable();

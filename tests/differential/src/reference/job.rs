@@ -2,6 +2,7 @@
 
 use super::covers::{cheapest, irredundant_covers, Covers};
 use super::prices::{Prices, HIGHEST};
+use super::products::{products, Products};
 use super::table::{fits, Table, Term};
 use crate::format;
 
@@ -50,8 +51,9 @@ pub struct Problem {
     pub terms_came: bool,
     pub primes_came: bool,
     pub queries_came: bool,
-    /// The covers by the standing candidates, once they are asked for.
+    /// The covers by the standing candidates, once they are asked for, and the products.
     covers: Option<Covers>,
+    products: Option<Products>,
 }
 
 /// Runs a job over a buffer; None when it is more work than the reference takes on.
@@ -96,7 +98,7 @@ pub fn left_by(job: &[u8], buffer: &[u8]) -> Option<(Outcome, Problem)> {
     }
 }
 
-/// An L or C of a job: its offset and bytes, the candidates that stand there, and its answer.
+/// An L, C or N of a job: its offset and bytes, the candidates that stand there, and its answer.
 pub struct Query {
     pub at: usize,
     pub command: Vec<u8>,
@@ -104,7 +106,7 @@ pub struct Query {
     pub answer: Vec<u8>,
 }
 
-/// The table and the prices of a job, and its L and C commands.
+/// The table and the prices of a job, and its L, C and N commands.
 pub struct Asked {
     pub table: Table,
     pub prices: Prices,
@@ -119,7 +121,7 @@ pub fn asked(job: &[u8]) -> Option<Asked> {
     loop {
         let (width, answer) = problem.command(job, at, LONGEST).ok()?;
         match job[at] {
-            b'L' | b'C' => queries.push(Query {
+            b'L' | b'C' | b'N' => queries.push(Query {
                 at,
                 command: job[at..at + width].to_vec(),
                 candidates: problem.candidates.clone(),
@@ -156,6 +158,7 @@ impl Problem {
             primes_came: false,
             queries_came: false,
             covers: None,
+            products: None,
         }
     }
 
@@ -180,6 +183,7 @@ impl Problem {
             b'P' => self.primes()?,
             b'L' => self.page(ops)?,
             b'C' => self.cheapest()?,
+            b'N' => self.multiplied()?,
             b'E' => {
                 refuse_if(at + 1 != job.len(), 13)?;
                 vec![0x65]
@@ -200,7 +204,7 @@ impl Problem {
             }
             b'R' | b'B' | b'P' => self.table.is_some() && candidates_open && !self.terms_came,
             b'T' => self.table.is_some() && candidates_open,
-            b'A' | b'D' | b'L' | b'C' | b'E' => self.table.is_some(),
+            b'A' | b'D' | b'L' | b'C' | b'N' | b'E' => self.table.is_some(),
             _ => unreachable!("format.rs has a command that has no place here"),
         }
     }
@@ -261,7 +265,7 @@ impl Problem {
         refuse_if(self.candidates.len() == MOST_CANDIDATES, 11)?;
         self.candidates.push(t);
         self.terms_came = true;
-        self.covers = None;
+        self.forget();
         Ok(Vec::new())
     }
 
@@ -270,8 +274,14 @@ impl Problem {
         let number = usize::from(ops[0]);
         refuse_if(number >= self.candidates.len(), 15)?;
         self.candidates.remove(number);
-        self.covers = None;
+        self.forget();
         Ok(Vec::new())
+    }
+
+    /// Other candidates have other covers.
+    fn forget(&mut self) {
+        self.covers = None;
+        self.products = None;
     }
 
     fn primes(&mut self) -> Result<Vec<u8>, Stop> {
@@ -325,5 +335,25 @@ impl Problem {
         answer.extend((cost as u16).to_le_bytes());
         answer.extend(set.to_le_bytes());
         Ok(answer)
+    }
+
+    /// For the place of the other commands an N counts as an L. The products are found once, too.
+    fn multiplied(&mut self) -> Result<Vec<u8>, Stop> {
+        self.queries_came = true;
+        let table = self.table.as_ref().expect("I came first");
+        let candidates = &self.candidates;
+        let found = self
+            .products
+            .get_or_insert_with(|| products(table, candidates));
+        match found {
+            Products::None => Err(Stop::Refused(12)),
+            Products::TooMany => Err(Stop::Refused(17)),
+            Products::All(sets) => {
+                let mut answer = vec![0x6e];
+                answer.extend((sets.len() as u16).to_le_bytes());
+                sets.iter().for_each(|set| answer.extend(set.to_le_bytes()));
+                Ok(answer)
+            }
+        }
     }
 }

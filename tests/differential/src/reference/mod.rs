@@ -6,6 +6,7 @@ mod cubes;
 mod job;
 mod presence;
 mod prices;
+mod products;
 mod record;
 mod rival;
 mod table;
@@ -18,6 +19,9 @@ pub use cubes::{cube_number, cube_of, spread, weight, Cubes, ENTRIES};
 pub use job::{asked, run, Asked, Outcome, Query, LONGEST, MOST_CANDIDATES};
 pub use presence::{delta, implicants, points, prime_implicants, sum, Presence};
 pub use prices::{Prices, HIGHEST};
+pub use products::{
+    holders, joined, next_by_pairs, next_by_size, products, Products, MOST_PRODUCTS,
+};
 pub use record::record;
 pub use rival::{least_cost, rival, rival_at_any_price};
 pub use table::{below, Cell, Table, Term};

@@ -28,7 +28,7 @@ pub fn record(job: &[u8]) -> Option<(Outcome, String)> {
     Some((out, text))
 }
 
-/// The furthest that came: I, W, a row, a term, or a P, L or C.
+/// The furthest that came: I, W, a row, a term, or a P, L, C or N.
 fn place(problem: &Problem) -> usize {
     let came = [
         problem.table.is_some(),

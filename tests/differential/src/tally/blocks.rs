@@ -10,7 +10,7 @@ pub struct Blocks {
     /// Those held to the job with R commands, accepted and refused.
     accepted: usize,
     refused: usize,
-    /// Accepted ones with an L or C behind a B, and how many of these have A or D.
+    /// Accepted ones with an L, C or N behind a B, and how many of these have A or D.
     pub asked: usize,
     pub asked_with_changes: usize,
     /// Refused at a B with 7 and with 8, by the row at which that was met.
@@ -45,10 +45,10 @@ impl Blocks {
         let mut list = never(&[
             (self.accepted, "no accepted drawn job was held to R for B"),
             (self.refused, "no refused drawn job was held to R for B"),
-            (self.asked, "no accepted drawn job has L or C behind a B"),
+            (self.asked, "no accepted drawn job has L, C or N behind a B"),
             (
                 self.asked_with_changes,
-                "no accepted drawn job has B, A or D, and L or C",
+                "no accepted drawn job has B, A or D, and L, C or N",
             ),
         ]);
         for (number, rows) in [7, 8].iter().zip(&self.rows) {

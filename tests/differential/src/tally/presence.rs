@@ -22,6 +22,7 @@ impl Presences {
         self.sum.tried += held.tried;
         self.sum.pages += held.pages;
         self.sum.lists += held.lists;
+        self.sum.products += held.products;
         self.passed_by_delta += usize::from(held.passed_by_delta);
         self.changed_by_delta += usize::from(held.changed_by_delta);
     }
@@ -29,16 +30,17 @@ impl Presences {
     pub fn print(&self) {
         let sum = &self.sum;
         println!(
-            "{} L and C of drawn jobs were held to the presence function, {} more were refused by \
-             it, {} sets are prime implicants; {} sets were tried, {} pages held to all prime \
-             implicants, {} of these whole lists; the delta would let 12 pass in {} jobs and \
-             change the list of {}",
+            "{} L, C and N of drawn jobs were held to the presence function, {} more were refused \
+             by it, {} sets are prime implicants; {} sets were tried, {} pages held to all prime \
+             implicants, {} of these whole lists, and {} N; the delta would let 12 pass in {} \
+             jobs and change the list of {}",
             sum.answered,
             sum.refused,
             sum.sets,
             sum.tried,
             sum.pages,
             sum.lists,
+            sum.products,
             self.passed_by_delta,
             self.changed_by_delta
         );
@@ -47,12 +49,19 @@ impl Presences {
     pub fn complaints(&self) -> Vec<String> {
         let sum = &self.sum;
         never(&[
-            (sum.answered, "no L or C was held to the presence function"),
-            (sum.refused, "the presence function never refused an L or C"),
+            (
+                sum.answered,
+                "no L, C or N was held to the presence function",
+            ),
+            (
+                sum.refused,
+                "the presence function never refused an L, C or N",
+            ),
             (sum.sets, "no set was held to the presence function"),
             (sum.tried, "the presence of every set was never tried"),
             (sum.pages, "no page was held to all prime implicants"),
             (sum.lists, "no whole list was held to all prime implicants"),
+            (sum.products, "no N was held to all prime implicants"),
             (
                 self.passed_by_delta,
                 "the delta would never let a refusal 12 pass",

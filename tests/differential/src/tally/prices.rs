@@ -30,6 +30,7 @@ struct Listings {
     refused: usize,
     pages: usize,
     with_sets: usize,
+    products: usize,
     other_cheapest: usize,
 }
 
@@ -71,6 +72,7 @@ impl Priced {
         }
         list.pages += held.pages;
         list.with_sets += held.with_sets;
+        list.products += held.products;
         list.other_cheapest += usize::from(held.other_cheapest);
     }
 
@@ -90,7 +92,7 @@ impl Priced {
         println!(
             "{} costs of drawn jobs were held to K6, {} to all irredundant covers, {} of these \
              with an equal; {} accepted and {} refused jobs with W were held to other prices, \
-             {} pages, {} of these with sets, {} jobs with another cheapest there",
+             {} pages, {} of these with sets, {} N, {} jobs with another cheapest there",
             held.costs,
             held.cheapest,
             held.equals,
@@ -98,6 +100,7 @@ impl Priced {
             list.refused,
             list.pages,
             list.with_sets,
+            list.products,
             list.other_cheapest
         );
     }
@@ -139,6 +142,7 @@ impl Listings {
             ),
             (self.pages, "no page was held to other prices"),
             (self.with_sets, "no page with sets was held to other prices"),
+            (self.products, "no N was held to other prices"),
             (
                 self.other_cheapest,
                 "no C answered otherwise at other prices",

@@ -69,7 +69,7 @@ pub fn taken_behind() -> Vec<(String, Engine)> {
         let name = format!("W is taken behind {}", char::from(byte));
         (name, Box::new(move |job| right(&moved(job, byte))))
     };
-    b"RBTAPLC".iter().map(|&byte| engine(byte)).collect()
+    b"RBTAPLCN".iter().map(|&byte| engine(byte)).collect()
 }
 
 /// Those that tell another cheapest.
