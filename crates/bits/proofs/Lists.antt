@@ -4,14 +4,14 @@ use native.Mathlib.Omega.{arith}
 use native.Mathlib.Decide.{decLt}
 use native.Mathlib.Numerals.{add-one}
 use mathlib.Core.Path.{_≡_, refl, sym, ap, ap₂, _∙_, subst, subst⁻¹}
-use mathlib.Core.Bool.{Bool, true, false, cond}
+use mathlib.Core.Bool.{Bool, false, cond}
 use mathlib.Core.List.{List, [], _∷_, _++_, map, map-append, append-nil, append-assoc}
 use borrow.Author.Tests.{eq-eqb, ne-eqb}
 use lib.Dec.{eqb}
 use lib.ListN.{getD, length, take, drop, set, length-append, length-drop, length-set, length-map}
 use lib.Seq.{take-suc, take-suc-set, take-length, drop-cons, set-at, take-at, append-snoc, length-take-le, getD-append-add, getD-drop}
 use Rattle.model.specs.Base.{from, below, filter, join, without}
-use Rattle.model.proofs.Lists.{length-without}
+use Rattle.model.proofs.Lists.{length-without, filter-append}
 use Rattle.bits.specs.Lists.{Filled, parts, upTo}
 
 -- ---- numbers in a row, in two parts
@@ -37,14 +37,6 @@ module _ {A : Type 0} where
   join-append : (xs ys : List (List A)) → join (xs ++ ys) ≡ join xs ++ join ys
   join-append [] ys = refl
   join-append (x ∷ xs) ys = ap (λ (l : List A). x ++ l) (join-append xs ys) ∙ sym (append-assoc x (join xs) (join ys))
-
-  pub filter-append : (f : A → Bool) (xs ys : List A) → filter f (xs ++ ys) ≡ filter f xs ++ filter f ys
-  filter-append f [] ys = refl
-  filter-append f (x ∷ xs) ys = go (f x) (filter-append f xs ys)
-    where
-      go : (b : Bool) → filter f (xs ++ ys) ≡ filter f xs ++ filter f ys → cond b (x ∷ filter f (xs ++ ys)) (filter f (xs ++ ys)) ≡ cond b (x ∷ filter f xs) (filter f xs) ++ filter f ys
-      go true h = ap (λ (l : List A). x ∷ l) h
-      go false h = h
 
   module _ (part : ℕ → List A) (k : ℕ) where
     pub parts-split : (s : ℕ) → k ≤ s → parts part s ≡ parts part k ++ join (map part (from k (s - k)))

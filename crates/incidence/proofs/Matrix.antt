@@ -12,10 +12,10 @@ use Rattle.model.specs.declared.Term.{Term}
 use Rattle.model.specs.Base.{bit, below, filter, join}
 use Rattle.model.specs.Table.{Table, Cell, cell, cells, isOn, onCells, holds}
 use Rattle.model.specs.Sets.{rowOf}
-use Rattle.model.proofs.Lists.{below-e}
+use Rattle.model.proofs.Lists.{below-e, filter-append}
 use Rattle.bits.specs.Lists.{parts}
 use Rattle.incidence.specs.Rows.{OnBytes, hasVertex, CubesFor, Driving, Put, Appends, cellRow, vertexRows, AllRows}
-use Rattle.bits.proofs.Lists.{filter-append, parts-next}
+use Rattle.bits.proofs.Lists.{parts-next}
 use Rattle.incidence.proofs.Candidates.{cell-row}
 
 -- ---- one row more

@@ -14,10 +14,10 @@ use Rattle.model.specs.Base.{bit, from, below, every, filter, join}
 use Rattle.model.specs.Table.{Table, Cell, cell, cells, isOn, onCells, holds}
 use Rattle.model.specs.Candidates.{basis, covering}
 use Rattle.model.specs.Presence.{sumAt, productUpTo, presence}
-use Rattle.model.proofs.Lists.{T-false, every-append}
+use Rattle.model.proofs.Lists.{T-false, every-append, filter-append}
 use Rattle.model.proofs.Bits.{bit-le}
 use Rattle.bits.specs.Lists.{parts}
-use Rattle.bits.proofs.Lists.{below-split, filter-append, parts-next, parts-split}
+use Rattle.bits.proofs.Lists.{below-split, parts-next, parts-split}
 use Rattle.incidence.specs.Rows.{OnBytes}
 use Rattle.incidence.specs.Presence.{TellsPresence, cellsBefore, pointsBefore, StandsAt}
 

@@ -1,15 +1,15 @@
 -- Sets as numbers: members, a set without one of them, and sets together.
-use Prim.Native.Nat.{ℕ, zero, suc, _-_, _/_, _%_, _^_, _≤_, _<_, min, max}
+use Prim.Native.Nat.{ℕ, zero, suc, _+_, _-_, _*_, _/_, _%_, _^_, _≤_, _<_, min, max}
 use native.Mathlib.Omega.{arith}
 use native.Mathlib.Nat.{pow-suc}
 use mathlib.Core.Path.{_≡_, refl, sym, ap, subst}
 use mathlib.Core.Logic.{_≢_, _⊎_, inl, inr}
-use mathlib.Core.Bool.{not, cond, _&&_, _||_}
+use mathlib.Core.Bool.{Bool, true, false, not, cond, _&&_, _||_}
 use lib.Dec.{T, eqb, eqb→eq}
 use lib.Arith.{bin-ind}
 use lib.Bits.{bitAnd, bitOr, and-step, or-step}
 use lib.Pow.{pow-pos}
-use Rattle.model.specs.Base.{bit}
+use Rattle.model.specs.Base.{bit, fromBits}
 use Rattle.model.specs.Sets.{Within}
 use Rattle.model.proofs.Lists.{yes-or-no, T-true, T-false, or-cases, or-l, or-r}
 
@@ -73,10 +73,10 @@ lacks (suc k) a s l w d = go (yes-or-no (bit 0 s)) (yes-or-no (bit 0 a)) (lacks 
     go (inr t) (inl u) r = absurd (omega (arith, bit0-n s t, bit0-e s (w 0 u)))
 
 -- a set without its member i
-drop-half : (i s : ℕ) → T (bit i (s / 2)) → (s - 2 ^ suc i) / 2 ≡ s / 2 - 2 ^ i
+pub drop-half : (i s : ℕ) → T (bit i (s / 2)) → (s - 2 ^ suc i) / 2 ≡ s / 2 - 2 ^ i
 drop-half i s t = let h = bit-le i (s / 2) t in omega (arith, pow-suc 2 i)
 
-drop-low : (i s : ℕ) → T (bit i (s / 2)) → (s - 2 ^ suc i) % 2 ≡ s % 2
+pub drop-low : (i s : ℕ) → T (bit i (s / 2)) → (s - 2 ^ suc i) % 2 ≡ s % 2
 drop-low i s t = let h = bit-le i (s / 2) t in omega (arith, pow-suc 2 i)
 
 pub without-within : (i s : ℕ) → T (bit i s) → Within (s - 2 ^ i) s
@@ -156,3 +156,52 @@ with-within p i s w t j u = go (or-cases (bit j p) (bit j (2 ^ i)) (rw (bit-or j
     go : T (bit j p) ⊎ T (bit j (2 ^ i)) → T (bit j s)
     go (inl v) = w j v
     go (inr v) = subst (λ (m : ℕ). T (bit m s)) (sym (pow-only i j v)) t
+
+-- ---- a set by its members
+
+flag : (b : Bool) (x : ℕ) → (x * 2 + cond b 1 0) / 2 ≡ x
+flag true x = omega arith
+flag false x = omega arith
+
+flag-low : (b : Bool) (x : ℕ) → eqb ((x * 2 + cond b 1 0) % 2) 1 ≡ b
+flag-low true x = let e : (x * 2 + 1) % 2 ≡ 1 = omega arith in rw e
+flag-low false x = let e : (x * 2 + 0) % 2 ≡ 0 = omega arith in rw e
+
+pub fromBits-e : (f : ℕ → Bool) (j k : ℕ) → T (bit j (fromBits f k)) → (j < k) × T (f j)
+fromBits-e f j zero t = absurd (bit-none j t)
+fromBits-e f zero (suc k) t = (omega arith, rw (flag-low (f 0) (fromBits (λ j. f (suc j)) k)) at t)
+fromBits-e f (suc j) (suc k) t =
+    let r = fromBits-e (λ i. f (suc i)) j k (rw (flag (f 0) (fromBits (λ i. f (suc i)) k)) at t) in
+    (omega (arith, r .0), r .1)
+
+pub fromBits-i : (f : ℕ → Bool) (j k : ℕ) → j < k → T (f j) → T (bit j (fromBits f k))
+fromBits-i f j zero l t = absurd (omega arith)
+fromBits-i f zero (suc k) l t = rw (flag-low (f 0) (fromBits (λ i. f (suc i)) k)) t
+fromBits-i f (suc j) (suc k) l t = rw (flag (f 0) (fromBits (λ i. f (suc i)) k)) (fromBits-i (λ i. f (suc i)) j k (omega arith) t)
+
+pub fromBits-lt : (f : ℕ → Bool) (k : ℕ) → fromBits f k < 2 ^ k
+fromBits-lt f zero = omega arith
+fromBits-lt f (suc k) = go (f 0) (fromBits-lt (λ j. f (suc j)) k)
+  where
+    go : (b : Bool) → fromBits (λ j. f (suc j)) k < 2 ^ k → fromBits (λ j. f (suc j)) k * 2 + cond b 1 0 < 2 ^ suc k
+    go true h = omega (arith, pow-suc 2 k)
+    go false h = omega (arith, pow-suc 2 k)
+
+-- ---- a set without one of its members
+
+-- it does not have that one
+pub without-gone : (i s : ℕ) → T (bit i s) → T (bit i (s - 2 ^ i)) → ⊥
+without-gone zero s t u = omega (arith, bit0-e s t, bit0-e (s - 2 ^ 0) u)
+without-gone (suc i) s t u = without-gone i (s / 2) t (rw (drop-half i s t) at u)
+
+-- and has all others
+pub without-others : (i j s : ℕ) → T (bit i s) → T (bit j s) → j ≢ i → T (bit j (s - 2 ^ i))
+without-others i j s t u d = within-without i (2 ^ j) s t (lacking (yes-or-no (bit i (2 ^ j)))) (λ m v. subst (λ (x : ℕ). T (bit x s)) (sym (pow-only j m v)) u) j (pow-here j)
+  where
+    lacking : T (bit i (2 ^ j)) ⊎ T (not (bit i (2 ^ j))) → T (not (bit i (2 ^ j)))
+    lacking (inl v) = absurd (d (sym (pow-only j i v)))
+    lacking (inr v) = v
+
+-- a set that is not 0 has a member
+pub has-member : (n s : ℕ) → s < 2 ^ n → 0 < s → (i : ℕ) × T (bit i s)
+has-member n s l h = let q = lacks n 0 s l (λ i t. absurd (bit-none i t)) (λ e. omega (arith, e)) in (q .0, q .2)

@@ -1,26 +1,26 @@
 -- The outputs that a cube may drive: what makes a term legal, what makes it prime, and the two halves of a cube.
-use Prim.Native.Nat.{ℕ, zero, suc, _+_, _-_, _*_, _/_, _%_, _^_, _<_, max}
+use Prim.Native.Nat.{ℕ, zero, suc, _-_, _/_, _%_, _^_, _<_, max}
 use native.Mathlib.Omega.{arith}
 use native.Mathlib.Nat.{pow-suc}
 use native.Mathlib.Decide.{ℕ-discrete, decLt}
 use mathlib.Core.Path.{_≡_, refl, sym, ap, _∙_, subst, subst⁻¹}
 use mathlib.Core.Logic.{_≢_, _⊎_, inl, inr}
-use mathlib.Core.Bool.{Bool, true, false, not, cond, _&&_, _||_}
+use mathlib.Core.Bool.{Bool, true, false, not, _&&_, _||_}
 use mathlib.Core.List.{List, [], _∷_, map, List·Memᴰ, List·Memᴰ·head, List·Memᴰ·tail}
 use lib.Dec.{T, ltb, eqb, eqb-refl, T-not, not-T, lt→ltb}
 use lib.Bits.{bitAnd, bitOr, or-step}
 use lib.ListN.{getD}
 use lib.Pow.{pow-pos}
-use Rattle.model.specs.Base.{bit, below, every, fromBits, join}
+use Rattle.model.specs.Base.{bit, below, every, join}
 use Rattle.model.specs.Table.{Table, Term, Cell, isOn, isDc, isOff, holds, inCube, cells, cell, term, formed, holdsNoOff, legal}
 use Rattle.model.specs.Primes.{drives, contains, prime}
 use Rattle.model.specs.Sets.{Within}
 use Rattle.model.proofs.Lists.{bool-ext, yes-or-no, or-cases, and-l, and-r, and-i, every-e, every-i, every-append, below-e, below-i, T-true, T-false}
-use Rattle.model.proofs.Bits.{bit0-i, bit-le, bit-lt, within-le, lacks, without-within, within-without}
+use Rattle.model.proofs.Bits.{bit0-i, bit-le, bit-lt, fromBits-e, fromBits-i, fromBits-lt, within-le, lacks, without-within, within-without}
 use Rattle.model.proofs.Cubes.{bit-and, bits-ext, Agree, agree-e, agree-i, setBit, set-here, set-other, cell-i, Formed, legal-formed, holds-e}
 use Rattle.model.proofs.Cubes.{holds-i, contains-i, Wider, wider, same-e, wider-same, prime-e, prime-i}
 
--- ---- lists of cells, numbers of bits
+-- ---- lists of cells
 
 every-map : (f : Cell → Bool) (g : ℕ → Cell) (xs : List ℕ) → ((x : ℕ) → List·Memᴰ x xs → T (f (g x))) → T (every f (map g xs))
 every-map f g [] h = tt
@@ -39,34 +39,6 @@ every-grid f m (v ∷ vs) h =
 cells-every : (p : Table) (f : Cell → Bool) → ((v j : ℕ) → v < 2 ^ p .n → j < p .m → T (f (cell v j))) → T (every f (cells p))
 unfolding cells
 cells-every p f h = every-grid f (p .m) (below (2 ^ p .n)) (λ v j k l. h v j (below-e (2 ^ p .n) k) l)
-
-flag : (b : Bool) (x : ℕ) → (x * 2 + cond b 1 0) / 2 ≡ x
-flag true x = omega arith
-flag false x = omega arith
-
-flag-low : (b : Bool) (x : ℕ) → eqb ((x * 2 + cond b 1 0) % 2) 1 ≡ b
-flag-low true x = let e : (x * 2 + 1) % 2 ≡ 1 = omega arith in rw e
-flag-low false x = let e : (x * 2 + 0) % 2 ≡ 0 = omega arith in rw e
-
-fromBits-e : (f : ℕ → Bool) (j k : ℕ) → T (bit j (fromBits f k)) → (j < k) × T (f j)
-fromBits-e f j zero t = absurd (omega (arith, bit-le j 0 t, pow-pos j))
-fromBits-e f zero (suc k) t = (omega arith, rw (flag-low (f 0) (fromBits (λ j. f (suc j)) k)) at t)
-fromBits-e f (suc j) (suc k) t =
-    let r = fromBits-e (λ i. f (suc i)) j k (rw (flag (f 0) (fromBits (λ i. f (suc i)) k)) at t) in
-    (omega (arith, r .0), r .1)
-
-fromBits-i : (f : ℕ → Bool) (j k : ℕ) → j < k → T (f j) → T (bit j (fromBits f k))
-fromBits-i f j zero l t = absurd (omega arith)
-fromBits-i f zero (suc k) l t = rw (flag-low (f 0) (fromBits (λ i. f (suc i)) k)) t
-fromBits-i f (suc j) (suc k) l t = rw (flag (f 0) (fromBits (λ i. f (suc i)) k)) (fromBits-i (λ i. f (suc i)) j k (omega arith) t)
-
-fromBits-lt : (f : ℕ → Bool) (k : ℕ) → fromBits f k < 2 ^ k
-fromBits-lt f zero = omega arith
-fromBits-lt f (suc k) = go (f 0) (fromBits-lt (λ j. f (suc j)) k)
-  where
-    go : (b : Bool) → fromBits (λ j. f (suc j)) k < 2 ^ k → fromBits (λ j. f (suc j)) k * 2 + cond b 1 0 < 2 ^ suc k
-    go true h = omega (arith, pow-suc 2 k)
-    go false h = omega (arith, pow-suc 2 k)
 
 -- ---- the outputs that a cube may drive
 

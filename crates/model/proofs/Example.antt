@@ -22,6 +22,7 @@ use Rattle.model.specs.Job.{runBy, packed, written, bufferAfter}
 use Rattle.model.specs.Calls.{Call, Met, decoded, read}
 use Rattle.model.specs.Exchanges.{Exchange, readIn, allRead, pagesOf, EqualsPages}
 use Rattle.model.specs.Demand3.{StandsOn, coversOf, Demand, isAsked}
+use Rattle.model.specs.Reordered.{AllPages}
 use Rattle.model.specs.Cases.{example, sixTerms, exampleHead}
 use Rattle.model.proofs.Lists.{implies-e, and-l, and-r, sublist-filter}
 use Rattle.model.proofs.Demand3.{demand-3}
@@ -103,3 +104,17 @@ all-multiplied = all-right .products
 pub one-multiplied : T (some (λ e. is (e .context .kind) Kind.N && hasBytes (e .reply)) exchanges && some isLast pages)
 unfolding irredundants irredundant redundant covers cover coverable cost cheapest page more atOrAbove isOn onCells isDc isOff cells holds formed holdsNoOff legal literalsCharged termCost ones onesIn runBy kindOf refusalBy refusalsBy refusalsOf answer answerFor problemAfter decoded read readIn products tooMany productsUpTo kept joined holders containsNoOther
 one-multiplied = tt
+
+-- K9: they are all pages of this table and these terms
+pub all-pages : AllPages (basis example sixTerms) pages
+unfolding irredundants irredundant redundant covers cover coverable cost cheapest page more atOrAbove isOn onCells isDc isOff cells holds formed holdsNoOff legal literalsCharged termCost ones onesIn runBy kindOf refusalBy refusalsBy refusalsOf answer answerFor problemAfter decoded read readIn products tooMany productsUpTo kept joined holders containsNoOther
+all-pages = record {
+  calls = calls;
+  met = met;
+  exchanges = exchanges;
+  read = sublist-filter isAsked (allRead engine calls);
+  stand = stands;
+  pages = refl;
+  in-order = inOrder-e [] pages in-order;
+  no-more = tt;
+}

@@ -134,9 +134,13 @@ module _ (rules : Rules) (law : Lawful rules) where
   unfolding readIn answeredIn
   read-in c m = ap (λ (rs : List Answer). pair (filter (answers rules) (ranBy rules c .contexts)) rs) (caller rules law c m .answers)
 
+  -- each command that answers, with what it is answered
+  pub read-replied : (c : Call) → MetBy rules c → readIn rules c ≡ map (with-reply rules) (filter (answers rules) (ranBy rules c .contexts))
+  read-replied c m = read-in c m ∙ answered-in (c .job) (length (c .before))
+
   none-over : (c : Call) → MetBy rules c → NoneOver rules c
   none-over c m =
-      ap (λ (es : List Exchange). filter hasBytes (map (λ e. e .reply) es)) (read-in c m ∙ answered-in (c .job) (length (c .before)))
+      ap (λ (es : List Exchange). filter hasBytes (map (λ e. e .reply) es)) (read-replied c m)
       ∙ ap (filter hasBytes) (map-replies rules (filter (answers rules) (ranBy rules c .contexts)))
       ∙ used (c .job) (length (c .before))
       ∙ sym (caller rules law c m .answers)
@@ -150,7 +154,7 @@ module _ (rules : Rules) (law : Lawful rules) where
   pub reply-read : (c : Call) → MetBy rules c → (x : Context) → List·Memᴰ x (ranBy rules c .contexts) → T (answers rules x) → refusalBy rules x ≡ 0
       → List·Memᴰ (exchange x (rules .answer x)) (readIn rules c)
   reply-read c m x i t z =
-      rw (read-in c m ∙ answered-in (c .job) (length (c .before)), ← reply-answered rules x z)
+      rw (read-replied c m, ← reply-answered rules x z)
       (Memᴰ·map (with-reply rules) (filter-i (answers rules) i t))
 
   -- all of some calls are so

@@ -27,6 +27,8 @@ pub mod RowByRow
 pub mod Sound
 pub mod Valid
 pub mod Library
+pub mod RenumberedSets
+pub mod Renumbered
 pub mod Multiplied
 pub mod Caller
 pub mod Exchanges
@@ -51,9 +53,16 @@ pub mod ExpandedCall
 pub mod Unpriced
 pub mod Listing
 pub mod ListingCall
+pub mod Accepted
+pub mod Orders
+pub mod OrdersBack
+pub mod Outlines
+pub mod Reordered
+pub mod ReorderedCall
 pub mod Numbers
 pub mod Marked
 pub mod EightRows
 pub mod Example
 pub mod ManyProducts
 pub mod Changes
+pub mod Sorted

@@ -5,10 +5,12 @@ use native.Mathlib.Decide.{decLt}
 use mathlib.Core.Path.{_≡_, refl, ap, _∙_, subst, subst⁻¹}
 use mathlib.Core.Logic.{_⊎_, inl, inr}
 use mathlib.Core.Bool.{Bool, true, false, not, cond, _&&_, _||_}
-use mathlib.Core.List.{List, [], _∷_, _++_, map, List·Memᴰ, List·Memᴰ·head, List·Memᴰ·tail, Memᴰ·append-left, Memᴰ·append-right, List·Memᴰ·append-cases, Sublistᴰ, Sublistᴰ·slnil, Sublistᴰ·cons, Sublistᴰ·cons-cons}
+use mathlib.Core.Option.{Option, none, some as just}
+use mathlib.Core.List.{List, [], _∷_, _++_, map, List·Memᴰ, List·Memᴰ·head, List·Memᴰ·tail, Memᴰ·append-left, Memᴰ·append-right}
+use mathlib.Core.List.{List·Memᴰ·append-cases, Sublistᴰ, Sublistᴰ·slnil, Sublistᴰ·cons, Sublistᴰ·cons-cons}
 use lib.Dec.{T, eqb, eqb-refl}
-use lib.ListN.{getD, length, take, drop, replicate, length-replicate, getD-replicate, List·getD-eq-default}
-use Rattle.model.specs.Base.{from, below, every, some, filter, join, implies, without, All, Ordered}
+use lib.ListN.{getD, getElem?, length, take, drop, replicate, length-replicate, getD-replicate, List·getD-eq-default}
+use Rattle.model.specs.Base.{from, below, every, some, filter, join, implies, without, All, Ordered, Pointwise}
 
 pub yes-or-no : (b : Bool) → T b ⊎ T (not b)
 yes-or-no true = inl tt
@@ -201,6 +203,43 @@ pub every-map : {A B : Type 0} (f : B → Bool) (g : A → B) (xs : List A) → 
 every-map f g [] = refl
 every-map f g (x ∷ xs) = rw (every-map f g xs)
 
+pub pointwise-length : {A : Type 0} (R : A → A → Type 0) (xs ys : List A) → Pointwise R xs ys → length xs ≡ length ys
+pointwise-length R [] [] h = refl
+pointwise-length R [] (y ∷ ys) h = absurd h
+pointwise-length R (x ∷ xs) [] h = absurd h
+pointwise-length R (x ∷ xs) (y ∷ ys) h = ap suc (pointwise-length R xs ys (h .1))
+
+module _ {A : Type 0} (f : A → Bool) where
+  pub filter-append : (xs ys : List A) → filter f (xs ++ ys) ≡ filter f xs ++ filter f ys
+  filter-append [] ys = refl
+  filter-append (x ∷ xs) ys = go (f x) (filter-append xs ys)
+    where
+      go : (b : Bool) → filter f (xs ++ ys) ≡ filter f xs ++ filter f ys → cond b (x ∷ filter f (xs ++ ys)) (filter f (xs ++ ys)) ≡ cond b (x ∷ filter f xs) (filter f xs) ++ filter f ys
+      go true e = ap (λ (zs : List A). x ∷ zs) e
+      go false e = e
+
+module _ {A B : Type 0} (f : B → Bool) (g : A → B) where
+  pub filter-map : (xs : List A) → filter f (map g xs) ≡ map g (filter (λ x. f (g x)) xs)
+  filter-map [] = refl
+  filter-map (x ∷ xs) = go (f (g x)) (filter-map xs)
+    where
+      ys : List A
+      ys = filter (λ x. f (g x)) xs
+
+      go : (b : Bool) → filter f (map g xs) ≡ map g ys → cond b (g x ∷ filter f (map g xs)) (filter f (map g xs)) ≡ map g (cond b (x ∷ ys) ys)
+      go true e = ap (λ (zs : List B). g x ∷ zs) e
+      go false e = e
+
+-- f of an entry, d where there is none
+abbrev pub atEntry : {A B : Type 0} → (A → B) → B → Option A → B
+atEntry f d none = d
+atEntry f d (just x) = f x
+
+pub getD-atEntry : {A B : Type 0} (f : A → B) (d : B) (xs : List A) (i : ℕ) → getD (map f xs) i d ≡ atEntry f d (getElem? xs i)
+getD-atEntry f d [] i = refl
+getD-atEntry f d (x ∷ xs) zero = refl
+getD-atEntry f d (x ∷ xs) (suc i) = getD-atEntry f d xs i
+
 pub take-map : {A B : Type 0} (f : A → B) (i : ℕ) (xs : List A) → take i (map f xs) ≡ map f (take i xs)
 take-map f zero xs = refl
 take-map f (suc i) [] = refl
@@ -309,6 +348,10 @@ module _ {A : Type 0} (P : A → Type 0) where
 pub all-map : {A B : Type 0} (P : B → Type 0) (f : A → B) (xs : List A) → All (λ x. P (f x)) xs → All P (map f xs)
 all-map P f [] a = tt
 all-map P f (x ∷ xs) a = (a .0, all-map P f xs (a .1))
+
+pub map-all : {A B : Type 0} (P : B → Type 0) (f : A → B) (xs : List A) → All P (map f xs) → All (λ x. P (f x)) xs
+map-all P f [] a = tt
+map-all P f (x ∷ xs) a = (a .0, map-all P f xs (a .1))
 
 -- what a filter keeps
 pub sublist-filter : {A : Type 0} (f : A → Bool) (xs : List A) → Sublistᴰ (filter f xs) xs

@@ -105,6 +105,14 @@ module _ (all : List ℕ) (up : Rising 0 all) where
 
 -- ---- a lister that goes from set to set
 
+-- pages from 0 on, of lists of one length, are as long and say the same of more
+pub first-alike : (xs ys : List ℕ) (c : ℕ) → Rising 0 xs → Rising 0 ys → length xs ≡ length ys → (length (page xs 0 c) ≡ length (page ys 0 c)) × (more xs 0 c ≡ more ys 0 c)
+unfolding more atOrAbove
+first-alike xs ys c r s e = (
+  page-length xs r [] xs c refl ∙ ap (min c) e ∙ sym (page-length ys s [] ys c refl),
+  rw (keep 0 0 xs r (le-refl 0), keep 0 0 ys s (le-refl 0), e) refl,
+)
+
 pub rising-ge : (b : ℕ) (xs : List ℕ) {x : ℕ} → Rising b xs → List·Memᴰ x xs → b ≤ x
 rising-ge b (y ∷ ys) r (List·Memᴰ·head e) = omega (arith, r .0)
 rising-ge b (y ∷ ys) r (List·Memᴰ·tail m) = omega (arith, r .0, rising-ge (suc y) ys (r .1) m)

@@ -80,7 +80,7 @@ module _ {A : Type 0} (w : A → ℕ) where
         price = rw (low (r .pick), half (r .pick)) (pay (bit 0 s) (members us (r .pick)) (members us (s / 2)) (r .price));
       }
 
-  none-cost : (ts : List A) → sum w (members ts 0) ≡ 0
+  pub none-cost : (ts : List A) → sum w (members ts 0) ≡ 0
   none-cost [] = refl
   none-cost (t ∷ ts) = none-cost ts
 

@@ -105,11 +105,11 @@ least-le : (f : ℕ → ℕ) (b : ℕ) (ss : List ℕ) {x : ℕ} → List·Mem�
 least-le f b (s ∷ ss) {x} (List·Memᴰ·head e) = omega (arith, least-le-first f (cond (ltb (f s) (f b)) s b) ss, pick-le f s b .1, ap f e)
 least-le f b (s ∷ ss) (List·Memᴰ·tail h) = least-le f (cond (ltb (f s) (f b)) s b) ss h
 
-leastOf-le : (f : ℕ → ℕ) (ss : List ℕ) {x : ℕ} → List·Memᴰ x ss → f (leastOf f ss) ≤ f x
+pub leastOf-le : (f : ℕ → ℕ) (ss : List ℕ) {x : ℕ} → List·Memᴰ x ss → f (leastOf f ss) ≤ f x
 leastOf-le f (s ∷ ss) (List·Memᴰ·head e) = omega (arith, least-le-first f s ss, ap f e)
 leastOf-le f (s ∷ ss) (List·Memᴰ·tail h) = least-le f s ss h
 
-leastOf-in : (f : ℕ → ℕ) (ss : List ℕ) {x : ℕ} → List·Memᴰ x ss → List·Memᴰ (leastOf f ss) ss
+pub leastOf-in : (f : ℕ → ℕ) (ss : List ℕ) {x : ℕ} → List·Memᴰ x ss → List·Memᴰ (leastOf f ss) ss
 leastOf-in f (s ∷ ss) m = least-in f s ss
 
 -- ---- irredundant: the test and the proposition

@@ -98,7 +98,7 @@ raised x Kind.N a = omega (arith, place-last Kind.N (x .problem .place) a)
 raised x Kind.E a = omega arith
 raised x Kind.none a = omega arith
 
-query-raises : (k : Kind) → T (isQueryKind k) → raises k ≡ queried
+pub query-raises : (k : Kind) → T (isQueryKind k) → raises k ≡ queried
 query-raises = any-query (λ k. raises k ≡ queried) (refl, (refl, (refl, tt)))
 
 abbrev At : Problem → List Context → Context → Type 0

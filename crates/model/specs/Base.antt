@@ -74,5 +74,12 @@ module _ {A : Type 0} where
   Ordered R [] = Unit {0}
   Ordered R (x ∷ xs) = All (R x) xs × Ordered R xs
 
+  -- the first of one list stands so to the first of the other, and so on; as many in both (law `pointwise-length`)
+  abbrev pub Pointwise : (A → A → Type 0) → List A → List A → Type 0
+  Pointwise R [] [] = Unit {0}
+  Pointwise R [] (y ∷ ys) = ⊥
+  Pointwise R (x ∷ xs) [] = ⊥
+  Pointwise R (x ∷ xs) (y ∷ ys) = R x y × Pointwise R xs ys
+
 abbrev pub Bytes : List ℕ → Type 0
 Bytes bs = All (λ b. b < 256) bs

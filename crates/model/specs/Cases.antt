@@ -1,7 +1,7 @@
 -- Paper 01, "The two-output example of document 003": the marked cases as one table, the presence function on some of them, and the job
 -- with all its bytes; tables of jobs and library calls that pin the order of refusals, of jobs in which candidates come and go, of jobs with
--- eight rows in a command, of the weights in the records that jobs leave, of prices, and of products (theorems: proofs/Marked,
--- proofs/EightRows, proofs/Pricing).
+-- eight rows in a command, of the weights in the records that jobs leave, of prices, of products, and of T commands in another order
+-- (theorems: proofs/Marked, proofs/EightRows, proofs/Pricing, proofs/Sorted).
 use Prim.Native.Nat.{ℕ, zero, suc, _+_, _<_}
 use mathlib.Core.Bool.{Bool, true, false, cond}
 use mathlib.Core.List.{List, [], _∷_, _++_, map}
@@ -672,6 +672,36 @@ manyProductsTerms = join (map (λ v. term 15 v 1 ∷ term 15 v 1 ∷ []) (below 
 abbrev pub manyProductsJob : List ℕ
 manyProductsJob =
     0x49 ∷ 4 ∷ 1 ∷ (join (map (λ v. row v 1 0 []) (below 11)) ++ (join (map (λ s. t (s .care) (s .value) (s .outputs) []) manyProductsTerms) ++ (0x4e ∷ 0x45 ∷ [])))
+
+-- ---- K9: two jobs that differ in the order of their T commands, with the bytes that they write; worked out by hand
+
+-- vertex 3 wanted, 1 and 2 free; then candidates, all sets, the cheapest and the products
+abbrev lastWanted : List ℕ → List ℕ
+lastWanted bs = 0x49 ∷ 2 ∷ 1 ∷ row 1 0 1 (row 2 0 1 (row 3 1 0 bs))
+
+abbrev askAll : List ℕ
+askAll = ask (0x4e ∷ 0x45 ∷ [])
+
+-- x0 x1, x0 by A, and x1 twice: each holds the cell alone; the first costs 3, the others 1
+abbrev pub asWritten : AnsweredJob
+asWritten = writes (lastWanted (t 3 3 1 (a 1 1 1 (t 2 2 1 (t 2 2 1 askAll)))))
+    (join (pageBytes (1 ∷ 2 ∷ 4 ∷ 8 ∷ []) ∷ leastBytes 1 2 ∷ productBytes (1 ∷ 2 ∷ 4 ∷ 8 ∷ []) ∷ (0x65 ∷ []) ∷ []))
+
+-- the T commands with the fewest literals first; A stays. "The cheapest set may differ among equals, because numbers decide those"
+abbrev pub sorted : AnsweredJob
+sorted = writes (lastWanted (t 2 2 1 (a 1 1 1 (t 2 2 1 (t 3 3 1 askAll)))))
+    (join (pageBytes (1 ∷ 2 ∷ 4 ∷ 8 ∷ []) ∷ leastBytes 1 1 ∷ productBytes (1 ∷ 2 ∷ 4 ∷ 8 ∷ []) ∷ (0x65 ∷ []) ∷ []))
+
+-- the new position of each candidate, where the two equal ones keep their order, and where they do not; then the sets renumbered
+abbrev pub newPositions : List (List ℕ)
+newPositions = (3 ∷ 1 ∷ 0 ∷ 2 ∷ []) ∷ (3 ∷ 1 ∷ 2 ∷ 0 ∷ []) ∷ []
+
+abbrev pub setsRenumbered : List (List ℕ)
+setsRenumbered = (8 ∷ 2 ∷ 1 ∷ 4 ∷ []) ∷ (8 ∷ 2 ∷ 4 ∷ 1 ∷ []) ∷ []
+
+-- what the sets cost as they were written
+abbrev pub costsAsWritten : List ℕ
+costsAsWritten = 3 ∷ 1 ∷ 1 ∷ 1 ∷ []
 
 -- ---- library calls that are refused, each with its number. Where two refusals apply, the first in the paper's order is given
 

@@ -21,6 +21,8 @@ pub mod Records
 pub mod Pieces
 pub mod Expanded
 pub mod Pricing
+pub mod Renumbered
+pub mod Reordered
 pub mod Numbers
 pub mod Library
 pub mod Cases
