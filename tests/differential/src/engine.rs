@@ -1,7 +1,7 @@
 //! The engine behind its C interface, called over buffers with guards on both sides.
 
 use crate::generate::Case;
-use crate::reference::LONGEST;
+use crate::reference::{Outcome, LONGEST};
 
 extern "C" {
     fn cover_job(job: *const u8, job_len: usize, answers: *mut u8, answers_len: usize) -> u64;
@@ -23,6 +23,18 @@ pub struct Seen {
     pub buffer: Vec<u8>,
     pub guards_kept: bool,
     pub job_kept: bool,
+}
+
+impl Seen {
+    /// The three numbers and the buffer.
+    pub fn outcome(&self) -> Outcome {
+        Outcome {
+            number: self.packed >> 32,
+            offset: (self.packed >> 16 & 0xffff) as usize,
+            written: (self.packed & 0xffff) as usize,
+            buffer: self.buffer.clone(),
+        }
+    }
 }
 
 /// Calls the engine. The case's bytes behind the job lie in memory behind it, so that an engine

@@ -12,13 +12,16 @@
 //!    job has it;
 //! 4. `generate/purpose.rs` (`purpose_changes.rs` for A and D, `purpose_blocks.rs` for B,
 //!    `purpose_prices.rs` for W, `purpose_cubes.rs` for P and `purpose_products.rs` for N): its
-//!    borders, in every run; `selftest.rs`: the paper's cases;
+//!    borders, in every run; `purpose_order.rs`: jobs whose T commands change places; `selftest.rs`:
+//!    the paper's cases;
 //! 5. `fresh.rs`: whether a fresh job with the same table has it, and which pages go on behind it;
 //! 6. `expanded.rs`: what it is written out as, where it stands for other commands as B does;
 //! 7. `walk.rs`: what it makes of prices, table and candidates, and how long its answer is;
 //! 8. `reference/record.rs`: what a dump of the record shows of it, as its place;
 //! 9. `charged.rs` and `listing.rs`: what it makes of costs, and that the pages leave that aside;
-//! 10. `implicants.rs` and `products.rs`: what its answer is by document 000, and by other commands.
+//! 10. `implicants.rs` and `products.rs`: what its answer is by document 000, and by other commands;
+//! 11. `reordered.rs`: whether it keeps its place where T commands change theirs, what comes of its
+//!     answer there, and which refusal a mere reordering may bring.
 //!
 //! A stored job that has it needs `stored.rs` too. Every command at every place, damage, cuts and
 //! moved or doubled commands go by the table, and a run fails where a command was never accepted

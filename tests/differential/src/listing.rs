@@ -74,11 +74,7 @@ fn accepted(job: &[u8], outcome: &Outcome) -> bool {
 /// each is shorter. A second W, at which the job stops, would be the first then.
 fn other_jobs(job: &[u8], outcome: &Outcome) -> Vec<(Vec<u8>, usize)> {
     let own = [job[PLACE + 1], job[PLACE + 2], job[PLACE + 3]];
-    let mut rng = Rng::new(
-        job.iter()
-            .fold(7, |x, &byte| x * 31 % 65_521 + u64::from(byte)),
-    );
-    let other = prices(other_prices(&mut rng, own));
+    let other = prices(other_prices(&mut Rng::of(job), own));
     let (head, rest) = (&job[..PLACE], &job[BEHIND..]);
     let mut list = vec![([head, &other, rest].concat(), 0)];
     if job.get(outcome.offset) != Some(&b'W') {

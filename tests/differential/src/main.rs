@@ -16,6 +16,7 @@ mod implicants;
 mod listing;
 mod products;
 mod reference;
+mod reordered;
 mod report;
 mod rng;
 mod selftest;
@@ -24,7 +25,7 @@ mod tally;
 mod threads;
 mod walk;
 
-use generate::Case;
+use generate::{Case, Ordered};
 use reference::Outcome;
 use report::{hex, matches, report, report_blocks, report_wrong};
 use rng::Rng;
@@ -66,6 +67,7 @@ fn main() -> ExitCode {
     println!("seed {seed}, {count} jobs");
     let failed = self_tests(&mut rng, &mut run)
         || jobs(&mut rng, &mut run, count)
+        || orders(&mut rng, &mut run)
         || records(&mut rng, &mut run)
         || stored_jobs(&mut run);
     let failures = if failed { 1 } else { after_jobs(&run) };
@@ -115,6 +117,33 @@ fn jobs(rng: &mut Rng, run: &mut Run, count: usize) -> bool {
         run.skipped
     );
     !same
+}
+
+/// The jobs made on purpose for another order of their T commands; true when one is wrong.
+fn orders(rng: &mut Rng, run: &mut Run) -> bool {
+    let start = Instant::now();
+    let mut compared = 0;
+    for Ordered { case, orders } in generate::orders_on_purpose(rng) {
+        for order in orders {
+            if run.trace {
+                println!("{} room {} order {order:?}", hex(&case.job), case.room);
+            }
+            match reordered::check_order(&case, &order) {
+                Ok(held) => run.tally.add_order_on_purpose(&held),
+                Err(wrong) => {
+                    println!("MISMATCH: {wrong}\n  job       {}", hex(&case.job));
+                    return true;
+                }
+            }
+            compared += 1;
+        }
+    }
+    println!(
+        "{compared} jobs in another order in {:.1} s",
+        start.elapsed().as_secs_f64()
+    );
+    run.passed += compared;
+    false
 }
 
 /// The records that jobs leave, as the program dumps them; true when one is wrong.
@@ -208,7 +237,7 @@ fn one(run: &mut Run, case: &Case, turn: usize) -> bool {
     true
 }
 
-/// What K3, document 000, K6, K7 and K8 say of an outcome on which engine and reference agree.
+/// What K3, document 000, K6 to K9 say of an outcome on which engine and reference agree.
 fn as_promised(run: &mut Run, case: &Case, before: &[u8], expected: &Outcome) -> bool {
     as_by_rows(run, case, before, expected)
         && as_by_points(run, case, before, expected)
@@ -216,6 +245,7 @@ fn as_promised(run: &mut Run, case: &Case, before: &[u8], expected: &Outcome) ->
         && as_at_other_prices(run, case, before, expected)
         && as_by_cubes(run, case, before, expected)
         && as_by_pages(run, case, before, expected)
+        && as_in_another_order(run, case, before, expected)
 }
 
 /// False when the engine does not keep what K3 promises of a job with B.
@@ -303,6 +333,24 @@ fn as_by_pages(run: &mut Run, case: &Case, before: &[u8], expected: &Outcome) ->
             println!("MISMATCH: {wrong}");
             report_wrong(case, before, |case, outcome| {
                 products::check(case, outcome).is_err()
+            });
+            return false;
+        }
+    }
+    true
+}
+
+/// False when an accepted job does not come out as K9 says with its T commands in another order.
+fn as_in_another_order(run: &mut Run, case: &Case, before: &[u8], expected: &Outcome) -> bool {
+    if expected.number != 0 {
+        return true;
+    }
+    match reordered::check(case) {
+        Ok(held) => held.iter().for_each(|held| run.tally.add_order(held)),
+        Err(wrong) => {
+            println!("MISMATCH: {wrong}");
+            report_wrong(case, before, |case, outcome| {
+                outcome.number == 0 && reordered::check(case).is_err()
             });
             return false;
         }

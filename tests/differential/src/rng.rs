@@ -14,6 +14,12 @@ impl Rng {
         rng
     }
 
+    /// The same for every run over these bytes.
+    pub fn of(bytes: &[u8]) -> Rng {
+        let mix = |x: u64, byte: &u8| x * 31 % 65_521 + u64::from(*byte);
+        Rng::new(bytes.iter().fold(7, mix))
+    }
+
     pub fn next(&mut self) -> u64 {
         let mut x = self.0;
         x ^= x >> 12;

@@ -4,6 +4,7 @@ mod blocks;
 mod changes;
 mod cubes;
 mod drawn;
+mod order;
 mod presence;
 mod prices;
 mod products;
@@ -178,6 +179,7 @@ pub fn run(rng: &mut Rng) -> Checks {
     prices::run(&mut checks, rng);
     cubes::run(&mut checks, rng);
     products::run(&mut checks, rng);
+    order::run(&mut checks, rng);
     drawn::run(&mut checks, rng);
     checks
 }

@@ -1,5 +1,5 @@
 //! What a run has met: how often each number came, what became of each command, what was held to
-//! the promises of K2, K3, K6, K7, K8 and to document 000, what the records showed, and, at each C
+//! the promises of K2, K3, K6 to K9 and to document 000, what the records showed, and, at each C
 //! of the drawn jobs, how often K1 and the prices changed cost or set of the cheapest and how often
 //! the cost was held to the rival's. A run fails where one of these never came. The jobs made on
 //! purpose do not count for L and C, nor for the rows of B and for W: the marked cases and each row
@@ -7,6 +7,7 @@
 
 mod blocks;
 mod cubes;
+mod order;
 mod presence;
 mod prices;
 mod products;
@@ -22,9 +23,11 @@ use crate::implicants;
 use crate::listing;
 use crate::products::Held as HeldProducts;
 use crate::reference::{self, Asked, Covers, Outcome, Prices, Query, Term};
+use crate::reordered;
 use crate::report::hex;
 use blocks::Blocks;
 use cubes::Primes;
+use order::Orders;
 use presence::Presences;
 use prices::Priced;
 use products::Multiplied;
@@ -45,6 +48,7 @@ pub struct Tally {
     cheapest: Cheapest,
     priced: Priced,
     multiplied: Multiplied,
+    orders: Orders,
 }
 
 /// The accepted drawn jobs whose candidates come and go.
@@ -85,6 +89,7 @@ impl Tally {
             cheapest: Cheapest::default(),
             priced: Priced::default(),
             multiplied: Multiplied::default(),
+            orders: Orders::default(),
         }
     }
 
@@ -179,6 +184,18 @@ impl Tally {
         self.multiplied.add(job, held, self.drawn);
     }
 
+    /// A job that was held to one with its T commands in another order.
+    pub fn add_order(&mut self, held: &reordered::Held) {
+        if self.drawn {
+            self.orders.drawn.add(held);
+        }
+    }
+
+    /// The same of one made on purpose for that.
+    pub fn add_order_on_purpose(&mut self, held: &reordered::Held) {
+        self.orders.on_purpose.add(held);
+    }
+
     /// A job whose record was compared.
     pub fn add_record(&mut self, job: &[u8], held: &dump::Held, drawn: bool) {
         self.records.add(held);
@@ -204,6 +221,7 @@ impl Tally {
         self.cheapest.print();
         self.priced.print();
         self.multiplied.print();
+        self.orders.print();
     }
 
     /// What should have come and did not, and what came that the table of commands does not name.
@@ -234,6 +252,7 @@ impl Tally {
         list.extend(self.cheapest.complaints());
         list.extend(self.priced.complaints());
         list.extend(self.multiplied.complaints());
+        list.extend(self.orders.complaints());
         list
     }
 }

@@ -6,12 +6,14 @@ mod bytes;
 mod changes;
 mod damage;
 mod draft;
+mod order;
 mod prices;
 mod products;
 mod purpose;
 mod purpose_blocks;
 mod purpose_changes;
 mod purpose_cubes;
+mod purpose_order;
 mod purpose_prices;
 mod purpose_products;
 mod queries;
@@ -21,10 +23,12 @@ mod sweeps;
 mod tables;
 
 pub use draft::{block, come, draft, go, page, prices, row, term, Draft, Pairs};
+pub use order::{drawn_order, every, exchanged, reversed, rotated, sorted, terms_of, Order};
 pub use prices::{drawn_prices, other_prices};
 pub use products::{drawn_plan, Plan};
 pub use purpose::on_purpose;
 pub use purpose_cubes::{cubes_on_purpose, two_corners};
+pub use purpose_order::{orders_on_purpose, Ordered};
 pub use purpose_prices::prices_on_purpose;
 pub use purpose_products::{by_orders, counted, products_on_purpose};
 pub use records::{records_drawn, records_on_purpose};
@@ -43,12 +47,13 @@ pub struct Case {
 
 /// The next cases of a run, drawn.
 pub fn next(rng: &mut Rng) -> Vec<Case> {
-    match rng.below(400) {
+    match rng.below(412) {
         0..=219 => vec![sound::case(rng)],
         220..=339 => vec![damage::damaged(rng)],
         340..=387 => vec![damage::wild(rng)],
         388..=395 => vec![damage::noise(rng)],
         396 | 397 => vec![products::case(rng)],
+        400..=411 => vec![purpose_order::case(rng)],
         398 => {
             let job = sound::short(rng).job();
             let room = need(&job).unwrap_or(0) + rng.below(3);

@@ -110,6 +110,15 @@ pub fn random_term(rng: &mut Rng, n: usize, m: usize) -> Term {
 pub fn table_of_terms(rng: &mut Rng, n: usize, m: usize) -> (Table, Vec<Term>) {
     let count = rng.between(1, MOST_TERMS - 2);
     let mut list: Vec<Term> = (0..count).map(|_| random_term(rng, n, m)).collect();
+    let table = table_around(rng, n, m, &list);
+    for _ in 0..rng.below(3) {
+        list.push(rng.pick(&list));
+    }
+    (table, list)
+}
+
+/// A table on which these terms are legal, and hold each wanted cell.
+pub fn table_around(rng: &mut Rng, n: usize, m: usize, list: &[Term]) -> Table {
     let mut table = Table::new(n, m);
     let wanted = rng.between(1, 8);
     for (v, j) in table.cells() {
@@ -120,10 +129,7 @@ pub fn table_of_terms(rng: &mut Rng, n: usize, m: usize) -> (Table, Vec<Term>) {
             table.dc[v] |= 1 << j;
         }
     }
-    for _ in 0..rng.below(3) {
-        list.push(rng.pick(&list));
-    }
-    (table, list)
+    table
 }
 
 /// What a B for this first vertex has of the table.
