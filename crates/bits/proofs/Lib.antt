@@ -3,6 +3,7 @@ pub mod Digits
 pub mod Decide
 pub mod Members
 pub mod Parts
+pub mod Removed
 pub mod Tops
 pub mod Steps
 pub mod Lists

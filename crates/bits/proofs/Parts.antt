@@ -79,6 +79,11 @@ unfolding Minus
 minus-bits a b c =
     digit-xor c a (bitAnd a b) ∙ ap (differ (digit c a)) (digit-and c a b) ∙ differ-min (digit c a) (digit c b) (digit-lt c a) (digit-lt c b)
 
+-- it is one set alone
+pub minus-is : (a b r : ℕ) → Minus a b r → r ≡ bitXor a (bitAnd a b)
+unfolding Minus
+minus-is a b r m = digit-ext r (bitXor a (bitAnd a b)) (λ c. m c ∙ sym (minus-bits a b c))
+
 pub minus-part : (a b r : ℕ) → Minus a b r → Part r a
 unfolding Minus
 minus-part a b r m = by-members r a (λ c h. omega (arith, m c, digit-lt c a))

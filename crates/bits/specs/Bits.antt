@@ -1,7 +1,7 @@
 -- What the contracts on bits cite: a number's bits as numbers, and sets as numbers whose bits are the members.
 use mathlib.Core.Path.{_≡_}
 use mathlib.Core.Bool.{Bool, true, false, cond}
-use Prim.Native.Nat.{ℕ, _-_, _/_, _%_, _^_, _≤_, _<_}
+use Prim.Native.Nat.{ℕ, suc, _+_, _-_, _*_, _/_, _%_, _^_, _≤_, _<_}
 use lib.Bits.{bitAnd}
 use lib.Count.{ones}
 use lib.Dec.{ltb}
@@ -50,3 +50,7 @@ pub record Index (m i : ℕ) : Type 0 where
 -- the one of x and y that has fewer members, x where they have as many
 unfoldable pub fewer : ℕ → ℕ → ℕ
 fewer x y = cond (ltb (ones y) (ones x)) y x
+
+-- s without member k, those above it moved down by one
+unfoldable pub removed : ℕ → ℕ → ℕ
+removed k s = s % 2 ^ k + s / 2 ^ suc k * 2 ^ k

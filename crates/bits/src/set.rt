@@ -2,7 +2,7 @@
 ghost use mathlib.Core.Path.{_≡_};
 ghost use Prim.Native.Nat.{_-_, _^_, _≤_, _<_};
 ghost use Rattle.model.specs.Base.{bit};
-ghost use Rattle.bits.specs.Bits.{Decides, Single, Minus, Highest, Lowest, Index, fewer};
+ghost use Rattle.bits.specs.Bits.{Decides, Single, Minus, Highest, Lowest, Index, fewer, removed};
 
 // The set of the one member i: 2^i.
 pub fn power(i: u64) -> u64
@@ -80,4 +80,13 @@ pub fn fewer(x: u64, y: u64) -> u64
         return y;
     }
     x
+}
+
+// The set s without member k, those above it moved down by one.
+pub fn removed(s: u64, k: u64) -> u64
+    requires { ⌜ k < 64 ⌝ }
+    ensures { λ r. ⌜ r ≡ removed k s ⌝ }
+{
+    let low = power(k) - 1;
+    (s & low) | minus(s >> 1, low)
 }

@@ -8,7 +8,7 @@ use Rattle.model.specs.Commands as model
 use Rattle.model.specs.Refusals.{refuse, firstOf}
 use Rattle.codec.specs.declared.kinds.Form.{Form}
 use Rattle.codec.specs.declared.kinds.Kind.{Kind}
-use Rattle.codec.specs.declared.kinds.Kind.the-variants.{I, W, R, B, T, P, A, D, L, C, N, E, None}
+use Rattle.codec.specs.declared.kinds.Kind.the-variants.{I, W, R, B, T, F, P, A, D, L, C, N, E, None}
 
 abbrev pub kindIs : Kind → model.Kind
 kindIs I = model.Kind.I
@@ -16,6 +16,7 @@ kindIs W = model.Kind.W
 kindIs R = model.Kind.R
 kindIs B = model.Kind.B
 kindIs T = model.Kind.T
+kindIs F = model.Kind.F
 kindIs P = model.Kind.P
 kindIs A = model.Kind.A
 kindIs D = model.Kind.D

@@ -12,6 +12,7 @@ pub enum Kind {
     R,
     B,
     T,
+    F,
     P,
     A,
     D,
@@ -32,6 +33,7 @@ pub fn kind_of(b: u8) -> Kind
         0x52 => Kind::R,
         0x42 => Kind::B,
         0x54 => Kind::T,
+        0x46 => Kind::F,
         0x50 => Kind::P,
         0x41 => Kind::A,
         0x44 => Kind::D,
@@ -62,7 +64,7 @@ fn described(code: u8, width: usize, last: u8, query: bool) -> Form
     }
 }
 
-// The one place that describes each command. Places: 0 nothing, 1 I, 2 W, 3 rows, 4 terms, 5 a P, L, C or N came.
+// The one place that describes each command. Places, by what came: 0 nothing, 1 I, 2 W, 3 a row by R or B, 4 a candidate by T, F or A, 5 a P, L, C or N.
 pub fn form_of(k: Kind) -> Form
     ensures { λ r. ⌜ Describes (kindIs k) r ⌝ }
 {
@@ -72,6 +74,7 @@ pub fn form_of(k: Kind) -> Form
         Kind::R => described(0x52, 3, 3, false),
         Kind::B => described(0x42, 17, 3, false),
         Kind::T => described(0x54, 3, 4, false),
+        Kind::F => described(0x46, 35, 4, false),
         Kind::P => described(0x50, 0, 3, false),
         Kind::A => described(0x41, 3, 5, false),
         Kind::D => described(0x44, 1, 5, false),

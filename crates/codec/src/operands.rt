@@ -1,10 +1,12 @@
 // Operands of more than one byte.
 ghost use mathlib.Core.Path.{_≡_};
+ghost use mathlib.Core.List.{[], _∷_};
 ghost use Prim.Native.Nat.{_+_, _≤_};
 ghost use lib.ListN.{getD, length, take, drop};
 ghost use Rattle.model.specs.Table.{term};
 ghost use Rattle.model.specs.Candidates.{prices};
-ghost use Rattle.model.specs.Commands.{number};
+ghost use Rattle.model.specs.Commands.{number, blockOfF};
+use model::Block;
 use model::Prices;
 use model::Term;
 
@@ -50,5 +52,50 @@ pub fn term_at(job: &[u8], at: usize) -> Term
         care: job[at],
         value: job[at + 1],
         outputs: job[at + 2],
+    }
+}
+
+// A byte as a 16-bit number.
+fn short(x: u8) -> u16
+    ensures { λ r. ⌜ (r ≡ x) × (r ≤ 255) ⌝ }
+{
+    x as u16
+}
+
+// The 2 bytes at `at` as a number, low byte first.
+fn short_at(job: &[u8], at: usize) -> u16
+    requires { ⌜ at + 2 ≤ length (now job) ⌝ }
+    ensures { λ r. ⌜ r ≡ number (getD (now (job .entry)) at 0 ∷ getD (now (job .entry)) (at + 1) 0 ∷ []) ⌝ }
+{
+    let low = short(job[at]);
+    let high = short(job[at + 1]);
+    low + 256 * high
+}
+
+// The 32 bytes at `at`.
+fn bytes_at(job: &[u8], at: usize) -> [u8; 32]
+    requires { ⌜ at + 32 ≤ length (now job) ⌝ }
+    ensures { λ r. ⌜ r ≡ take 32 (drop at (now (job .entry))) ⌝ }
+{
+    let mut all = [0u8; 32];
+    let mut i: usize = 0;
+    while i < 32 {
+        all[i] = job[at + i];
+        i += 1;
+    }
+    all
+}
+
+// The 35 bytes at `at` as a block: its outputs, its vertices and its weight.
+pub fn block_at(job: &[u8], at: usize) -> Block
+    requires { ⌜ at + 35 ≤ length (now job) ⌝ }
+    ensures { λ r. ⌜ r ≡ blockOfF (drop at (now (job .entry))) ⌝ }
+{
+    let vertices = bytes_at(job, at + 1);
+    let weight = short_at(job, at + 33);
+    Block {
+        outputs: job[at],
+        vertices: vertices,
+        weight: weight,
     }
 }

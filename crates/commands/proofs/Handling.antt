@@ -9,29 +9,35 @@ use borrow.Author.Tests.{lt-ltb, le-ltb, le-leb, lt-leb}
 use lib.Dec.{ltb, leb}
 use lib.ListN.{length, drop, take, length-take}
 use Rattle.model.specs.declared.Term.{Term}
+use Rattle.model.specs.declared.Block.{Block}
 use Rattle.model.specs.declared.Prices.{Prices}
+use Rattle.model.specs.Base.{without, All}
+use Rattle.model.specs.Candidates.{Candidate}
 use Rattle.model.specs.Primes.{primes}
 use Rattle.model.specs.Commands as model
-use Rattle.model.specs.Commands.{Context, tableOf, operand, Row, rowOfR, operandTerm, operandNumber, operandPrices, problemAfter}
+use Rattle.model.specs.Commands.{Context, tableOf, operand, Row, rowOfR, operandTerm, operandBlock, operandNumber, operandPrices, addBlock, problemAfter}
 use Rattle.model.specs.Answers.{Answer, bytesOf, answerFor}
-use Rattle.model.specs.Refusals.{refuse, firstOf, refusalsOf, size, dear}
-use Rattle.model.proofs.Runs.{first-none, first-before, first-behind}
+use Rattle.model.specs.Refusals as model·refusals
+use Rattle.model.specs.Refusals.{Refusal, refuse, firstOf, refusalsOf, size, dear}
+use Rattle.model.proofs.Runs.{Numbered, first-none, first-before, first-behind}
 use Rattle.model.proofs.Sound.{refusalsOf-no}
 use Rattle.primes.specs.declared.prime_list.PrimeList.{PrimeList}
 use Rattle.bits.specs.Lists.{Filled}
 use Rattle.table.specs.Cubes.{MayOf}
+use Rattle.incidence.specs.Stored.{BlocksAt, Adds, TakesOut}
 use Rattle.primes.specs.Primes.{FirstTerms, AllPrimes}
 use Rattle.primes.proofs.Uses.{whole-list}
 use Rattle.answers.specs.declared.writers.Reply.{Reply}
 use Rattle.answers.specs.declared.writers.Reply.the-variants.{Written, TooLong}
 use Rattle.answers.specs.Writers.{Replied}
 use Rattle.problem.specs.declared.Problem.{Problem}
-use Rattle.problem.specs.Problems.{startedWith, atPlace, withPrices, withCandidates, termPut, termTaken, WithPrimes, Sized, Holds, Reached}
-use Rattle.problem.specs.Refusing.{rowRefusals, termRefusals, TermRefusal}
-use Rattle.problem.proofs.Refusing.{row-refusal, held-bytes, term-here}
-use Rattle.problem.proofs.Keeping.{after-I, after-W, withRow, after-row, row-within, after-term, after-P, after-D}
+use Rattle.problem.specs.Problems.{startedWith, atPlace, withPrices, withCandidates, termPut, blockPut, candidateTaken, WithPrimes, Sized, Holds, Reached}
+use Rattle.problem.specs.Refusing.{rowRefusals, termRefusals, TermRefusal, blockRefusals, BlockRefusal}
+use Rattle.problem.proofs.Refusing.{row-refusal, held-bytes, term-here, block-here}
+use Rattle.problem.proofs.Keeping.{after-I, after-W, withRow, after-row, row-within, held-count, after-term, after-block, after-P, after-D}
 use Rattle.commands.specs.declared.Effect.{Effect}
-use Rattle.commands.specs.Effects.{refusedAs, answerBytes, lateRefusal, Handled, Found, HandlesI, HandlesW, HandlesR, RefusesTerm, HandlesTerm, HandlesP, HandlesD, HandlesE}
+use Rattle.commands.specs.Effects.{refusedAs, answerBytes, lateRefusal, Handled, Found, HandlesI, HandlesW, HandlesR, RefusesTerm}
+use Rattle.commands.specs.Effects.{RefusesBlock, HandlesTerm, HandlesF, HandlesP, HandlesD, HandlesE}
 
 -- ---- 14 stands behind the command's own refusals
 
@@ -135,15 +141,35 @@ module _ (p : Problem) (sizes : Sized p) (v on dc r : ℕ) (o : r ≡ firstOf (r
       let own : 0 ≡ firstOf (refusalsOf x model.Kind.R) = sym z ∙ row-here x f a b c in
       handled-silent x model.Kind.R free q refl own (subst⁻¹ (λ (y : Problem). Holds y (problemAfter x model.Kind.R)) s (row-holds x f a b c own))
 
--- ---- T and A
+-- ---- T and A, and F
 
 pub refuses-term : (p : Problem) (may : List ℕ) (t : Term) (r : ℕ) → Sized p → MayOf (p .rows .on) (p .rows .dc) may → TermRefusal may (p .settings .n) (p .settings .m) t r → RefusesTerm p t r
 refuses-term p may t r z of f x d = term-here p x may t r z (d .holds) (d .valid) of f
 
--- 11 stands behind 9 and 10
-term-own : (x : Context) (t : Term) → operandTerm x ≡ t → refusalsOf x model.Kind.T ≡ termRefusals (tableOf (x .problem)) t ++ (refuse 11 (leb 64 (length (x .problem .cands))) ∷ [])
-unfolding refusalsOf
-term-own x t e = rw e
+pub refuses-block : (p : Problem) (may : List ℕ) (b : Block) (r : ℕ) → Sized p → MayOf (p .rows .on) (p .rows .dc) may → BlockRefusal may (p .settings .n) (p .settings .m) b r → RefusesBlock p b r
+refuses-block p may b r z of f x d = block-here p x may b r z (d .holds) (d .valid) of f
+
+-- a command that adds a candidate: 11 stands behind the two refusals of its operands, of which r is the first
+module _ (p : Problem) (k : model.Kind) (x : Context) (f : Found p x) (two : List Refusal) (numbered : All Numbered two)
+    (own : refusalsOf x k ≡ two ++ (refuse 11 (leb 64 (length (x .problem .cands))) ∷ [])) (r : ℕ) (o : r ≡ firstOf two) where
+  candidate-refused : (free : List ℕ) (e : Effect) → (r ≡ 0 → ⊥) → e ≡ refusedAs p r → Handled x k free free e
+  candidate-refused free e d q =
+      let first : r ≡ firstOf (refusalsOf x k) = sym (ap firstOf own ∙ first-before two (refuse 11 (leb 64 (length (x .problem .cands))) ∷ []) (λ z. d (o ∙ z)) ∙ sym o) in
+      handled-refused x k free p r e (f .holds) q (late-own x k r first d) d
+
+  behind : r ≡ 0 → firstOf (refusalsOf x k) ≡ firstOf (refuse 11 (leb 64 (length (x .problem .cands))) ∷ [])
+  behind z = ap firstOf own ∙ first-behind two (refuse 11 (leb 64 (length (x .problem .cands))) ∷ []) numbered (sym o ∙ z)
+
+  candidate-many : (free : List ℕ) (e : Effect) → r ≡ 0 → 64 ≤ p .candidates .count → e ≡ refusedAs p 11 → Handled x k free free e
+  candidate-many free e z l q =
+      let full : 11 ≡ firstOf (refusalsOf x k) = sym (behind z ∙ rw (le-leb 64 (length (x .problem .cands)) (omega (arith, held-count p (x .problem) (f .holds))))) in
+      handled-refused x k free p 11 e (f .holds) q (late-own x k 11 full (λ n. omega (arith, n))) (λ n. omega (arith, n))
+
+  candidate-kept : (free : List ℕ) (q : Problem) → r ≡ 0 → p .candidates .count < 64 → answerBytes x k ≡ [] → Holds q (problemAfter x k)
+      → Handled x k free free (record { number = 0; written = 0; problem = q })
+  candidate-kept free q z l silent h =
+      let room : 0 ≡ firstOf (refusalsOf x k) = sym (behind z ∙ rw (lt-leb 64 (length (x .problem .cands)) (omega (arith, held-count p (x .problem) (f .holds))))) in
+      handled-silent x k free q silent room h
 
 -- an A is refused as a T is, answers nothing too, and leaves the same problem
 both : (x : Context) (free : List ℕ) (e : Effect) → Handled x model.Kind.T free free e → Handled x model.Kind.T free free e × Handled x model.Kind.A free free e
@@ -158,28 +184,51 @@ both x free e h = (
 )
 
 module _ (p : Problem) (t : Term) (r : ℕ) (o : RefusesTerm p t r) where
-  pub term-refused : (e : Effect) → (r ≡ 0 → ⊥) → e ≡ refusedAs p r → HandlesTerm p t e
-  term-refused e d q x free f a =
-      let own : r ≡ firstOf (refusalsOf x model.Kind.T) =
-      sym (ap firstOf (term-own x t a) ∙ first-before (termRefusals (tableOf (x .problem)) t) (refuse 11 (leb 64 (length (x .problem .cands))) ∷ []) (λ z. d (o x f ∙ z)) ∙ sym (o x f)) in
-      both x free e (handled-refused x model.Kind.T free p r e (f .holds) q (late-own x model.Kind.T r own d) d)
+  term-own : (x : Context) → operandTerm x ≡ t → refusalsOf x model.Kind.T ≡ termRefusals (tableOf (x .problem)) t ++ (refuse 11 (leb 64 (length (x .problem .cands))) ∷ [])
+  unfolding refusalsOf
+  term-own x e = rw e
 
-  behind : (x : Context) → Found p x → operandTerm x ≡ t → r ≡ 0 → firstOf (refusalsOf x model.Kind.T) ≡ firstOf (refuse 11 (leb 64 (length (x .problem .cands))) ∷ [])
-  behind x f a z = ap firstOf (term-own x t a) ∙ first-behind (termRefusals (tableOf (x .problem)) t)
-      (refuse 11 (leb 64 (length (x .problem .cands))) ∷ []) (omega arith, (omega arith, tt)) (sym (o x f) ∙ z)
+  pub term-refused : (e : Effect) → (r ≡ 0 → ⊥) → e ≡ refusedAs p r → HandlesTerm p t e
+  term-refused e d q x free f a = both x free e (candidate-refused p model.Kind.T x f (termRefusals (tableOf (x .problem)) t) (omega arith, (omega arith, tt)) (term-own x a) r (o x f) free e d q)
 
   pub term-many : (e : Effect) → r ≡ 0 → 64 ≤ p .candidates .count → e ≡ refusedAs p 11 → HandlesTerm p t e
-  term-many e z l q x free f a =
-      let own : 11 ≡ firstOf (refusalsOf x model.Kind.T) = sym (behind x f a z ∙ rw (le-leb 64 (length (x .problem .cands)) (omega (arith, f .holds .cands .terms .counted)))) in
-      both x free e (handled-refused x model.Kind.T free p 11 e (f .holds) q (late-own x model.Kind.T 11 own (λ n. omega (arith, n))) (λ n. omega (arith, n)))
+  term-many e z l q x free f a = both x free e (candidate-many p model.Kind.T x f (termRefusals (tableOf (x .problem)) t) (omega arith, (omega arith, tt)) (term-own x a) r (o x f) free e z l q)
 
-  pub term-kept : (q : Problem) → r ≡ 0 → p .candidates .count < 64 → q ≡ atPlace (max (p .place) model.inTerms) (withCandidates (termPut (p .settings .prices) (p .candidates) t) p)
+  pub term-kept : (q : Problem) → r ≡ 0 → p .candidates .count < 64 → q ≡ atPlace (max (p .place) model.inCandidates) (withCandidates (termPut (p .settings .prices) (p .candidates) t) p)
       → HandlesTerm p t (record { number = 0; written = 0; problem = q })
   unfolding answerFor problemAfter
-  term-kept q z l s x free f a =
-      let own : 0 ≡ firstOf (refusalsOf x model.Kind.T) = sym (behind x f a z ∙ rw (lt-leb 64 (length (x .problem .cands)) (omega (arith, f .holds .cands .terms .counted)))) in
-      both x free (record { number = 0; written = 0; problem = q }) (handled-silent x model.Kind.T free q refl own
+  term-kept q z l s x free f a = both x free (record { number = 0; written = 0; problem = q })
+      (candidate-kept p model.Kind.T x f (termRefusals (tableOf (x .problem)) t) (omega arith, (omega arith, tt)) (term-own x a) r (o x f) free q z l refl
       (subst⁻¹ (λ (y : Problem). Holds y (problemAfter x model.Kind.T)) s (rw a (after-term p (x .problem) t (f .holds) l))))
+
+module _ (p : Problem) (b : Block) (r : ℕ) (o : RefusesBlock p b r) where
+  block-own : (x : Context) → operandBlock x ≡ b → refusalsOf x model.Kind.F ≡ blockRefusals (tableOf (x .problem)) b ++ (refuse 11 (leb 64 (length (x .problem .cands))) ∷ [])
+  unfolding refusalsOf
+  block-own x e = ap (model·refusals.blockRefusals (x .problem)) e
+
+  pub block-refused : (held : List ℕ) (e : Effect) → (r ≡ 0 → ⊥) → e ≡ refusedAs p r → HandlesF p b held held e
+  block-refused held e d q x free f h a = record {
+    handled = candidate-refused p model.Kind.F x f (blockRefusals (tableOf (x .problem)) b) (omega arith, (omega arith, tt)) (block-own x a) r (o x f) free e d q;
+    left = λ n. refl;
+    blocks = λ z. absurd (d (sym (ap (λ (e : Effect). e .number) q) ∙ z));
+  }
+
+  pub block-many : (held : List ℕ) (e : Effect) → r ≡ 0 → 64 ≤ p .candidates .count → e ≡ refusedAs p 11 → HandlesF p b held held e
+  block-many held e z l q x free f h a = record {
+    handled = candidate-many p model.Kind.F x f (blockRefusals (tableOf (x .problem)) b) (omega arith, (omega arith, tt)) (block-own x a) r (o x f) free e z l q;
+    left = λ n. refl;
+    blocks = λ n. absurd (omega (arith, n, ap (λ (e : Effect). e .number) q));
+  }
+
+  pub block-kept : (q : Problem) (old new : List ℕ) → r ≡ 0 → p .candidates .count < 64 → Adds (p .candidates .count) b old new
+      → q ≡ atPlace (max (p .place) model.inCandidates) (withCandidates (blockPut (p .candidates) b) p) → HandlesF p b old new (record { number = 0; written = 0; problem = q })
+  unfolding answerFor problemAfter
+  block-kept q old new z l g s x free f h a = let then = atPlace (max (p .place) model.inCandidates) (withCandidates (blockPut (p .candidates) b) p) in record {
+    handled = candidate-kept p model.Kind.F x f (blockRefusals (tableOf (x .problem)) b) (omega arith, (omega arith, tt)) (block-own x a) r (o x f) free q z l refl
+        (subst⁻¹ (λ (y : Problem). Holds y (problemAfter x model.Kind.F)) s (subst⁻¹ (λ (u : Block). Holds then (addBlock (x .problem) u)) a (after-block p (x .problem) b (f .holds) l)));
+    left = λ n. absurd (n refl);
+    blocks = λ n. subst⁻¹ (λ (u : Block). BlocksAt (x .problem .cands ++ (Candidate.block u ∷ [])) new) a (g (x .problem .cands) (sym (held-count p (x .problem) (f .holds))) h);
+  }
 
 -- ---- P
 
@@ -218,19 +267,28 @@ module _ (p : Problem) (z : Sized p) (may : List ℕ) (of : MayOf (p .rows .on) 
 
 -- ---- D
 
-pub number-gone : (p : Problem) (k i : ℕ) (e : Effect) → i ≡ k → p .candidates .count ≤ i → e ≡ refusedAs p 15 → HandlesD p k e
+pub number-gone : (p : Problem) (k i : ℕ) (held : List ℕ) (e : Effect) → i ≡ k → p .candidates .count ≤ i → e ≡ refusedAs p 15 → HandlesD p k held held e
 unfolding refusalsOf
-number-gone p k i e j l q x free f a =
-    let own : leb (length (x .problem .cands)) (operandNumber x) ≡ true = le-leb (length (x .problem .cands)) (operandNumber x) (omega (arith, f .holds .cands .terms .counted, a)) in
-    handled-refused x model.Kind.D free p 15 e (f .holds) q (late-own x model.Kind.D 15 (rw own) (λ n. omega (arith, n))) (λ n. omega (arith, n))
+number-gone p k i held e j l q x free f h a =
+    let own : leb (length (x .problem .cands)) (operandNumber x) ≡ true = le-leb (length (x .problem .cands)) (operandNumber x) (omega (arith, held-count p (x .problem) (f .holds), a)) in
+    record {
+      handled = handled-refused x model.Kind.D free p 15 e (f .holds) q (late-own x model.Kind.D 15 (rw own) (λ n. omega (arith, n))) (λ n. omega (arith, n));
+      left = λ n. refl;
+      blocks = λ n. absurd (omega (arith, n, ap (λ (e : Effect). e .number) q));
+    }
 
-pub number-taken : (p : Problem) (k i : ℕ) (q : Problem) → Sized p → i ≡ k → i < p .candidates .count → q ≡ withCandidates (termTaken (p .candidates) i) p
-    → HandlesD p k (record { number = 0; written = 0; problem = q })
-unfolding refusalsOf answerFor
-number-taken p k i q z j l s x free f a =
-    let own : leb (length (x .problem .cands)) (operandNumber x) ≡ false = lt-leb (length (x .problem .cands)) (operandNumber x) (omega (arith, f .holds .cands .terms .counted, a)) in
-    handled-silent x model.Kind.D free q refl (rw own)
-    (subst⁻¹ (λ (y : Problem). Holds y (problemAfter x model.Kind.D)) s (after-D x p i (f .holds) (a ∙ sym j) l (z .few)))
+pub number-taken : (p : Problem) (k i : ℕ) (old new : List ℕ) (q : Problem) → Sized p → i ≡ k → i < p .candidates .count → TakesOut (p .candidates .blocks) i old new
+    → q ≡ withCandidates (candidateTaken (p .candidates) i) p → HandlesD p k old new (record { number = 0; written = 0; problem = q })
+unfolding refusalsOf answerFor problemAfter
+number-taken p k i old new q z j l t s x free f h a =
+    let n = held-count p (x .problem) (f .holds) in
+    let own : leb (length (x .problem .cands)) (operandNumber x) ≡ false = lt-leb (length (x .problem .cands)) (operandNumber x) (omega (arith, n, a)) in
+    record {
+      handled = handled-silent x model.Kind.D free q refl (rw own)
+          (subst⁻¹ (λ (y : Problem). Holds y (problemAfter x model.Kind.D)) s (after-D x p i (f .holds) (a ∙ sym j) l (z .few)));
+      left = λ n. absurd (n refl);
+      blocks = λ e. subst⁻¹ (λ (u : ℕ). BlocksAt (without u (x .problem .cands)) new) (a ∙ sym j) (t (x .problem .cands) (omega (arith, n)) (f .holds .cands .blocks) h);
+    }
 
 -- ---- E
 

@@ -6,19 +6,21 @@ use mathlib.Core.List.{List, [], _∷_, _++_}
 use lib.Dec.{ltb}
 use lib.ListN.{length, drop}
 use Rattle.model.specs.declared.Term.{Term}
+use Rattle.model.specs.declared.Block.{Block}
 use Rattle.model.specs.declared.Prices.{Prices}
 use Rattle.model.specs.Sets.{coverable}
 use Rattle.model.specs.Pages.{page, more}
 use Rattle.model.specs.Commands as model
-use Rattle.model.specs.Commands.{Context, tableOf, basisOf, coveringOf, operand, Row, rowsOfB, operandTerm, operandNumber, operandPrices, start, count, problemAfter}
+use Rattle.model.specs.Commands.{Context, tableOf, basisOf, coveringOf, operand, Row, rowsOfB, operandTerm, operandBlock, operandNumber, operandPrices, start, count, problemAfter}
 use Rattle.model.specs.Answers.{Answer, bytesOf, answerFor}
 use Rattle.model.specs.Refusals.{refuse, firstOf, refusalsOf}
 use Rattle.model.specs.Invariants.{Valid}
+use Rattle.incidence.specs.Stored.{BlocksAt}
 use Rattle.answers.specs.declared.writers.Reply.{Reply}
 use Rattle.answers.specs.declared.writers.Reply.the-variants.{Written, TooLong}
 use Rattle.problem.specs.declared.Problem.{Problem}
 use Rattle.problem.specs.Problems.{atPlace, Holds}
-use Rattle.problem.specs.Refusing.{termRefusals}
+use Rattle.problem.specs.Refusing.{termRefusals, blockRefusals}
 use Rattle.problem.specs.Matrix.{MatrixOf}
 use Rattle.commands.specs.declared.Effect.{Effect}
 
@@ -59,6 +61,12 @@ pub record Handled (x : Context) (k : model.Kind) (old new : List ℕ) (e : Effe
   pub refused : (e .number ≡ 0 → ⊥) → LeftAlone x old new e
   pub answered : e .number ≡ 0 → Answered x k old new e
 
+-- one that changes the sets of the blocks from `old` to `new`: they have those of the problem after it, and a refusal leaves them
+pub record HandledWith (x : Context) (k : model.Kind) (free old new : List ℕ) (e : Effect) : Type 0 where
+  pub handled : Handled x k free free e
+  pub left : (e .number ≡ 0 → ⊥) → new ≡ old
+  pub blocks : e .number ≡ 0 → BlocksAt (problemAfter x k .cands) new
+
 -- a context of the problem that p holds
 pub record Found (p : Problem) (x : Context) : Type 0 where
   pub holds : Holds p (x .problem)
@@ -85,15 +93,22 @@ HandlesB p ws e = (x : Context) (free : List ℕ) → Found p x → x .problem .
 abbrev pub RefusesTerm : Problem → Term → ℕ → Type 0
 RefusesTerm p t r = (x : Context) → Found p x → r ≡ firstOf (termRefusals (tableOf (x .problem)) t)
 
+-- r is 18 or 10 of the block b, 0 where neither applies
+abbrev pub RefusesBlock : Problem → Block → ℕ → Type 0
+RefusesBlock p b r = (x : Context) → Found p x → r ≡ firstOf (blockRefusals (tableOf (x .problem)) b)
+
 -- T and A
 abbrev pub HandlesTerm : Problem → Term → Effect → Type 0
 HandlesTerm p t e = (x : Context) (free : List ℕ) → Found p x → operandTerm x ≡ t → Handled x model.Kind.T free free e × Handled x model.Kind.A free free e
 
+abbrev pub HandlesF : Problem → Block → List ℕ → List ℕ → Effect → Type 0
+HandlesF p b old new e = (x : Context) (free : List ℕ) → Found p x → BlocksAt (x .problem .cands) old → operandBlock x ≡ b → HandledWith x model.Kind.F free old new e
+
 abbrev pub HandlesP : Problem → List ℕ → List ℕ → Effect → Type 0
 HandlesP p old new e = (x : Context) → Found p x → x .free ≡ length old → Handled x model.Kind.P old new e
 
-abbrev pub HandlesD : Problem → ℕ → Effect → Type 0
-HandlesD p k e = (x : Context) (free : List ℕ) → Found p x → operandNumber x ≡ k → Handled x model.Kind.D free free e
+abbrev pub HandlesD : Problem → ℕ → List ℕ → List ℕ → Effect → Type 0
+HandlesD p k old new e = (x : Context) (free : List ℕ) → Found p x → BlocksAt (x .problem .cands) old → operandNumber x ≡ k → HandledWith x model.Kind.D free old new e
 
 abbrev pub HandlesE : Problem → ℕ → List ℕ → List ℕ → Effect → Type 0
 HandlesE p rest old new e = (x : Context) → Holds p (x .problem) → length (x .rest) ≡ rest → x .free ≡ length old → Handled x model.Kind.E old new e
@@ -106,7 +121,7 @@ HandlesL p rows covered s k old new e =
 abbrev pub HandlesC : Problem → List ℕ → Bool → List ℕ → List ℕ → Effect → Type 0
 HandlesC p rows covered old new e = (x : Context) → Found p x → MatrixOf (basisOf (x .problem)) rows covered → x .free ≡ length old → Handled x model.Kind.C old new e
 
--- N, with what the covering matrix tells of 12
-abbrev pub HandlesN : Problem → Bool → List ℕ → List ℕ → Effect → Type 0
-HandlesN p covered old new e =
-    (x : Context) → Found p x → covered ≡ coverable (coveringOf x) → x .free ≡ length old → Handled x model.Kind.N old new e
+-- N, with the sets of the blocks and what the covering matrix tells of 12
+abbrev pub HandlesN : Problem → List ℕ → Bool → List ℕ → List ℕ → Effect → Type 0
+HandlesN p held covered old new e =
+    (x : Context) → Found p x → BlocksAt (x .problem .cands) held → covered ≡ coverable (coveringOf x) → x .free ≡ length old → Handled x model.Kind.N old new e

@@ -1,17 +1,19 @@
 // One command: tested, answered, applied.
 //
 // Each function here and in crate `queries`, which has L, C and N, handles one kind of command behind the tests of 3, 4 and 5. A refusal leaves the
-// free part and the record alone.
+// free part and the record alone. `held` has the sets of the blocks, which stand beside the record: only F and D change them.
 ghost use mathlib.Core.Path.{_≡_};
 ghost use Prim.Native.Nat.{_+_, _≤_, _<_};
 ghost use lib.ListN.{length, drop};
 ghost use Rattle.model.specs.Commands as model;
 ghost use Rattle.model.specs.Commands.{rowsOfB};
 ghost use Rattle.problem.specs.Problems.{Sized, Reached};
-ghost use Rattle.commands.specs.Effects.{refusedAs, RefusesTerm, HandlesI, HandlesW, HandlesR, HandlesB, HandlesTerm, HandlesP, HandlesD, HandlesE};
+ghost use Rattle.commands.specs.Effects.{refusedAs, RefusesTerm, RefusesBlock, HandlesI, HandlesW, HandlesR, HandlesB, HandlesTerm, HandlesF, HandlesP, HandlesD, HandlesE};
 use answers::writers;
 use answers::writers::Reply;
 use bits::byte;
+use incidence::blocks;
+use model::Block;
 use model::Prices;
 use model::Term;
 use primes::prime_list;
@@ -143,6 +145,37 @@ pub fn term(p: Problem, t: Term) -> Effect
     }
 }
 
+// 18 or 10 of a block, 0 where neither applies.
+fn block_refusal(p: Problem, b: Block) -> u8
+    requires { ⌜ Sized p ⌝ }
+    ensures { λ r. ⌜ RefusesBlock p b r ⌝ }
+{
+    let on = p.rows.on;
+    let dc = p.rows.dc;
+    let may = cells::allowed(&on, &dc);
+    refusals::block_refusal(&may, p.settings.n, p.settings.m, b)
+}
+
+// F with its block: 11 comes behind 18 and 10.
+pub fn block(p: Problem, held: &mut [u64; 256], b: Block) -> Effect
+    requires { ⌜ Sized p ⌝ }
+    ensures { λ r. ⌜ HandlesF p b (now (held .entry)) (now (held .exit)) r ⌝ }
+{
+    let number = block_refusal(p, b);
+    if number != 0 {
+        return refused(p, number);
+    }
+    if p.candidates.count < 64 {
+        blocks::add(held, p.candidates.count as u64, b);
+        return Effect {
+            number: 0,
+            written: 0,
+            problem: problem::with_block(p, b),
+        };
+    }
+    refused(p, 11)
+}
+
 // P: the primes as answer and as candidates.
 pub fn primes(p: Problem, free: &mut [u8]) -> Effect
     requires { ⌜ Reached p ⌝ }
@@ -168,18 +201,19 @@ pub fn primes(p: Problem, free: &mut [u8]) -> Effect
 }
 
 // D with the number of a candidate.
-pub fn remove(p: Problem, k: u8) -> Effect
+pub fn remove(p: Problem, held: &mut [u64; 256], k: u8) -> Effect
     requires { ⌜ Sized p ⌝ }
-    ensures { λ r. ⌜ HandlesD p k r ⌝ }
+    ensures { λ r. ⌜ HandlesD p k (now (held .entry)) (now (held .exit)) r ⌝ }
 {
     let i = byte::wide(k);
     if p.candidates.count <= i {
         return refused(p, 15);
     }
+    blocks::take_out(held, p.candidates.blocks, i as u64);
     Effect {
         number: 0,
         written: 0,
-        problem: problem::without_term(p, i),
+        problem: problem::without_candidate(p, i),
     }
 }
 

@@ -1,28 +1,32 @@
 // Runs the job on standard input as `covers` does, and prints its result and the record that its last command left, in lines like these. A
 // refused command leaves the record as it found it; a job that is too long leaves the empty one.
 //
-//     number 0 offset 32 written 32
+//     number 0 offset 107 written 12
 //     place 5
 //     inputs 2 outputs 2
 //     prices 37 23 11
 //     row 0 on 00 dc 01
 //     candidate 0 care 01 value 00 outputs 01 weight 48
+//     candidate 2 block outputs 01 vertices 0600000000000000000000000000000000000000000000000000000000000000 weight 850
 //
-// The place is the furthest that came: 0 nothing, 1 I, 2 W, 3 a row, 4 a term, 5 a P, L, C or N. The prices are those of a term, a literal and
-// an output connection. A line for each vertex that has a row, and for each candidate, with the weight that stands beside it. Bytes are in
-// hexadecimal, all other numbers in decimal.
+// The place is the furthest that came: 0 nothing, 1 I, 2 W, 3 a row, 4 a candidate by T, F or A, 5 a P, L, C or N. The prices are those of a
+// term, a literal and an output connection. A line for each vertex that has a row, and for each candidate, a term or a block, with the weight
+// that stands beside it. The vertices of a block are the 32 bytes of F's operand. Bytes are in hexadecimal, all other numbers in decimal.
 //
-// No function here has an `ensures`: what stands on standard output is in no contract of `io`. What is printed is asked for by `requires`: the
-// record is the job's, and each weight is what its term costs at the record's prices.
+// No `ensures` here is on what is printed: what stands on standard output is in no contract of `io`. It is asked for by `requires`: the record is
+// the job's, a term or a block is the one that the job has there, and the weight of a term is what it costs at the record's prices.
 ghost use mathlib.Core.Path.{_≡_};
-ghost use mathlib.Core.List.{map};
-ghost use lib.ListN.{length, take};
-ghost use Rattle.model.specs.Candidates.{termCost};
-ghost use Rattle.model.specs.Job.{run};
-ghost use Rattle.model.specs.Records.{lastRecord};
-ghost use Rattle.problem.specs.Problems.{Holds};
+ghost use mathlib.Core.Bool.{cond};
+ghost use mathlib.Core.List.{[]};
+ghost use Prim.Native.Nat.{_<_};
+ghost use Rattle.model.specs.Candidates.{Candidate, termCost};
+ghost use Rattle.incidence.specs.Stored.{BlocksAt};
+ghost use Rattle.problem.specs.Problems.{HoldsCands, Holds};
+ghost use Rattle.dump.specs.Shown.{left, candidateAt, vertexByte, Vertices, ShownAs};
+use bits::set;
 use libc::STDIN_FILENO;
 use libc::STDOUT_FILENO;
+use model::Block;
 use model::Prices;
 use model::Term;
 use problem::Candidates;
@@ -63,7 +67,9 @@ fn print_rows(rows: TableRows) {
     }
 }
 
-fn print_candidate(w: Prices, i: usize, t: Term, weight: u16)
+// Candidate i of the record that this job leaves: term t, with its cost at these prices.
+fn print_term(job: &[u8], w: Prices, i: usize, t: Term, weight: u16)
+    requires { ⌜ candidateAt (left (now job) .cands) i ≡ Candidate.term t ⌝ }
     requires { ⌜ weight ≡ termCost w t ⌝ }
 {
     print_number(b"candidate ", i);
@@ -74,19 +80,95 @@ fn print_candidate(w: Prices, i: usize, t: Term, weight: u16)
     end_line();
 }
 
-// A line for each candidate.
-fn print_candidates(w: Prices, candidates: Candidates)
-    requires { ⌜ length (candidates .terms) ≡ 64 ⌝ }
-    requires { ⌜ take (candidates .count) (candidates .weights) ≡ map (termCost w) (take (candidates .count) (candidates .terms)) ⌝ }
+// A truth value as a bit.
+fn flag(b: bool) -> u8
+    ensures { λ r. ⌜ r ≡ cond b 1 0 ⌝ }
 {
-    let terms = candidates.terms;
-    let weights = candidates.weights;
+    if b { 1 } else { 0 }
+}
+
+// Byte j of the vertices of block i, read from its last vertex down.
+fn vertex_byte(held: &[u64; 256], i: u64, j: usize) -> u8
+    requires { ⌜ (i < 64) × (j < 32) ⌝ }
+    ensures { λ r. ⌜ r ≡ vertexByte (now (held .entry)) i j ⌝ }
+{
+    let mut byte: u8 = 0;
+    let mut k: usize = 8;
+    while 0 < k {
+        k -= 1;
+        byte = byte * 2 + flag(set::has(held[8 * j + k], i));
+    }
+    byte
+}
+
+// The vertices of block i.
+fn vertices(held: &[u64; 256], i: u64) -> [u8; 32]
+    requires { ⌜ i < 64 ⌝ }
+    ensures { λ r. ⌜ Vertices (now (held .entry)) i 32 r ⌝ }
+{
+    let mut bytes = [0u8; 32];
+    let mut j: usize = 0;
+    while j < 32 {
+        bytes[j] = vertex_byte(held, i, j);
+        j += 1;
+    }
+    bytes
+}
+
+// Each byte by its two digits.
+fn print_bytes(name: &[u8], bytes: [u8; 32]) {
+    io::write_all(STDOUT_FILENO, name);
+    let mut j: usize = 0;
+    while j < 32 {
+        report::print_byte(bytes[j]);
+        j += 1;
+    }
+}
+
+// Candidate i of the record that this job leaves: block b.
+fn print_block(job: &[u8], i: usize, b: Block)
+    requires { ⌜ ShownAs (left (now job) .cands) i b ⌝ }
+{
+    let vertices = b.vertices;
+    print_number(b"candidate ", i);
+    print_byte(b" block outputs ", b.outputs);
+    print_bytes(b" vertices ", vertices);
+    print_number(b" weight ", b.weight as usize);
+    end_line();
+}
+
+// A line for candidate i.
+fn print_one(job: &[u8], w: Prices, candidates: Candidates, held: &[u64; 256], i: usize)
+    requires { ⌜ i < candidates .count ⌝ }
+    requires { ⌜ HoldsCands w candidates (left (now job) .cands) (left (now job) .weights) ⌝ }
+    requires { ⌜ BlocksAt (left (now job) .cands) (now held) ⌝ }
+{
+    let t = candidates.terms[i];
+    let weight = candidates.weights[i];
+    if set::has(candidates.blocks, i as u64) {
+        let vertices = vertices(held, i as u64);
+        print_block(
+            job,
+            i,
+            Block {
+                outputs: t.outputs,
+                vertices: vertices,
+                weight: weight,
+            },
+        );
+    } else {
+        print_term(job, w, i, t, weight);
+    }
+}
+
+// A line for each candidate of the record that this job leaves.
+fn print_candidates(job: &[u8], w: Prices, candidates: Candidates, held: &[u64; 256])
+    requires { ⌜ HoldsCands w candidates (left (now job) .cands) (left (now job) .weights) ⌝ }
+    requires { ⌜ BlocksAt (left (now job) .cands) (now held) ⌝ }
+{
     let mut i: usize = 0;
-    while i < 64 {
-        if i < candidates.count {
-            let t = terms[i];
-            print_candidate(w, i, t, weights[i]);
-        }
+    while i < candidates.count {
+        print_one(job, w, candidates, held, i);
         i += 1;
     }
 }
@@ -98,9 +180,10 @@ fn print_prices(w: Prices) {
     end_line();
 }
 
-// The whole record, which is the one that this job leaves.
-fn print_record(job: &[u8], p: Problem)
-    requires { ⌜ Holds p (lastRecord (run (now job) 32768)) ⌝ }
+// The whole record, which is the one that this job leaves; `held` has the vertices of its blocks.
+fn print_record(job: &[u8], p: Problem, held: &[u64; 256])
+    requires { ⌜ Holds p (left (now job)) ⌝ }
+    requires { ⌜ BlocksAt (left (now job) .cands) (now held) ⌝ }
 {
     print_number(b"place ", p.place as usize);
     end_line();
@@ -109,7 +192,14 @@ fn print_record(job: &[u8], p: Problem)
     end_line();
     print_prices(p.settings.prices);
     print_rows(p.rows);
-    print_candidates(p.settings.prices, p.candidates);
+    print_candidates(job, p.settings.prices, p.candidates, held);
+}
+
+// The sets by vertex of no block.
+fn no_blocks() -> [u64; 256]
+    ensures { λ r. ⌜ BlocksAt [] r ⌝ }
+{
+    [0; 256]
 }
 
 fn main() {
@@ -117,10 +207,11 @@ fn main() {
     let mut job = [0u8; 32769];
     let length = io::read_full(STDIN_FILENO, &mut job);
     let mut answers = [0u8; 32768];
-    let e = engine::run_job(&job[..length], &mut answers);
+    let mut held = no_blocks();
+    let e = engine::run_job(&job[..length], &mut answers, &mut held);
     print_number(b"number ", e.number as usize);
     print_number(b" offset ", e.offset);
     print_number(b" written ", e.written);
     end_line();
-    print_record(&job[..length], e.problem);
+    print_record(&job[..length], e.problem, &held);
 }

@@ -13,11 +13,12 @@ use lib.ListN.{getD, length, take, drop, length-drop}
 use lib.Seq.{getD-drop}
 use Rattle.model.specs.Base.{All}
 use Rattle.model.specs.declared.Term.{Term}
+use Rattle.model.specs.declared.Block.{Block}
 use Rattle.model.specs.declared.Prices.{Prices}
 use Rattle.model.specs.Table.{term}
 use Rattle.model.specs.Candidates.{prices}
 use Rattle.model.specs.Commands as model
-use Rattle.model.specs.Commands.{Context, basisOf, kindOf, is, isQueryKind, width, allowed, operand, rowsOfB, operandTerm, operandPrices, number}
+use Rattle.model.specs.Commands.{Context, basisOf, kindOf, is, isQueryKind, width, allowed, operand, rowsOfB, blockOfF, operandTerm, operandPrices, number, problemAfter}
 use Rattle.model.specs.Answers.{bytesOf, answer}
 use Rattle.model.specs.Refusals.{Refusal, refuse, firstOf, refusalsOf}
 use Rattle.model.specs.Rules.{refusalsBy, refusalBy, refusal}
@@ -32,8 +33,11 @@ use Rattle.problem.specs.declared.Problem.{Problem}
 use Rattle.problem.specs.Problems.{Holds}
 use Rattle.problem.specs.Matrix.{MatrixOf}
 use Rattle.commands.specs.declared.Effect.{Effect}
-use Rattle.commands.specs.Effects.{refusedAs, lateRefusal, Handled, Found, HandlesI, HandlesW, HandlesR, HandlesB, HandlesTerm, HandlesP, HandlesD, HandlesL, HandlesC, HandlesN, HandlesE}
+use Rattle.commands.specs.Effects.{refusedAs, lateRefusal, Handled, HandledWith, Found, HandlesI, HandlesW, HandlesR, HandlesB, HandlesTerm, HandlesF, HandlesP, HandlesD, HandlesL, HandlesC}
+use Rattle.commands.specs.Effects.{HandlesN, HandlesE}
+use Rattle.incidence.specs.Stored.{BlocksAt}
 use Rattle.engine.specs.Steps.{Stepped, Steps, contextAt}
+use Rattle.engine.proofs.KeptBlocks.{blocks-kept}
 
 -- ---- what passing 3, 4 and 5 says
 
@@ -50,22 +54,23 @@ early-e k place rest e = go (is k model.Kind.none) (allowed k place) (ltb rest (
 
 -- a T or an A, by what the match knows of it: the places of the two among the kinds
 abbrev pub AddsTerm : Kind → Type 0
-AddsTerm k = OneOf (4 ∷ 6 ∷ []) (tagOf the-type k)
+AddsTerm k = OneOf (4 ∷ 7 ∷ []) (tagOf the-type k)
 
 adds-term : (k : Kind) → AddsTerm k → (kindIs k ≡ model.Kind.T) ⊎ (kindIs k ≡ model.Kind.A)
 adds-term variant.T h = inl refl
 adds-term variant.A h = inr refl
-adds-term variant.I h = absurd (miss (4 ∷ 6 ∷ []) 0 tt h)
-adds-term variant.W h = absurd (miss (4 ∷ 6 ∷ []) 1 tt h)
-adds-term variant.R h = absurd (miss (4 ∷ 6 ∷ []) 2 tt h)
-adds-term variant.B h = absurd (miss (4 ∷ 6 ∷ []) 3 tt h)
-adds-term variant.P h = absurd (miss (4 ∷ 6 ∷ []) 5 tt h)
-adds-term variant.D h = absurd (miss (4 ∷ 6 ∷ []) 7 tt h)
-adds-term variant.L h = absurd (miss (4 ∷ 6 ∷ []) 8 tt h)
-adds-term variant.C h = absurd (miss (4 ∷ 6 ∷ []) 9 tt h)
-adds-term variant.N h = absurd (miss (4 ∷ 6 ∷ []) 10 tt h)
-adds-term variant.E h = absurd (miss (4 ∷ 6 ∷ []) 11 tt h)
-adds-term variant.None h = absurd (miss (4 ∷ 6 ∷ []) 12 tt h)
+adds-term variant.I h = absurd (miss (4 ∷ 7 ∷ []) 0 tt h)
+adds-term variant.W h = absurd (miss (4 ∷ 7 ∷ []) 1 tt h)
+adds-term variant.R h = absurd (miss (4 ∷ 7 ∷ []) 2 tt h)
+adds-term variant.B h = absurd (miss (4 ∷ 7 ∷ []) 3 tt h)
+adds-term variant.F h = absurd (miss (4 ∷ 7 ∷ []) 5 tt h)
+adds-term variant.P h = absurd (miss (4 ∷ 7 ∷ []) 6 tt h)
+adds-term variant.D h = absurd (miss (4 ∷ 7 ∷ []) 8 tt h)
+adds-term variant.L h = absurd (miss (4 ∷ 7 ∷ []) 9 tt h)
+adds-term variant.C h = absurd (miss (4 ∷ 7 ∷ []) 10 tt h)
+adds-term variant.N h = absurd (miss (4 ∷ 7 ∷ []) 11 tt h)
+adds-term variant.E h = absurd (miss (4 ∷ 7 ∷ []) 12 tt h)
+adds-term variant.None h = absurd (miss (4 ∷ 7 ∷ []) 13 tt h)
 
 -- ---- the context
 
@@ -93,13 +98,13 @@ module _ {p : Problem} {job : List ℕ} {at : ℕ} {k : Kind} {n rest : ℕ} (d 
       let r : rest ≡ length (drop (at + 1) job) = omega (arith, d .left, length-drop (at + 1) job) in
       d .early ∙ rw (d .kind, h .place, r)
 
-  pub step-early : {rows old : List ℕ} {covered : Bool} {e : Effect} → (n ≡ 0 → ⊥) → e ≡ refusedAs p n → Steps p rows covered job at old old e
+  pub step-early : {held rows old : List ℕ} {covered : Bool} {e : Effect} → (n ≡ 0 → ⊥) → e ≡ refusedAs p n → Steps p held held rows covered job at old old e
   unfolding refusalBy refusalsBy early-list late-list
-  step-early {rows} {old} {covered} {e} z q = record {
-    in-problem = λ s h v f.
+  step-early {held} {rows} {old} {covered} {e} z q = record {
+    in-problem = λ s h b v f.
         let x = contextAt s job at (length old) in
         let o : n ≡ refusal x = early-here s (length old) h ∙ sym (first-before (early-list x) (late-list x) (λ y. z (early-here s (length old) h ∙ y))) in
-        rw q record { number = o; refused = λ y. record { bytes = refl; problem = h }; answered = λ y. absurd (z y) };
+        rw q record { number = o; refused = λ y. (record { bytes = refl; problem = h }, refl); answered = λ y. absurd (z y) };
   }
 
   -- behind the early refusals
@@ -125,11 +130,23 @@ module _ {p : Problem} {job : List ℕ} {at : ℕ} {k : Kind} {n rest : ℕ} (d 
     at-op i j e = getD-drop (at + 1) job i 0 ∙ ap (λ (x : ℕ). getD job x 0) e
 
     module _ (c : model.Kind) (g : kindIs k ≡ c) {old new : List ℕ} {e : Effect} where
-      as-kind : (q : model.Problem) → Holds p q → Handled (contextAt q job at (length old)) c old new e → Stepped (contextAt q job at (length old)) old new e
-      as-kind q h w =
-          let u : Handled (contextAt q job at (length old)) (kindOf (getD job at 0)) old new e =
-          subst (λ (c : model.Kind). Handled (contextAt q job at (length old)) c old new e) (sym g ∙ d .kind) w in
-          record { number = u .number ∙ sym (late-here q (length old) h); refused = u .refused; answered = u .answered }
+      as-kind : (q : model.Problem) (held sets : List ℕ) → Holds p q → let x = contextAt q job at (length old) in
+          Handled x c old new e → ((e .number ≡ 0 → ⊥) → sets ≡ held) → (e .number ≡ 0 → BlocksAt (problemAfter x c .cands) sets) → Stepped x held sets old new e
+      as-kind q held sets h w left blocks =
+          let x = contextAt q job at (length old) in
+          let u : Handled x (kindOf (getD job at 0)) old new e = subst (λ (c : model.Kind). Handled x c old new e) (sym g ∙ d .kind) w in
+          record {
+            number = u .number ∙ sym (late-here q (length old) h);
+            refused = λ z. (u .refused z, left z);
+            answered = λ z. (u .answered z, subst (λ (c : model.Kind). BlocksAt (problemAfter x c .cands) sets) (sym g ∙ d .kind) (blocks z));
+          }
+
+      -- a command that is no F and no D leaves the sets
+      as-other : T (not (is c model.Kind.F)) → T (not (is c model.Kind.D)) → (q : model.Problem) {held : List ℕ} → Holds p q → BlocksAt (q .cands) held → Valid q
+          → Handled (contextAt q job at (length old)) c old new e → Stepped (contextAt q job at (length old)) held held old new e
+      as-other nf nd q {held} h b v w =
+          let allowed-here = subst (λ (n : ℕ). T (allowed c n)) (h .place) (subst (λ (y : model.Kind). T (allowed y (p .place))) g (passed .1)) in
+          as-kind q held held h w (λ z. refl) (λ z. blocks-kept (contextAt q job at (length old)) c nf nd allowed-here v b)
 
     -- a command behind I, in every problem that p holds
     module _ (c : model.Kind) (g : kindIs k ≡ c) (i : T (not (is c model.Kind.I))) where
@@ -140,12 +157,23 @@ module _ {p : Problem} {job : List ℕ} {at : ℕ} {k : Kind} {n rest : ℕ} (d 
         begun = subst (λ (x : ℕ). model.begun ≤ x) (h .place) (place-one (kindIs k) (p .place) (subst⁻¹ (λ (x : model.Kind). T (not (is x model.Kind.I))) g i) (passed .1));
       }
 
-      behind-I : {rows old new : List ℕ} {covered : Bool} {e : Effect}
-          → ((x : Context) → Found p x → (T (isQueryKind c) → MatrixOf (basisOf (x .problem)) rows covered) → x .rest ≡ drop (at + 1) job → x .free ≡ length old → Handled x c old new e)
-          → Steps p rows covered job at old new e
-      behind-I {rows} {old} {new} {covered} {e} w = record {
-        in-problem = λ q h v f. as-kind c g q h
-            (w (contextAt q job at (length old)) (found q (length old) h v) (λ t. f (subst (λ (x : model.Kind). T (isQueryKind x)) (sym g ∙ d .kind) t)) refl refl);
+      behind-I : {held rows old new : List ℕ} {covered : Bool} {e : Effect} → T (not (is c model.Kind.F)) → T (not (is c model.Kind.D))
+          → ((x : Context) → Found p x → BlocksAt (x .problem .cands) held → (T (isQueryKind c) → MatrixOf (basisOf (x .problem)) rows covered) → x .rest ≡ drop (at + 1) job → x .free ≡ length old
+          → Handled x c old new e)
+          → Steps p held held rows covered job at old new e
+      behind-I {held} {rows} {old} {new} {covered} {e} nf nd w = record {
+        in-problem = λ q h b v f. as-other c g nf nd q h b v
+            (w (contextAt q job at (length old)) (found q (length old) h v) b (λ t. f (subst (λ (x : model.Kind). T (isQueryKind x)) (sym g ∙ d .kind) t)) refl refl);
+      }
+
+      -- an F or a D changes them
+      with-blocks : {held sets rows old : List ℕ} {covered : Bool} {e : Effect}
+          → ((x : Context) → Found p x → BlocksAt (x .problem .cands) held → x .rest ≡ drop (at + 1) job → HandledWith x c old held sets e)
+          → Steps p held sets rows covered job at old old e
+      with-blocks {held} {sets} {rows} {old} w = record {
+        in-problem = λ q h b v f.
+            let o = w (contextAt q job at (length old)) (found q (length old) h v) b refl in
+            as-kind c g q held sets h (o .handled) (o .left) (o .blocks);
       }
 
     op : (x : Context) → x .rest ≡ drop (at + 1) job → (i j : ℕ) → at + 1 + i ≡ j → operand x i ≡ getD job j 0
@@ -159,47 +187,53 @@ module _ {p : Problem} {job : List ℕ} {at : ℕ} {k : Kind} {n rest : ℕ} (d 
 
     -- ---- each kind
 
-    module _ {rows old : List ℕ} {covered : Bool} {e : Effect} where
-      pub step-I : kindIs k ≡ model.Kind.I → HandlesI p (getD job (at + 1) 0) (getD job (at + 2) 0) e → Steps p rows covered job at old old e
-      step-I g w = record { in-problem = λ q h v f. as-kind model.Kind.I g q h (w (contextAt q job at (length old)) old h (at-op 0 (at + 1) (omega arith)) (at-op 1 (at + 2) (omega arith))) }
+    module _ {held rows old : List ℕ} {covered : Bool} {e : Effect} where
+      pub step-I : kindIs k ≡ model.Kind.I → HandlesI p (getD job (at + 1) 0) (getD job (at + 2) 0) e → Steps p held held rows covered job at old old e
+      step-I g w = record {
+        in-problem = λ q h b v f. as-other model.Kind.I g tt tt q h b v (w (contextAt q job at (length old)) old h (at-op 0 (at + 1) (omega arith)) (at-op 1 (at + 2) (omega arith)));
+      }
 
       pub step-W : {w : Prices} → kindIs k ≡ model.Kind.W → w ≡ prices (getD job (at + 1) 0) (getD job (at + 1 + 1) 0) (getD job (at + 1 + 2) 0)
-          → HandlesW p w e → Steps p rows covered job at old old e
+          → HandlesW p w e → Steps p held held rows covered job at old old e
       step-W g s w =
           let last = place-last model.Kind.W (p .place) (subst (λ (c : model.Kind). T (allowed c (p .place))) g (passed .1)) in
-          behind-I model.Kind.W g tt (λ x f m r a. w x old f (omega (arith, last, f .holds .place)) (op-prices s x r))
+          behind-I model.Kind.W g tt tt tt (λ x f b m r a. w x old f (omega (arith, last, f .holds .place)) (op-prices s x r))
 
-      pub step-R : {v : ℕ} → kindIs k ≡ model.Kind.R → v ≡ getD job (at + 1) 0 → HandlesR p v (getD job (at + 2) 0) (getD job (at + 3) 0) e → Steps p rows covered job at old old e
-      step-R g i w = behind-I model.Kind.R g tt (λ x f m r a. w x old f (op x r 0 (at + 1) (omega arith) ∙ sym i) (op x r 1 (at + 2) (omega arith)) (op x r 2 (at + 3) (omega arith)))
+      pub step-R : {v : ℕ} → kindIs k ≡ model.Kind.R → v ≡ getD job (at + 1) 0 → HandlesR p v (getD job (at + 2) 0) (getD job (at + 3) 0) e → Steps p held held rows covered job at old old e
+      step-R g i w = behind-I model.Kind.R g tt tt tt (λ x f b m r a. w x old f (op x r 0 (at + 1) (omega arith) ∙ sym i) (op x r 1 (at + 2) (omega arith)) (op x r 2 (at + 3) (omega arith)))
 
-      pub step-B : kindIs k ≡ model.Kind.B → HandlesB p (rowsOfB (drop (at + 1) job)) e → Steps p rows covered job at old old e
-      step-B g w = behind-I model.Kind.B g tt (λ x f m r a. w x old f (omega (arith, rows-may-come g, f .holds .place)) (ap rowsOfB r))
+      pub step-B : kindIs k ≡ model.Kind.B → HandlesB p (rowsOfB (drop (at + 1) job)) e → Steps p held held rows covered job at old old e
+      step-B g w = behind-I model.Kind.B g tt tt tt (λ x f b m r a. w x old f (omega (arith, rows-may-come g, f .holds .place)) (ap rowsOfB r))
 
-      pub step-D : kindIs k ≡ model.Kind.D → HandlesD p (getD job (at + 1) 0) e → Steps p rows covered job at old old e
-      step-D g w = behind-I model.Kind.D g tt (λ x f m r a. w x old f (op x r 0 (at + 1) (omega arith)))
-
-      pub step-term : {t : Term} → AddsTerm k → t ≡ term (getD job (at + 1) 0) (getD job (at + 1 + 1) 0) (getD job (at + 1 + 2) 0) → HandlesTerm p t e → Steps p rows covered job at old old e
+      pub step-term : {t : Term} → AddsTerm k → t ≡ term (getD job (at + 1) 0) (getD job (at + 1 + 1) 0) (getD job (at + 1 + 2) 0) → HandlesTerm p t e → Steps p held held rows covered job at old old e
       step-term g s w = ⊎-elim
-          (λ h. behind-I model.Kind.T h tt (λ x f m r a. w x old f (op-term s x r) .0))
-          (λ h. behind-I model.Kind.A h tt (λ x f m r a. w x old f (op-term s x r) .1))
+          (λ h. behind-I model.Kind.T h tt tt tt (λ x f b m r a. w x old f (op-term s x r) .0))
+          (λ h. behind-I model.Kind.A h tt tt tt (λ x f b m r a. w x old f (op-term s x r) .1))
           (adds-term k g)
 
-    module _ {rows old new : List ℕ} {covered : Bool} {e : Effect} where
-      pub step-P : kindIs k ≡ model.Kind.P → HandlesP p old new e → Steps p rows covered job at old new e
-      step-P g w = behind-I model.Kind.P g tt (λ x f m r a. w x f a)
+    module _ {held sets rows old : List ℕ} {covered : Bool} {e : Effect} where
+      pub step-F : {b : Block} → kindIs k ≡ model.Kind.F → b ≡ blockOfF (drop (at + 1) job) → HandlesF p b held sets e → Steps p held sets rows covered job at old old e
+      step-F g s w = with-blocks model.Kind.F g tt (λ x f b r. w x old f b (ap blockOfF r ∙ sym s))
+
+      pub step-D : kindIs k ≡ model.Kind.D → HandlesD p (getD job (at + 1) 0) held sets e → Steps p held sets rows covered job at old old e
+      step-D g w = with-blocks model.Kind.D g tt (λ x f b r. w x old f b (op x r 0 (at + 1) (omega arith)))
+
+    module _ {held rows old new : List ℕ} {covered : Bool} {e : Effect} where
+      pub step-P : kindIs k ≡ model.Kind.P → HandlesP p old new e → Steps p held held rows covered job at old new e
+      step-P g w = behind-I model.Kind.P g tt tt tt (λ x f b m r a. w x f a)
 
       pub step-L : {s c : ℕ} → kindIs k ≡ model.Kind.L → s ≡ number (take 8 (drop (at + 1) job)) → c ≡ getD job (at + 9) 0
-          → HandlesL p rows covered s c old new e → Steps p rows covered job at old new e
-      step-L {s} {c} g i j w = behind-I model.Kind.L g tt (λ x f m r a. w x f (m tt) (ap (λ (bs : List ℕ). number (take 8 bs)) r ∙ sym i) (op x r 8 (at + 9) (omega arith) ∙ sym j) a)
+          → HandlesL p rows covered s c old new e → Steps p held held rows covered job at old new e
+      step-L {s} {c} g i j w = behind-I model.Kind.L g tt tt tt (λ x f b m r a. w x f (m tt) (ap (λ (bs : List ℕ). number (take 8 bs)) r ∙ sym i) (op x r 8 (at + 9) (omega arith) ∙ sym j) a)
 
-      pub step-C : kindIs k ≡ model.Kind.C → HandlesC p rows covered old new e → Steps p rows covered job at old new e
-      step-C g w = behind-I model.Kind.C g tt (λ x f m r a. w x f (m tt) a)
+      pub step-C : kindIs k ≡ model.Kind.C → HandlesC p rows covered old new e → Steps p held held rows covered job at old new e
+      step-C g w = behind-I model.Kind.C g tt tt tt (λ x f b m r a. w x f (m tt) a)
 
-      pub step-N : kindIs k ≡ model.Kind.N → HandlesN p covered old new e → Steps p rows covered job at old new e
-      step-N g w = behind-I model.Kind.N g tt (λ x f m r a. w x f (m tt .told) a)
+      pub step-N : kindIs k ≡ model.Kind.N → HandlesN p held covered old new e → Steps p held held rows covered job at old new e
+      step-N g w = behind-I model.Kind.N g tt tt tt (λ x f b m r a. w x f b (m tt .told) a)
 
-      pub step-E : kindIs k ≡ model.Kind.E → HandlesE p rest old new e → Steps p rows covered job at old new e
-      step-E g w = behind-I model.Kind.E g tt (λ x f m r a. w x (f .holds) (ap length r ∙ length-drop (at + 1) job ∙ omega (arith, d .left)) a)
+      pub step-E : kindIs k ≡ model.Kind.E → HandlesE p rest old new e → Steps p held held rows covered job at old new e
+      step-E g w = behind-I model.Kind.E g tt tt tt (λ x f b m r a. w x (f .holds) (ap length r ∙ length-drop (at + 1) job ∙ omega (arith, d .left)) a)
 
-      pub step-none : kindIs k ≡ model.Kind.none → Steps p rows covered job at old new e
+      pub step-none : kindIs k ≡ model.Kind.none → Steps p held held rows covered job at old new e
       step-none g = absurd (subst (λ (x : model.Kind). T (not (is x model.Kind.none))) g (passed .0))

@@ -1,4 +1,5 @@
+pub mod KeptBlocks
 pub mod Dispatching
 pub mod Running
 pub mod RowCommands
-pub mod Blocks
+pub mod RowBlocks

@@ -30,9 +30,13 @@ use Rattle.commands.specs.declared.Effect.{Effect}
 use Rattle.commands.specs.Effects.{HandlesR}
 use Rattle.commands.proofs.Handling.{row-kept}
 use Rattle.commands.proofs.EightRows.{eight-kept}
+use Rattle.model.specs.Candidates.{Candidate, Basis}
+use Rattle.model.proofs.RowByRow.{rows-set}
+use Rattle.incidence.specs.Stored.{BlocksAt}
+use Rattle.incidence.proofs.Uses.{blocks-alone}
 use Rattle.engine.specs.Steps.{Stepped, Steps, contextAt}
 use Rattle.eight_rows.specs.Rows.{EightAt}
-use Rattle.engine.specs.Blocks.{RowAt, restOf, GoesOn}
+use Rattle.engine.specs.RowBlocks.{RowAt, restOf, GoesOn}
 use Rattle.engine.proofs.Dispatching.{Read, step-R, step-B}
 use Rattle.engine.proofs.Running.{one-left, x, rest, run-next}
 
@@ -49,7 +53,11 @@ row-at {s} {given} {job} {at} {v} {r} l b f e t = record {
 
 -- ---- what a step would do with it
 
--- the command at `at` is accepted, answers nothing and takes so many bytes; `next` is the record behind it
+-- there is no candidate yet, so the sets of the blocks are empty
+abbrev noBlocks : List ℕ
+noBlocks = replicate 256 0
+
+-- the command at `at` is accepted, answers nothing, leaves the candidates and takes so many bytes; `next` is the record behind it
 pub record Sets (p : Problem) (job : List ℕ) (at : ℕ) (next : Problem) (bytes : ℕ) : Type 0 where
   pub kind : model.Kind
   pub here : kindOf (getD job at 0) ≡ kind
@@ -57,13 +65,19 @@ pub record Sets (p : Problem) (job : List ℕ) (at : ℕ) (next : Problem) (byte
   pub room : at + bytes ≤ length job
   pub goes : is kind model.Kind.E ≡ false
   pub silent : (x : Context) → answerFor x kind ≡ Answer.nothing
-  pub steps : (q : model.Problem) → Holds p q → Valid q → (free : ℕ) → Stepped (contextAt q job at free) (replicate free 0) (replicate free 0) (record { number = 0; written = 0; problem = next })
+  pub cands : (x : Context) → problemAfter x kind .cands ≡ x .problem .cands
+  pub steps : (q : model.Problem) → Holds p q → Valid q → (free : ℕ)
+      → Stepped (contextAt q job at free) noBlocks noBlocks (replicate free 0) (replicate free 0) (record { number = 0; written = 0; problem = next })
 
-module _ {p : Problem} {job : List ℕ} {at : ℕ} {e : Effect} (steps : (old : List ℕ) → Steps p [] false job at old old e) (asks-not : T (not (isQueryKind (kindOf (getD job at 0))))) where
-  stepped : (q : model.Problem) → Holds p q → Valid q → (free : ℕ) → Stepped (contextAt q job at free) (replicate free 0) (replicate free 0) e
+module _ {p : Problem} {job : List ℕ} {at : ℕ} {e : Effect} (in-rows : p .place ≤ model.inRows) (steps : (old : List ℕ) → Steps p noBlocks noBlocks [] false job at old old e)
+    (asks-not : T (not (isQueryKind (kindOf (getD job at 0))))) where
+  none-yet : (q : model.Problem) → Holds p q → Valid q → BlocksAt (q .cands) noBlocks
+  none-yet q h v = subst⁻¹ (λ (cs : List Candidate). BlocksAt cs noBlocks) (v .early (omega (arith, h .place))) (blocks-alone [])
+
+  stepped : (q : model.Problem) → Holds p q → Valid q → (free : ℕ) → Stepped (contextAt q job at free) noBlocks noBlocks (replicate free 0) (replicate free 0) e
   stepped q h v free =
-      subst (λ (n : ℕ). Stepped (contextAt q job at n) (replicate free 0) (replicate free 0) e) (length-replicate free 0)
-      (steps (replicate free 0) .in-problem q h v (λ t. absurd (T-not (isQueryKind (kindOf (getD job at 0))) asks-not t)))
+      subst (λ (n : ℕ). Stepped (contextAt q job at n) noBlocks noBlocks (replicate free 0) (replicate free 0) e) (length-replicate free 0)
+      (steps (replicate free 0) .in-problem q h (none-yet q h v) v (λ t. absurd (T-not (isQueryKind (kindOf (getD job at 0))) asks-not t)))
 
 -- the record behind the R at `at`, of vertex v
 abbrev pub behindRow : Problem → List ℕ → ℕ → ℕ → Problem
@@ -75,7 +89,7 @@ behindEight p job at = allRows model.inRows (rowsOfB (drop (at + 1) job)) p
 
 module _ (p : Problem) {job : List ℕ} {at : ℕ} (reached : Reached p) (behind-I : model.begun ≤ p .place) (in-rows : p .place ≤ model.inRows) where
   pub row-sets : {v : ℕ} → v ≡ getD job (at + 1) 0 → RowAt (p .settings) (p .rows .given) job at → Sets p job at (behindRow p job at v) 4
-  unfolding answerFor
+  unfolding answerFor problemAfter
   row-sets {v} e a = record {
     kind = model.Kind.R;
     here = a .kind;
@@ -83,7 +97,8 @@ module _ (p : Problem) {job : List ℕ} {at : ℕ} (reached : Reached p) (behind
     room = a .room;
     goes = refl;
     silent = λ x. refl;
-    steps = stepped (λ old. step-R read refl refl refl kept) (subst⁻¹ (λ (k : model.Kind). T (not (isQueryKind k))) (a .kind) tt);
+    cands = λ x. refl;
+    steps = stepped in-rows (λ old. step-R read refl refl refl kept) (subst⁻¹ (λ (k : model.Kind). T (not (isQueryKind k))) (a .kind) tt);
   }
     where
       read : Read p job at Kind.R 0 (length job - at - 1)
@@ -98,7 +113,7 @@ module _ (p : Problem) {job : List ℕ} {at : ℕ} (reached : Reached p) (behind
       kept = row-kept p (reached-sized p reached) (getD job (at + 1) 0) (getD job (at + 2) 0) (getD job (at + 3) 0) 0 (a .accepted) (behindRow p job at v) refl (ap (behindRow p job at) e)
 
   pub eight-sets : EightAt (p .settings) (p .rows .given) job at → Sets p job at (behindEight p job at) 18
-  unfolding answerFor
+  unfolding answerFor problemAfter
   eight-sets a = record {
     kind = model.Kind.B;
     here = a .kind;
@@ -106,7 +121,9 @@ module _ (p : Problem) {job : List ℕ} {at : ℕ} (reached : Reached p) (behind
     room = a .room;
     goes = refl;
     silent = λ x. refl;
-    steps = stepped (λ old. step-B read refl refl (eight-kept p (reached-sized p reached) (drop (at + 1) job) (a .accepted))) (subst⁻¹ (λ (k : model.Kind). T (not (isQueryKind k))) (a .kind) tt);
+    cands = λ x. ap (λ (b : Basis). b .cands) (rows-set (rowsOfB (x .rest)) (x .problem));
+    steps = stepped in-rows (λ old. step-B read refl refl (eight-kept p (reached-sized p reached) (drop (at + 1) job) (a .accepted)))
+        (subst⁻¹ (λ (k : model.Kind). T (not (isQueryKind k))) (a .kind) tt);
   }
     where
       read : Read p job at Kind.B 0 (length job - at - 1)
@@ -123,7 +140,7 @@ module _ {p next : Problem} {job : List ℕ} {at bytes : ℕ} (a : Sets p job at
   abbrev c : Context
   c = contextAt (w .problem) job at free
 
-  s : Stepped c (replicate free 0) (replicate free 0) (record { number = 0; written = 0; problem = next })
+  s : Stepped c noBlocks noBlocks (replicate free 0) (replicate free 0) (record { number = 0; written = 0; problem = next })
   s = a .steps (w .problem) (w .holds) (w .valid) free
 
   passes : Passed engine c
@@ -160,8 +177,9 @@ module _ {p next : Problem} {job : List ℕ} {at bytes : ℕ} (a : Sets p job at
     problem = after;
     most = one-less .0;
     enough = omega (arith, w .enough, one-less .1, a .wide);
-    holds = s .answered refl .problem;
+    holds = s .answered refl .0 .problem;
     valid = after-valid c (kindOf (getD job at 0)) (passes .place) (passes .own) (w .valid);
+    cands = ap (λ (k : model.Kind). problemAfter c k .cands) (a .here) ∙ a .cands c ∙ w .cands;
     number = w .number ∙ ap (λ (y : Run). y .number) moved;
     offset = w .offset ∙ ap (λ (y : Run). y .offset) moved;
     written = w .written ∙ ap written moved ∙ rw nothing-said;

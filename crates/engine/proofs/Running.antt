@@ -27,7 +27,8 @@ use Rattle.model.proofs.Sound.{engine-lawful}
 use Rattle.model.proofs.Valid.{after-valid, valid-empty}
 use Rattle.model.proofs.Records.{left-by}
 use Rattle.problem.specs.declared.Problem.{Problem}
-use Rattle.problem.specs.Problems.{noProblem, Holds, Reached}
+use Rattle.incidence.specs.Stored.{BlocksAt}
+use Rattle.problem.specs.Problems.{noProblem, Holds, ReachedWith}
 use Rattle.problem.specs.declared.matrix.Matrix.{Matrix}
 use Rattle.problem.specs.Matrix.{MatrixOf, Prepares}
 use Rattle.problem.proofs.Keeping.{holds-empty}
@@ -74,15 +75,15 @@ nothing-left out n offset xs = append-nil out
 
 -- ---- the covering matrix: one that stands, one made anew, and a command that looks at none
 
-module _ {p : Problem} {k : Kind} {ready : Bool} {m : Matrix} where
-  pub refreshed-none : {rows : List ℕ} {b : Bool} → length rows ≡ 2048 → m .count ≤ 2048 → b ≡ isQueryKind k → b ≡ false → Refreshed p k ready m rows rows m
-  refreshed-none s l e z = record { size = s; within = l; matrix = λ q h f t. absurd (subst (λ (x : Bool). T x) (sym e ∙ z) t) }
+module _ {p : Problem} {held : List ℕ} {k : Kind} {ready : Bool} {m : Matrix} where
+  pub refreshed-none : {rows : List ℕ} {b : Bool} → length rows ≡ 2048 → m .count ≤ 2048 → b ≡ isQueryKind k → b ≡ false → Refreshed p held k ready m rows rows m
+  refreshed-none s l e z = record { size = s; within = l; matrix = λ q h b f t. absurd (subst (λ (x : Bool). T x) (sym e ∙ z) t) }
 
-  pub refreshed-same : {rows : List ℕ} → length rows ≡ 2048 → m .count ≤ 2048 → ready ≡ true → Refreshed p k ready m rows rows m
-  refreshed-same s l z = record { size = s; within = l; matrix = λ q h f t. f z }
+  pub refreshed-same : {rows : List ℕ} → length rows ≡ 2048 → m .count ≤ 2048 → ready ≡ true → Refreshed p held k ready m rows rows m
+  refreshed-same s l z = record { size = s; within = l; matrix = λ q h b f t. f z }
 
-  pub refreshed-anew : {old new : List ℕ} {r : Matrix} → Prepares p new r → Refreshed p k ready m old new r
-  refreshed-anew d = record { size = d .size; within = d .within; matrix = λ q h f t. d .matrix q h }
+  pub refreshed-anew : {old new : List ℕ} {r : Matrix} → Prepares p held new r → Refreshed p held k ready m old new r
+  refreshed-anew d = record { size = d .size; within = d .within; matrix = λ q h b f t. d .matrix q h b }
 
 -- ---- the buffer
 
@@ -103,13 +104,14 @@ tail-is n bs = part-to-end bs n
 
 -- ---- the loop's invariant: the run is what is written, and then the rest of the job
 
-pub record Going (job old answers : List ℕ) (p : Problem) (rows : List ℕ) (m : Matrix) (ready : Bool) (at done : ℕ) : Type 0 where
+pub record Going (job old answers held : List ℕ) (p : Problem) (rows : List ℕ) (m : Matrix) (ready : Bool) (at done : ℕ) : Type 0 where
   pub fuel : ℕ
   pub problem : model.Problem
   pub out : List ℕ
   pub enough : length job < at + fuel
   pub within : at ≤ length job
   pub holds : Holds p problem
+  pub blocks : BlocksAt (problem .cands) held
   pub valid : Valid problem
   pub counted : done ≡ length out
   pub bytes : answers ≡ out ++ drop (length out) old
@@ -125,16 +127,17 @@ pub record Going (job old answers : List ℕ) (p : Problem) (rows : List ℕ) (m
 pub not-ready : false ≡ true → ⊥
 not-ready z = let y : _≡_ {A = ℕ} 0 1 = cc in omega arith
 
-pub going-first : {job old rows : List ℕ} {p : Problem} {covered : Bool} → length job ≤ 32768 → length old ≤ 32768 → p ≡ noProblem
-    → length rows ≡ 2048 → Going job old old p rows (record { count = 0; covered = covered }) false 0 0
+pub going-first : {job old held rows : List ℕ} {p : Problem} {covered : Bool} → length job ≤ 32768 → length old ≤ 32768 → p ≡ noProblem
+    → BlocksAt [] held → length rows ≡ 2048 → Going job old old held p rows (record { count = 0; covered = covered }) false 0 0
 unfolding runBy
-going-first {job} {old} {rows} {p} {covered} h g e s = record {
+going-first {job} {old} {held} {rows} {p} {covered} h g e b s = record {
   fuel = suc (length job);
   problem = model.empty;
   out = [];
   enough = omega arith;
   within = omega arith;
   holds = subst⁻¹ (λ (y : Problem). Holds y model.empty) e holds-empty;
+  blocks = b;
   valid = valid-empty;
   counted = refl;
   bytes = refl;
@@ -151,15 +154,15 @@ going-first {job} {old} {rows} {p} {covered} h g e s = record {
     all-free : length old - 0 ≡ length old
     all-free = omega arith
 
-module _ {job old answers : List ℕ} {p : Problem} {rows : List ℕ} {m : Matrix} {ready : Bool} {at done : ℕ} (w : Going job old answers p rows m ready at done) where
+module _ {job old answers held : List ℕ} {p : Problem} {rows : List ℕ} {m : Matrix} {ready : Bool} {at done : ℕ} (w : Going job old answers held p rows m ready at done) where
   pub long : length answers ≡ length old
   long = ap length (w .bytes) ∙ omega (arith, length-append (w .out) (drop (length (w .out)) old), length-drop (length (w .out)) old, w .fits)
 
   pub done-le : done ≤ length answers
   done-le = omega (arith, long, w .counted, w .fits)
 
-  pub reached : Reached p
-  reached = record { problem = w .problem; holds = w .holds; valid = w .valid }
+  pub reached : ReachedWith p held
+  reached = record { problem = w .problem; holds = w .holds; blocks = w .blocks; valid = w .valid }
 
   free-is : length (tail done answers) ≡ length old - length (w .out)
   free-is = ap length (tail-is done answers) ∙ length-drop done answers ∙ omega (arith, long, w .counted)
@@ -184,24 +187,27 @@ module _ {job old answers : List ℕ} {p : Problem} {rows : List ℕ} {m : Matri
   fuel-suc l = one-left (w .fuel) l (w .enough)
 
   -- the job ends with this number and offset, and nothing more is written
-  ended : (n offset : ℕ) (xs : List Context) (after : List ℕ) {q : Problem}
+  ended : (n offset : ℕ) (xs : List Context) (after : List ℕ) {q : Problem} {sets : List ℕ}
       → commands engine (w .fuel) (w .problem) (drop at job) (length old - length (w .out)) at ≡ stop n offset xs → after ≡ answers
-      → Holds q (lastLeft engine (w .problem) xs) → EndsAs job old after (record { number = n; offset = offset; written = done; problem = q })
+      → Holds q (lastLeft engine (w .problem) xs) → BlocksAt (lastLeft engine (w .problem) xs .cands) sets
+      → EndsAs job old after sets (record { number = n; offset = offset; written = done; problem = q })
   unfolding bufferAfter written
-  ended n offset xs after {q} e a h =
+  ended n offset xs after {q} {sets} e a h b =
       let l : written (run job (length old)) ≡ w .out = w .written ∙ ap (λ (y : Run). w .out ++ written y) e ∙ nothing-left (w .out) n offset xs in
+      let left : lastRecord (run job (length old)) ≡ lastLeft engine (w .problem) xs = w .left ∙ ap (λ (y : Run). lastLeft engine (w .problem) (y .contexts)) e in
       record {
         number = sym (w .number ∙ ap (λ (y : Run). y .number) e);
         offset = sym (w .offset ∙ ap (λ (y : Run). y .offset) e);
         written = w .counted ∙ rw l;
         after = a ∙ w .bytes ∙ rw l;
-        problem = subst⁻¹ (Holds q) (w .left ∙ ap (λ (y : Run). lastLeft engine (w .problem) (y .contexts)) e) h;
+        problem = subst⁻¹ (Holds q) left h;
+        blocks = subst⁻¹ (λ (o : model.Problem). BlocksAt (o .cands) sets) left b;
       }
 
   -- ---- the job's bytes end
 
-  pub going-cut : length job ≤ at → EndsAs job old answers (record { number = 2; offset = at; written = done; problem = p })
-  going-cut l = ended 2 at [] answers (go (w .fuel)) refl (w .holds)
+  pub going-cut : length job ≤ at → EndsAs job old answers held (record { number = 2; offset = at; written = done; problem = p })
+  going-cut l = ended 2 at [] answers (go (w .fuel)) refl (w .holds) (w .blocks)
     where
       none : drop at job ≡ []
       none = ap (λ (k : ℕ). drop k job) (let e : at ≡ length job = omega (arith, w .within) in e) ∙ drop-length job
@@ -212,30 +218,32 @@ module _ {job old answers : List ℕ} {p : Problem} {rows : List ℕ} {m : Matri
 
   -- ---- a command
 
-  module _ (here : at < length job) {last : List ℕ} {e : Effect} (s : Stepped (contextAt (w .problem) job at (length (tail done answers))) (tail done answers) last e) where
+  module _ (here : at < length job) {last sets : List ℕ} {e : Effect} (s : Stepped (contextAt (w .problem) job at (length (tail done answers))) held sets (tail done answers) last e) where
     abbrev ctx : Context
     ctx = contextAt (w .problem) job at (length old - length (w .out))
 
-    s' : Stepped ctx (tail done answers) last e
-    s' = subst (λ (n : ℕ). Stepped (contextAt (w .problem) job at n) (tail done answers) last e) free-is s
+    s' : Stepped ctx held sets (tail done answers) last e
+    s' = subst (λ (n : ℕ). Stepped (contextAt (w .problem) job at n) held sets (tail done answers) last e) free-is s
 
     pub going-refused : {q : Problem} → (e .number ≡ 0 → ⊥) → q ≡ e .problem
-        → EndsAs job old (withTail done answers last) (record { number = e .number; offset = at; written = done; problem = q })
+        → EndsAs job old (withTail done answers last) sets (record { number = e .number; offset = at; written = done; problem = q })
     unfolding x
     going-refused {q} d qe =
         let n : refusal ctx ≡ 0 → ⊥ = λ z. d (s' .number ∙ z) in
         let step = ap (λ (n : ℕ). commands engine n (w .problem) (drop at job) (length old - length (w .out)) at) (fuel-suc here .1)
         ∙ run-refused (fuel-suc here .0) (w .problem) job at (length old - length (w .out)) here n in
-        let h : Holds q (leaves engine ctx) = subst⁻¹ (λ (y : Problem). Holds y (leaves engine ctx)) qe (subst⁻¹ (Holds (e .problem)) (left-by ctx .refused n) (s' .refused d .problem)) in
-        subst⁻¹ (λ (n : ℕ). EndsAs job old (withTail done answers last) (record { number = n; offset = at; written = done; problem = q })) (s' .number)
-        (ended (refusal ctx) at (ctx ∷ []) (withTail done answers last) step (put-same last (s' .refused d .bytes)) h)
+        let h : Holds q (leaves engine ctx) = subst⁻¹ (λ (y : Problem). Holds y (leaves engine ctx)) qe (subst⁻¹ (Holds (e .problem)) (left-by ctx .refused n) (s' .refused d .0 .problem)) in
+        let b : BlocksAt (leaves engine ctx .cands) sets = subst⁻¹ (λ (o : model.Problem). BlocksAt (o .cands) sets) (left-by ctx .refused n)
+        (subst⁻¹ (BlocksAt (w .problem .cands)) (s' .refused d .1) (w .blocks)) in
+        subst⁻¹ (λ (n : ℕ). EndsAs job old (withTail done answers last) sets (record { number = n; offset = at; written = done; problem = q })) (s' .number)
+        (ended (refusal ctx) at (ctx ∷ []) (withTail done answers last) step (put-same last (s' .refused d .0 .bytes)) h b)
 
     module _ (z : e .number ≡ 0) where
       ans : List ℕ
       ans = bytesOf (answer (contextAt (w .problem) job at (length old - length (w .out))))
 
       a : Answered ctx (kindOf (getD job at 0)) (tail done answers) last e
-      a = s' .answered z
+      a = s' .answered z .0
 
       passes : Passed engine ctx
       passes = passed engine engine-lawful ctx (sym (s' .number) ∙ z)
@@ -261,20 +269,21 @@ module _ {job old answers : List ℕ} {p : Problem} {rows : List ℕ} {m : Matri
       left-here = left-by ctx .answered (sym (s' .number) ∙ z)
 
       pub going-ended : {q : Problem} → is (kindOf (getD job at 0)) Kind.E ≡ true → q ≡ e .problem
-          → EndsAs job old (withTail done answers last) (record { number = 0; offset = at + 1; written = done + e .written; problem = q })
+          → EndsAs job old (withTail done answers last) sets (record { number = 0; offset = at + 1; written = done + e .written; problem = q })
       unfolding bufferAfter written x
       going-ended {q} k qe =
           let step = ap (λ (n : ℕ). commands engine n (w .problem) (drop at job) (length old - length (w .out)) at) (fuel-suc here .1)
           ∙ run-ended (fuel-suc here .0) (w .problem) job at (length old - length (w .out)) here (sym (s' .number) ∙ z) k in
           let l : written (run job (length old)) ≡ w .out ++ ans =
           one-more (stop 0 (at + 1) []) (w .written ∙ ap (λ (y : Run). w .out ++ written y) step) ∙ nothing-left (w .out ++ ans) 0 (at + 1) [] in
+          let left : lastRecord (run job (length old)) ≡ problemAfter ctx (kindOf (getD job at 0)) = w .left ∙ ap (λ (y : Run). lastLeft engine (w .problem) (y .contexts)) step ∙ left-here in
           record {
             number = sym (w .number ∙ ap (λ (y : Run). y .number) step);
             offset = sym (w .offset ∙ ap (λ (y : Run). y .offset) step);
             written = count-is ∙ rw l;
             after = put-back ∙ rw l;
-            problem = subst⁻¹ (Holds q) (w .left ∙ ap (λ (y : Run). lastLeft engine (w .problem) (y .contexts)) step ∙ left-here)
-                (subst⁻¹ (λ (y : Problem). Holds y (problemAfter ctx (kindOf (getD job at 0)))) qe (a .problem));
+            problem = subst⁻¹ (Holds q) left (subst⁻¹ (λ (y : Problem). Holds y (problemAfter ctx (kindOf (getD job at 0)))) qe (a .problem));
+            blocks = subst⁻¹ (λ (o : model.Problem). BlocksAt (o .cands) sets) left (s' .answered z .1);
           }
 
       pub width-fits : at + 1 + width (kindOf (getD job at 0)) ≤ length job
@@ -286,7 +295,7 @@ module _ {job old answers : List ℕ} {p : Problem} {rows : List ℕ} {m : Matri
 
       pub going-next : {q : Problem} {rows' : List ℕ} {m' : Matrix} {ready' : Bool} {at' : ℕ} → q ≡ e .problem → length rows' ≡ 2048 → m' .count ≤ 2048
           → (ready' ≡ true → T (isQueryKind (kindOf (getD job at 0))) × IsMatrix (w .problem) rows' m')
-          → is (kindOf (getD job at 0)) Kind.E ≡ false → at' ≡ at + 1 + width (kindOf (getD job at 0)) → Going job old (withTail done answers last) q rows' m' ready' at' (done + e .written)
+          → is (kindOf (getD job at 0)) Kind.E ≡ false → at' ≡ at + 1 + width (kindOf (getD job at 0)) → Going job old (withTail done answers last) sets q rows' m' ready' at' (done + e .written)
       unfolding x rest
       going-next {q} {rows'} {m'} {ready'} {at'} qe sz fw mx k ae =
           let step = ap (λ (n : ℕ). commands engine n (w .problem) (drop at job) (length old - length (w .out)) at) (fuel-suc here .1)
@@ -298,6 +307,7 @@ module _ {job old answers : List ℕ} {p : Problem} {rows : List ℕ} {m : Matri
             enough = omega (arith, w .enough, fuel-suc here .1, ae);
             within = omega (arith, ae, width-fits);
             holds = subst⁻¹ (λ (y : Problem). Holds y (problemAfter ctx (kindOf (getD job at 0)))) qe (a .problem);
+            blocks = s' .answered z .1;
             valid = after-valid ctx (kindOf (getD job at 0)) (passes .place) (passes .own) (w .valid);
             counted = count-is;
             bytes = put-back;
@@ -326,22 +336,22 @@ module _ {job old answers : List ℕ} {p : Problem} {rows : List ℕ} {m : Matri
 
 -- ---- a job or a buffer that is too long
 
-module _ (job old : List ℕ) {e : Ended} (t : e ≡ tooLong) where
-  refused-long : run job (length old) ≡ stop 1 0 [] → EndsAs job old old e
+module _ (job old : List ℕ) {held : List ℕ} (none : BlocksAt [] held) {e : Ended} (t : e ≡ tooLong) where
+  refused-long : run job (length old) ≡ stop 1 0 [] → EndsAs job old old held e
   unfolding bufferAfter written
-  refused-long r = rw t record { number = rw r; offset = rw r; written = rw r; after = rw r; problem = rw r holds-empty }
+  refused-long r = rw t record { number = rw r; offset = rw r; written = rw r; after = rw r; problem = rw r holds-empty; blocks = rw r none }
 
-  pub job-long : 32768 < length job → EndsAs job old old e
+  pub job-long : 32768 < length job → EndsAs job old old held e
   unfolding runBy
   job-long l = refused-long (rw (lt-ltb 32768 (length job) l))
 
-  pub buffer-long : length job ≤ 32768 → 32768 < length old → EndsAs job old old e
+  pub buffer-long : length job ≤ 32768 → 32768 < length old → EndsAs job old old held e
   unfolding runBy
   buffer-long h l = refused-long (rw (le-ltb 32768 (length job) h, lt-ltb 32768 (length old) l))
 
 -- ---- what the call tells
 
-module _ {job old new : List ℕ} {e : Ended} (h : EndsAs job old new e) where
+module _ {job old new held : List ℕ} {e : Ended} (h : EndsAs job old new held e) where
   pub tells-small : (e .offset ≤ 32768) × (e .written ≤ 32768)
   tells-small = let s = ends engine engine-lawful job (length old) in (omega (arith, h .offset, s .offset-small), omega (arith, h .written, s .written-small))
 

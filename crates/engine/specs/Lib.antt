@@ -1,3 +1,3 @@
 pub mod Steps
 pub mod Jobs
-pub mod Blocks
+pub mod RowBlocks

@@ -2,7 +2,9 @@
 ghost use mathlib.Core.Path.{_≡_};
 ghost use Prim.Native.Nat.{_+_, _*_, _^_, _≤_};
 ghost use lib.ListN.{length};
+ghost use mathlib.Core.List.{[]};
 ghost use Rattle.codec.specs.Kinds.{kindIs};
+ghost use Rattle.incidence.specs.Stored.{BlocksAt};
 ghost use Rattle.problem.specs.Problems.{Sized};
 ghost use Rattle.engine.specs.Jobs.{EndsAs, Refreshed};
 use crate::row_block;
@@ -39,25 +41,34 @@ pub fn pack(number: u8, offset: usize, written: usize) -> u64
 
 // The covering matrix that command k looks at: m as it stands where the command before was a query too, else made anew. Other commands look
 // at none.
-fn refresh(p: Problem, k: Kind, ready: bool, m: Matrix, rows: &mut [u64]) -> Matrix
+fn refresh(
+    p: Problem,
+    held: &[u64; 256],
+    k: Kind,
+    ready: bool,
+    m: Matrix,
+    rows: &mut [u64],
+) -> Matrix
     requires { ⌜ Sized p ⌝ }
     requires { ⌜ (length (now rows) ≡ 2048) × (m .count ≤ 2048) ⌝ }
-    ensures { λ r. ⌜ Refreshed p (kindIs k) ready m (now (rows .entry)) (now (rows .exit)) r ⌝ }
+    ensures { λ r. ⌜ Refreshed p (now (held .entry)) (kindIs k) ready m (now (rows .entry)) (now (rows .exit)) r ⌝ }
 {
     if kinds::is_query(k) {
         if ready {
             return m;
         }
-        return matrix::prepare(p, rows);
+        return matrix::prepare(p, held, rows);
     }
     m
 }
 
 // The commands one by one, but the rows behind I and W in one go, until one is refused, E is answered or the job's bytes end. The covering
-// matrix is kept from query to query. p is set right behind the step: so the compiler copies the record once, and not twice.
-pub fn run(job: &[u8], answers: &mut [u8]) -> Ended
+// matrix is kept from query to query. `held` has the sets of the blocks, at first of none. p is set right behind the step: so the compiler copies
+// the record once, and not twice.
+pub fn run(job: &[u8], answers: &mut [u8], held: &mut [u64; 256]) -> Ended
     requires { ⌜ (length (now job) ≤ 32768) × (length (now answers) ≤ 32768) ⌝ }
-    ensures { λ r. ⌜ EndsAs (now (job .entry)) (now (answers .entry)) (now (answers .exit)) r ⌝ }
+    requires { ⌜ BlocksAt [] (now held) ⌝ }
+    ensures { λ r. ⌜ EndsAs (now (job .entry)) (now (answers .entry)) (now (answers .exit)) (now (held .exit)) r ⌝ }
 {
     let mut p = problem::empty();
     let mut rows = [0u64; 2048];
@@ -70,12 +81,12 @@ pub fn run(job: &[u8], answers: &mut [u8]) -> Ended
     let mut written: usize = 0;
     while at < job.len() {
         let k = kinds::kind_of(job[at]);
-        m = refresh(p, k, ready, m, &mut rows);
+        m = refresh(p, held, k, ready, m, &mut rows);
         ready = kinds::is_query(k);
         let count = m.count;
         let found = &rows[..count];
         let free = &mut answers[written..];
-        let e = step::step(p, found, m.covered, job, at, free);
+        let e = step::step(p, held, found, m.covered, job, at, free);
         p = e.problem;
         if e.number != 0 {
             return Ended {

@@ -4,7 +4,9 @@
 // that the job leaves, for the program `dump`. `step` is any command of a job, `row_block` the R and B commands in one go, with
 // crate `eight_rows` for a B, `job` goes through them. The calls for Rattle are those of crate `library`.
 ghost use mathlib.Core.Path.{_≡_};
+ghost use mathlib.Core.List.{[]};
 ghost use Rattle.model.specs.Calls.{Met};
+ghost use Rattle.incidence.specs.Stored.{BlocksAt};
 ghost use Rattle.engine.specs.Jobs.{tooLong, EndsAs, called};
 use job::Ended;
 
@@ -24,9 +26,11 @@ fn too_long() -> Ended
     }
 }
 
-// Runs a job as `cover_job` does, and tells the record that its last command left too.
-pub fn run_job(job: &[u8], answers: &mut [u8]) -> Ended
-    ensures { λ r. ⌜ EndsAs (now (job .entry)) (now (answers .entry)) (now (answers .exit)) r ⌝ }
+// Runs a job as `cover_job` does, and tells the record that its last command left too, with the vertices of its blocks in `held`: sets of
+// candidates, at first empty.
+pub fn run_job(job: &[u8], answers: &mut [u8], held: &mut [u64; 256]) -> Ended
+    requires { ⌜ BlocksAt [] (now held) ⌝ }
+    ensures { λ r. ⌜ EndsAs (now (job .entry)) (now (answers .entry)) (now (answers .exit)) (now (held .exit)) r ⌝ }
 {
     if 32768 < job.len() {
         return too_long();
@@ -34,7 +38,7 @@ pub fn run_job(job: &[u8], answers: &mut [u8]) -> Ended
     if 32768 < answers.len() {
         return too_long();
     }
-    job::run(job, answers)
+    job::run(job, answers, held)
 }
 
 // Runs a job on two byte buffers: returns number × 2^32 + offset × 2^16 + written, and leaves the bytes of the finished answers in front
@@ -43,6 +47,7 @@ pub fn run_job(job: &[u8], answers: &mut [u8]) -> Ended
 pub extern "C" fn cover_job(job: &[u8], answers: &mut [u8]) -> u64
     ensures { λ r. ⌜ Met (called (now (job .entry)) (now (answers .entry)) r (now (answers .exit))) ⌝ }
 {
-    let e = run_job(job, answers);
+    let mut held = [0u64; 256];
+    let e = run_job(job, answers, &mut held);
     job::pack(e.number, e.offset, e.written)
 }

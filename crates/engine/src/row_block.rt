@@ -9,7 +9,7 @@ ghost use lib.ListN.{length};
 ghost use Rattle.model.specs.Commands as model;
 ghost use Rattle.problem.specs.Problems.{Reached};
 ghost use Rattle.eight_rows.specs.Rows.{rowsOf};
-ghost use Rattle.engine.specs.Blocks.{RowAt, placeBehind, ReadsInto, ReadsRows};
+ghost use Rattle.engine.specs.RowBlocks.{RowAt, placeBehind, ReadsInto, ReadsRows};
 use bits::byte;
 use problem::Problem;
 use problem::Settings;

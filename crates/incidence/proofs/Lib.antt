@@ -1,5 +1,7 @@
 pub mod Candidates
+pub mod Changes
 pub mod Matrix
 pub mod Sums
+pub mod BlockSums
 pub mod Products
 pub mod Uses

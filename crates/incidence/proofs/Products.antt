@@ -11,13 +11,14 @@ use lib.Pow.{pow-mono}
 use lib.Seq.{take-length, take-at}
 use Rattle.model.specs.declared.Term.{Term}
 use Rattle.model.specs.Base.{bit, from, below, every, filter, join}
-use Rattle.model.specs.Table.{Table, Cell, cell, cells, isOn, onCells, holds}
-use Rattle.model.specs.Candidates.{basis, covering}
+use Rattle.model.specs.Table.{Table, Cell, cell, cells, isOn, onCells}
+use Rattle.model.specs.Candidates.{Candidate, candidateHolds, basis, covering}
 use Rattle.model.specs.Presence.{sumAt, productUpTo, presence}
 use Rattle.model.proofs.Lists.{T-false, every-append, filter-append}
 use Rattle.model.proofs.Bits.{bit-le}
 use Rattle.bits.specs.Lists.{parts}
 use Rattle.bits.proofs.Lists.{below-split, parts-next, parts-split}
+use Rattle.incidence.specs.Stored.{Stored}
 use Rattle.incidence.specs.Rows.{OnBytes}
 use Rattle.incidence.specs.Presence.{TellsPresence, cellsBefore, pointsBefore, StandsAt}
 
@@ -81,37 +82,37 @@ module _ (p : Table) where
 
   -- ---- the product up to them
 
-  module _ (ts : List Term) (s : ℕ) where
-    product-before : (v j : ℕ) → v < 2 ^ p .n → j ≤ p .m → productUpTo (covering (basis p ts)) s (pointsBefore p v j) ≡ every (sumAt holds ts s) (filter (isOn p) (cellsBefore p v j))
+  module _ (cs : List Candidate) (s : ℕ) where
+    product-before : (v j : ℕ) → v < 2 ^ p .n → j ≤ p .m → productUpTo (covering (basis p cs)) s (pointsBefore p v j) ≡ every (sumAt candidateHolds cs s) (filter (isOn p) (cellsBefore p v j))
     unfolding productUpTo
-    product-before v j l h = ap (every (sumAt holds ts s)) (points-before v j l h)
+    product-before v j l h = ap (every (sumAt candidateHolds cs s)) (points-before v j l h)
 
     -- behind one cell more
     cell-more : (v j : ℕ) → v < 2 ^ p .n → j < p .m
-        → productUpTo (covering (basis p ts)) s (pointsBefore p v (j + 1))
-        ≡ (productUpTo (covering (basis p ts)) s (pointsBefore p v j) && every (sumAt holds ts s) (filter (isOn p) (cell v j ∷ [])))
+        → productUpTo (covering (basis p cs)) s (pointsBefore p v (j + 1))
+        ≡ (productUpTo (covering (basis p cs)) s (pointsBefore p v j) && every (sumAt candidateHolds cs s) (filter (isOn p) (cell v j ∷ [])))
     cell-more v j l h =
         product-before v (j + 1) l (omega arith)
-        ∙ ap (λ (xs : List Cell). every (sumAt holds ts s) (filter (isOn p) xs)) (cells-next v j)
-        ∙ ap (every (sumAt holds ts s)) (filter-append (isOn p) (cellsBefore p v j) (cell v j ∷ []))
-        ∙ every-append (sumAt holds ts s) (filter (isOn p) (cellsBefore p v j)) (filter (isOn p) (cell v j ∷ []))
-        ∙ ap (λ (b : Bool). b && every (sumAt holds ts s) (filter (isOn p) (cell v j ∷ []))) (sym (product-before v j l (omega arith)))
+        ∙ ap (λ (xs : List Cell). every (sumAt candidateHolds cs s) (filter (isOn p) xs)) (cells-next v j)
+        ∙ ap (every (sumAt candidateHolds cs s)) (filter-append (isOn p) (cellsBefore p v j) (cell v j ∷ []))
+        ∙ every-append (sumAt candidateHolds cs s) (filter (isOn p) (cellsBefore p v j)) (filter (isOn p) (cell v j ∷ []))
+        ∙ ap (λ (b : Bool). b && every (sumAt candidateHolds cs s) (filter (isOn p) (cell v j ∷ []))) (sym (product-before v j l (omega arith)))
 
     points-all : filter (isOn p) (cellsBefore p (2 ^ p .n) 0) ≡ onCells p
     unfolding onCells cells cellsBefore
     points-all = ap (filter (isOn p)) (append-nil (parts cellsOf (2 ^ p .n)))
 
-    product-all : productUpTo (covering (basis p ts)) s (pointsBefore p (2 ^ p .n) 0) ≡ presence (covering (basis p ts)) s
+    product-all : productUpTo (covering (basis p cs)) s (pointsBefore p (2 ^ p .n) 0) ≡ presence (covering (basis p cs)) s
     unfolding presence productUpTo
     product-all =
-        ap (every (sumAt holds ts s)) (points-front (cellsBefore p (2 ^ p .n) 0) front-all ∙ points-all ∙ sym (take-length (onCells p)))
+        ap (every (sumAt candidateHolds cs s)) (points-front (cellsBefore p (2 ^ p .n) 0) front-all ∙ points-all ∙ sym (take-length (onCells p)))
 
-module _ (on : List ℕ) (n m : ℕ) (ts : List Term) (s : ℕ) where
-  pub stands-none : StandsAt on n m ts s 0 0 true
+module _ (on : List ℕ) (n m : ℕ) (ts : List Term) (blocks : ℕ) (held : List ℕ) (s : ℕ) where
+  pub stands-none : StandsAt on n m ts blocks held s 0 0 true
   unfolding cellsBefore productUpTo
-  stands-none = record { up-to = λ p o. refl }
+  stands-none = record { up-to = λ p cs o q. refl }
 
-  module _ (size v j : ℕ) (product b : Bool) (z : size ≡ 2 ^ n) (l : v < size) (h : j < m) (e : b ≡ bit j (getD on v 0)) (stands : StandsAt on n m ts s v j product) where
+  module _ (size v j : ℕ) (product b : Bool) (z : size ≡ 2 ^ n) (l : v < size) (h : j < m) (e : b ≡ bit j (getD on v 0)) (stands : StandsAt on n m ts blocks held s v j product) where
     below-size : v < 2 ^ n
     below-size = subst (λ (k : ℕ). v < k) z l
 
@@ -119,40 +120,41 @@ module _ (on : List ℕ) (n m : ℕ) (ts : List Term) (s : ℕ) where
     unfolding isOn
     here p o = e ∙ ap (bit j) (o .bytes v below-size)
 
-    next : (p : Table) → OnBytes p n m on
-        → (product && every (sumAt holds ts s) (filter (isOn p) (cell v j ∷ []))) ≡ productUpTo (covering (basis p ts)) s (pointsBefore p v (j + 1))
-    next p o =
-        ap (λ (c : Bool). c && every (sumAt holds ts s) (filter (isOn p) (cell v j ∷ []))) (stands .up-to p o)
-        ∙ sym (cell-more p ts s v j (subst (λ (k : ℕ). v < 2 ^ k) (sym (o .inputs)) below-size) (subst (λ (k : ℕ). j < k) (sym (o .outputs)) h))
+    next : (p : Table) (cs : List Candidate) → OnBytes p n m on → Stored cs ts blocks held
+        → (product && every (sumAt candidateHolds cs s) (filter (isOn p) (cell v j ∷ []))) ≡ productUpTo (covering (basis p cs)) s (pointsBefore p v (j + 1))
+    next p cs o q =
+        ap (λ (c : Bool). c && every (sumAt candidateHolds cs s) (filter (isOn p) (cell v j ∷ []))) (stands .up-to p cs o q)
+        ∙ sym (cell-more p cs s v j (subst (λ (k : ℕ). v < 2 ^ k) (sym (o .inputs)) below-size) (subst (λ (k : ℕ). j < k) (sym (o .outputs)) h))
 
     -- a wanted cell is a point: its sum is multiplied in
-    pub stands-point : (sum new : Bool) → b ≡ true → sum ≡ sumAt holds ts s (cell v j) → new ≡ (product && sum) → StandsAt on n m ts s v (j + 1) new
-    stands-point sum new t g q = record { up-to = λ p o. q ∙ ap (λ (c : Bool). product && c) (g ∙ one p o) ∙ next p o }
+    pub stands-point : (sum new : Bool) → b ≡ true → ((cs : List Candidate) → Stored cs ts blocks held → sum ≡ sumAt candidateHolds cs s (cell v j))
+        → new ≡ (product && sum) → StandsAt on n m ts blocks held s v (j + 1) new
+    stands-point sum new t g f = record { up-to = λ p cs o q. f ∙ ap (λ (c : Bool). product && c) (g cs q ∙ one p cs o) ∙ next p cs o q }
       where
-        one : (p : Table) → OnBytes p n m on → sumAt holds ts s (cell v j) ≡ every (sumAt holds ts s) (filter (isOn p) (cell v j ∷ []))
-        one p o = rw (sym (here p o) ∙ t) (sym (and-true (sumAt holds ts s (cell v j))))
+        one : (p : Table) (cs : List Candidate) → OnBytes p n m on → sumAt candidateHolds cs s (cell v j) ≡ every (sumAt candidateHolds cs s) (filter (isOn p) (cell v j ∷ []))
+        one p cs o = rw (sym (here p o) ∙ t) (sym (and-true (sumAt candidateHolds cs s (cell v j))))
 
     -- any other cell is none
-    pub stands-cell : (new : Bool) → b ≡ false → new ≡ product → StandsAt on n m ts s v (j + 1) new
-    stands-cell new t q = record { up-to = λ p o. q ∙ sym (and-true product) ∙ ap (λ (c : Bool). product && c) (none p o) ∙ next p o }
+    pub stands-cell : (new : Bool) → b ≡ false → new ≡ product → StandsAt on n m ts blocks held s v (j + 1) new
+    stands-cell new t f = record { up-to = λ p cs o q. f ∙ sym (and-true product) ∙ ap (λ (c : Bool). product && c) (none p cs o) ∙ next p cs o q }
       where
-        none : (p : Table) → OnBytes p n m on → true ≡ every (sumAt holds ts s) (filter (isOn p) (cell v j ∷ []))
-        none p o = rw (sym (here p o) ∙ t)
+        none : (p : Table) (cs : List Candidate) → OnBytes p n m on → true ≡ every (sumAt candidateHolds cs s) (filter (isOn p) (cell v j ∷ []))
+        none p cs o = rw (sym (here p o) ∙ t)
 
-  pub stands-vertex : (v j : ℕ) (product : Bool) → j ≤ m → m ≤ j → StandsAt on n m ts s v j product → StandsAt on n m ts s (v + 1) 0 product
+  pub stands-vertex : (v j : ℕ) (product : Bool) → j ≤ m → m ≤ j → StandsAt on n m ts blocks held s v j product → StandsAt on n m ts blocks held s (v + 1) 0 product
   stands-vertex v j product l h stands = record {
-    up-to = λ p o.
+    up-to = λ p cs o q.
         let e : j ≡ p .m = omega (arith, o .outputs) in
-        stands .up-to p o
-        ∙ ap (λ (xs : List Cell). productUpTo (covering (basis p ts)) s (length (filter (isOn p) xs))) (ap (cellsBefore p v) e ∙ vertex-end p v);
+        stands .up-to p cs o q
+        ∙ ap (λ (xs : List Cell). productUpTo (covering (basis p cs)) s (length (filter (isOn p) xs))) (ap (cellsBefore p v) e ∙ vertex-end p v);
   }
 
   -- no output at or above j is wanted at vertex v
-  pub stands-left : (size v j x : ℕ) (product : Bool) → size ≡ 2 ^ n → v < size → j ≤ m → x ≡ 2 ^ j → leb x (getD on v 0) ≡ false → StandsAt on n m ts s v j product
-      → StandsAt on n m ts s (v + 1) 0 product
+  pub stands-left : (size v j x : ℕ) (product : Bool) → size ≡ 2 ^ n → v < size → j ≤ m → x ≡ 2 ^ j → leb x (getD on v 0) ≡ false → StandsAt on n m ts blocks held s v j product
+      → StandsAt on n m ts blocks held s (v + 1) 0 product
   unfolding isOn
   stands-left size v j x product z l h e g stands = record {
-    up-to = λ p o. stands .up-to p o ∙ ap (λ (xs : List Cell). productUpTo (covering (basis p ts)) s (length xs)) (sym (same p o) ∙ ap (filter (isOn p)) (vertex-end p v));
+    up-to = λ p cs o q. stands .up-to p cs o q ∙ ap (λ (xs : List Cell). productUpTo (covering (basis p cs)) s (length xs)) (sym (same p o) ∙ ap (filter (isOn p)) (vertex-end p v));
   }
     where
       off : (p : Table) → OnBytes p n m on → (u : ℕ) → j ≤ u → isOn p (cell v u) ≡ false
@@ -169,12 +171,12 @@ module _ (on : List ℕ) (n m : ℕ) (ts : List Term) (s : ℕ) where
           ∙ ap (λ (xs : List Cell). filter (isOn p) (cellsBefore p v j) ++ xs) (no-points p v j (p .m - j) (off p o))
           ∙ append-nil (filter (isOn p) (cellsBefore p v j))
 
-  pub stands-all : (v j : ℕ) (product : Bool) → v ≡ 2 ^ n → j ≡ 0 → StandsAt on n m ts s v j product → TellsPresence on n m ts s product
-  stands-all v j product e z stands p o =
+  pub stands-all : (v j : ℕ) (product : Bool) → v ≡ 2 ^ n → j ≡ 0 → StandsAt on n m ts blocks held s v j product → TellsPresence on n m ts blocks held s product
+  stands-all v j product e z stands p cs o q =
       let f : v ≡ 2 ^ p .n = e ∙ ap (λ (k : ℕ). 2 ^ k) (sym (o .inputs)) in
-      stands .up-to p o
-      ∙ ap₂ (λ (x y : ℕ). productUpTo (covering (basis p ts)) s (pointsBefore p x y)) f z
-      ∙ product-all p ts s
+      stands .up-to p cs o q
+      ∙ ap₂ (λ (x y : ℕ). productUpTo (covering (basis p cs)) s (pointsBefore p x y)) f z
+      ∙ product-all p cs s
 
 -- ---- the walk by vertex, then output
 

@@ -8,9 +8,12 @@ use lib.Bits.{bitAnd}
 use lib.ListN.{length, drop, getD}
 use Rattle.model.specs.declared.Term.{Term}
 use Rattle.model.specs.Base.{bit}
-use Rattle.model.specs.Table.{Table, inCube, holds, onCells}
+use Rattle.model.specs.Table.{Table, inCube, onCells}
+use Rattle.model.specs.Blocks.{vertexBit}
+use Rattle.model.specs.Candidates.{Candidate, candidateHolds}
 use Rattle.model.specs.Sets.{rowOf}
 use Rattle.bits.specs.Lists.{parts}
+use Rattle.incidence.specs.Stored.{Stored}
 
 -- on has the on bytes of table p, of n inputs and m outputs
 pub record OnBytes (p : Table) (n m : ℕ) (on : List ℕ) : Type 0 where
@@ -20,21 +23,30 @@ pub record OnBytes (p : Table) (n m : ℕ) (on : List ℕ) : Type 0 where
 
 -- ---- sets of candidates
 
--- the cube of t contains vertex v, and t drives output j: together, t holds the cell (law `cell-row`)
+-- the cube of entry t contains vertex v, and t drives output j
 abbrev pub hasVertex : Term → ℕ → Bool
 hasVertex t v = inCube (t .care) (t .value) v
 
 abbrev pub drivesOutput : Term → ℕ → Bool
 drivesOutput t j = bit j (t .outputs)
 
--- r serves as the set of the candidates whose cube contains vertex v, where on is the byte of v: a vertex without an on cell asks for none
-abbrev pub CubesFor : ℕ → List Term → ℕ → ℕ → Type 0
-CubesFor on ts v r = (on ≡ 0) ⊎ (r ≡ rowOf hasVertex ts v)
+-- a candidate has cells at vertex v: where it drives output j too, it holds the cell (law `cell-row`)
+abbrev pub atVertex : Candidate → ℕ → Bool
+atVertex (Candidate.term t) v = hasVertex t v
+atVertex (Candidate.block b) v = vertexBit b v
 
--- an array of 8 has at each output below m the set of the candidates that drive it
-pub record Driving (ts : List Term) (m : ℕ) (driving : List ℕ) : Type 0 where
-  pub size : length driving ≡ 8
-  pub sets : (j : ℕ) → j < m → getD driving j 0 ≡ rowOf drivesOutput ts j
+-- r serves as the set of the candidates at vertex v, where on is the byte of v: a vertex without an on cell asks for none
+abbrev pub CandidatesFor : ℕ → List Term → ℕ → List ℕ → ℕ → ℕ → Type 0
+CandidatesFor on ts blocks held v r = (on ≡ 0) ⊎ ((cs : List Candidate) → Stored cs ts blocks held → r ≡ rowOf atVertex cs v)
+
+-- an array of 8 has at each output below m the set that f says
+pub record AtOutputs (f : ℕ → ℕ) (m : ℕ) (array : List ℕ) : Type 0 where
+  pub size : length array ≡ 8
+  pub sets : (j : ℕ) → j < m → getD array j 0 ≡ f j
+
+-- the candidates that drive it
+abbrev pub Driving : List Term → ℕ → List ℕ → Type 0
+Driving ts m array = AtOutputs (rowOf drivesOutput ts) m array
 
 -- ---- rows into a buffer
 
@@ -54,10 +66,11 @@ pub record Appends (a : List ℕ) (at : ℕ) (xs : List ℕ) (k : ℕ) (b : List
 unfoldable pub cellRow : ℕ → ℕ → ℕ → List ℕ
 cellRow on row j = cond (bit j on) (row ∷ []) []
 
--- the rows of one vertex: cubes has the candidates whose cube contains it
+-- the rows of one vertex: here has the candidates at it
 unfoldable pub vertexRows : ℕ → ℕ → List ℕ → ℕ → List ℕ
-vertexRows on cubes driving m = parts (λ j. cellRow on (bitAnd cubes (getD driving j 0)) j) m
+vertexRows on here driving m = parts (λ j. cellRow on (bitAnd here (getD driving j 0)) j) m
 
--- the rows of all on cells, by vertex, then output
-abbrev pub AllRows : List ℕ → ℕ → ℕ → List Term → List ℕ → List ℕ → ℕ → Type 0
-AllRows on n m ts old new r = (p : Table) → OnBytes p n m on → Put (map (rowOf holds ts) (onCells p)) old new r
+-- the rows of all on cells, by vertex, then output; of any arrays no more than the cells of the largest table
+pub record AllRows (on : List ℕ) (n m : ℕ) (ts : List Term) (blocks : ℕ) (held old new : List ℕ) (r : ℕ) : Type 0 where
+  pub most : r ≤ 2048
+  pub put : (p : Table) (cs : List Candidate) → OnBytes p n m on → Stored cs ts blocks held → Put (map (rowOf candidateHolds cs) (onCells p)) old new r

@@ -15,31 +15,33 @@ use Rattle.model.specs.declared.Term.{Term}
 use Rattle.model.specs.Table.{Table}
 use Rattle.model.specs.Sets.{coverable}
 use Rattle.model.specs.declared.Prices.{Prices}
-use Rattle.model.specs.Candidates.{usual, termCost, basis, covering}
+use Rattle.model.specs.Candidates.{Candidate, termsAlone, usual, termCost, candidateCost, covering}
 use Rattle.model.specs.Commands as model
-use Rattle.model.specs.Commands.{basisOf, tableOf}
+use Rattle.model.specs.Commands.{tableOf}
 use Rattle.model.specs.Refusals.{Refusal, refuse, firstOf, size, badRow}
-use Rattle.model.specs.Library.{unpack, badVertex, refusalsOfWord, callRefusals, listCovers}
+use Rattle.model.specs.Library.{unpack, callBasis, badVertex, refusalsOfWord, callRefusals, listCovers}
 use Rattle.model.proofs.Lists.{zero-at, T-true, and-l, and-r, some-i, below-i, all-append}
 use Rattle.model.proofs.Runs.{Numbered, first-before, first-behind}
 use Rattle.model.proofs.Library.{listed-refused}
 use Rattle.bits.specs.Lists.{Filled}
 use Rattle.table.specs.Cubes.{Allowed, MayOf}
+use Rattle.incidence.proofs.Uses.{blocks-alone}
 use Rattle.rows.specs.Covers.{rowCovers}
 use Rattle.lister.specs.Lister.{Paged}
 use Rattle.answers.specs.Writers.{InFront}
 use Rattle.answers.proofs.Bytes.{one-more, same-long}
 use Rattle.problem.specs.declared.Problem.{Problem}
 use Rattle.problem.specs.declared.matrix.Matrix.{Matrix}
-use Rattle.problem.specs.Problems.{listed, Sized, Holds}
+use Rattle.problem.specs.Problems.{listed, Sized, HoldsCands, Holds}
 use Rattle.problem.specs.Refusing.{TermRefusal}
-use Rattle.problem.specs.Matrix.{RowsOf, Prepares, TellsCovered}
-use Rattle.problem.proofs.Keeping.{none-given, holds-cands}
+use Rattle.problem.specs.Matrix.{RowsOf, Prepares}
+use Rattle.problem.proofs.Keeping.{none-given, holds-alone, held-count}
 use Rattle.problem.proofs.Refusing.{held-rows}
 use Rattle.problem.proofs.Preparing.{rows-listed}
 use Rattle.library.specs.declared.Listed.{Listed}
 use Rattle.library.specs.declared.Listed.the-variants.{Filled as FilledWith, Refused}
-use Rattle.library.specs.Library.{Answers, calledTable, rightSizes, someBad, tableRefusals, Admitted, TableRefusal, problemOf, Padded, WordRefusal, WordsRefusal, RowFilled}
+use Rattle.library.specs.Library.{Answers, calledTable, rightSizes, someBad, tableRefusals, Admitted, TableRefusal, problemOf, Padded, WordRefusal, WordsRefusal}
+use Rattle.library.specs.Library.{TellsCovered, RowFilled}
 
 -- ---- 6
 
@@ -176,7 +178,7 @@ pub call-holds : (words : List ℕ) {n m : ℕ} {prices : Prices} {on dc on' dc'
       place = model.queried;
       settings = record { n = n; m = m; prices = prices };
       rows = record { on = on'; dc = dc'; given = replicate 256 0 };
-      candidates = listed terms weights (length words);
+      candidates = listed terms weights 0 (length words);
     }) (problemOf
     (calledTable n m on dc) words)
 call-holds words {n} {m} {prices} {on} {dc} {on'} {dc'} {terms} {weights} e h k f g t w = record {
@@ -190,8 +192,10 @@ call-holds words {n} {m} {prices} {on} {dc} {on'} {dc'} {terms} {weights} e h k 
     dc-bytes = λ v l. padded-at dc dc' g v;
     given = λ v l. none-given v;
   };
-  cands = holds-cands prices t (subst (λ (v : Prices). Filled 64 (map (termCost v) (map unpack words)) weights (length words)) e
-      (subst (λ (ts : List Term). Filled 64 (map (termCost prices) ts) weights (length words)) (t .same) w)) (ap (λ (v : Prices). map (termCost v) (map unpack words)) (sym e));
+  cands =
+      let ks = termsAlone (map unpack words) in
+      subst (λ (v : Prices). HoldsCands prices (listed terms weights 0 (length words)) ks (map (candidateCost v) ks)) e
+      (holds-alone prices t (subst (λ (ts : List Term). Filled 64 (map (termCost prices) ts) weights (length words)) (t .same) w));
 }
 
 module _ {p : Table} {count : ℕ} (a : Admitted p count) where
@@ -202,7 +206,7 @@ pub call-sized : (words : List ℕ) {r : Problem} {p : Table} → Admitted p (le
 call-sized words {r} {p} a h = record {
   inputs = omega (arith, h .settings .inputs, a .inputs);
   outputs = omega (arith, h .settings .outputs, a .outputs);
-  few = omega (arith, h .cands .terms .counted, length-map words unpack, a .few);
+  few = omega (arith, held-count r (problemOf p words) h, length-map (map unpack words) Candidate.term, length-map words unpack, a .few);
 }
 
 -- ---- 9 and 10
@@ -258,16 +262,17 @@ words-here words {p} {may} {r} z of f q h g = f (tableOf q) (of (tableOf q) (p .
 
 -- ---- the sets
 
-module _ {p : Problem} {out : List ℕ} {m : Matrix} (d : Prepares p out m) where
+module _ {p : Problem} {out : List ℕ} {m : Matrix} (d : Prepares p (replicate 256 0) out m) where
   told : (b : Bool) → m .covered ≡ b → TellsCovered p b
-  told b e q h = sym e ∙ d .matrix q h .told
+  told b e t words h = sym e ∙ d .matrix (problemOf t words) h (blocks-alone (map unpack words)) .told
 
   pub row-filled : {rows : List ℕ} {n start k : ℕ} {b : Bool} {old new : List ℕ} → m .covered ≡ true → rows ≡ take (m .count) out → n ≡ p .candidates .count
       → Paged (rowCovers n rows) start old new (record { count = k; more = b }) → RowFilled p start old new (FilledWith k b)
   row-filled {rows} {n} {start} {k} {b} {old} {new} c e i w = (
     told true c,
-    λ q h.
-        let r : RowsOf (basisOf q) rows = subst⁻¹ (λ (l : List ℕ). RowsOf (basisOf q) l) e (d .matrix q h .rows-of) in
+    λ t words h.
+        let q = problemOf t words in
+        let r : RowsOf (callBasis t words) rows = subst⁻¹ (λ (l : List ℕ). RowsOf (callBasis t words) l) e (d .matrix q h (blocks-alone (map unpack words)) .rows-of) in
         subst (λ (all : List ℕ). Paged all start old new (record { count = k; more = b })) (rows-listed p q rows n h r i) w,
   )
 
@@ -277,7 +282,7 @@ module _ {p : Problem} {out : List ℕ} {m : Matrix} (d : Prepares p out m) wher
 -- ---- the answer
 
 abbrev pub lastRefusal : Table → List ℕ → List Refusal
-lastRefusal p words = refuse 12 (not (coverable (covering (basis p (map unpack words))))) ∷ []
+lastRefusal p words = refuse 12 (not (coverable (covering (callBasis p words)))) ∷ []
 
 module _ (p : Table) (words : List ℕ) (start : ℕ) (old : List ℕ) where
   call-refused : {r : ℕ} → r ≡ firstOf (callRefusals p words) → (r ≡ 0 → ⊥) → Answers (listCovers p words start old) (Refused r) old
@@ -304,11 +309,11 @@ module _ (p : Table) (words : List ℕ) (start : ℕ) (old : List ℕ) where
       call-words d = call-refused (words-first ∙ sym (behind-table ∙ first-before (refusalsOfWords p words) (lastRefusal p words) (λ i. d (words-first ∙ i)))) d
 
       behind-words : w ≡ 0 → (c : Bool) → TellsCovered q c → firstOf (callRefusals p words) ≡ firstOf (refuse 12 (not c) ∷ [])
-      behind-words i c t = behind-table ∙ first-behind (refusalsOfWords p words) (lastRefusal p words) (words-numbered p words) (sym words-first ∙ i) ∙ rw (← t (problemOf p words) h)
+      behind-words i c t = behind-table ∙ first-behind (refusalsOfWords p words) (lastRefusal p words) (words-numbered p words) (sym words-first ∙ i) ∙ rw (← t p words h)
 
       pub call-row : w ≡ 0 → (r : Listed) {new : List ℕ} → RowFilled q start old new r → Answers (listCovers p words start old) r new
       unfolding listCovers
       call-row i (FilledWith k b) {new} f =
-          let a = f .1 (problemOf p words) h in
+          let a = f .1 p words h in
           rw (behind-words i true (f .0)) record { answer = rw (a .count, a .more); number = refl; filled = a .count; above = a .more; row = a .row }
       call-row i (Refused n) {new} f = rw (f .2, f .1) (call-refused (sym (behind-words i false (f .0))) (λ e. omega (arith, e)))

@@ -5,17 +5,18 @@ use mathlib.Core.Path.{_≡_, refl, sym, ap, _∙_}
 use mathlib.Core.Bool.{Bool, true, false, not, cond}
 use mathlib.Core.List.{List, [], _∷_, _++_, map, append-assoc}
 use lib.Dec.{T, eqb, eqb→eq}
-use lib.ListN.{length}
+use lib.ListN.{length, replicate}
 use borrow.Author.Tests.{eq-eqb, ne-eqb}
 use denote.Ref.{RefT, now}
 use Rattle.model.specs.Table.{Table}
-use Rattle.model.specs.Candidates.{basis, covering}
+use Rattle.model.specs.Candidates.{covering}
 use Rattle.model.specs.Refusals.{Refusal, refuse, firstOf}
 use Rattle.model.specs.Products.{tooMany}
-use Rattle.model.specs.Library.{unpack, callRefusals, rightRoom, multiplyRefusals, multiplyCovers, turn}
+use Rattle.model.specs.Library.{unpack, callBasis, callRefusals, rightRoom, multiplyRefusals, multiplyCovers, turn}
 use Rattle.model.proofs.Lists.{and-l, and-r}
 use Rattle.model.proofs.Presence.{presence-all}
 use Rattle.model.proofs.Runs.{first-before, first-behind}
+use Rattle.incidence.proofs.Uses.{blocks-alone}
 use Rattle.problem.specs.declared.Problem.{Problem}
 use Rattle.problem.specs.Problems.{Holds}
 use Rattle.problem.specs.Matrix.{PresenceOfAll, Multiplies}
@@ -63,7 +64,7 @@ module _ (p : Table) (words : List ℕ) (first second : RefT (List ℕ)) where
   early = refuse 6 (not (rightRoom a b)) ∷ tableRefusals p (length words)
 
   late : List Refusal
-  late = refuse 17 (tooMany (covering (basis p (map unpack words)))) ∷ []
+  late = refuse 17 (tooMany (covering (callBasis p words))) ∷ []
 
   in-order : multiplyRefusals p words a b ≡ early ++ (refusalsOfWords p words ++ (lastRefusal p words ++ late))
   unfolding multiplyRefusals callRefusals early late
@@ -96,29 +97,29 @@ module _ (p : Table) (words : List ℕ) (first second : RefT (List ℕ)) where
           back-refused (words-first ∙ sym (behind-early ∙ first-before (refusalsOfWords p words) (lastRefusal p words ++ late) (λ i. d (words-first ∙ i)))) d
 
       -- behind 9 and 10: 12, by the presence function at the set of all, then 17
-      module _ (i : w ≡ 0) {c : Bool} (t : PresenceOfAll q c) where
-        left : firstOf (multiplyRefusals p words a b) ≡ cond (not c) 12 (cond (tooMany (covering (basis p (map unpack words)))) 17 0)
+      module _ (i : w ≡ 0) {c : Bool} (t : PresenceOfAll q (replicate 256 0) c) where
+        left : firstOf (multiplyRefusals p words a b) ≡ cond (not c) 12 (cond (tooMany (covering (callBasis p words))) 17 0)
         unfolding late
         left =
             behind-early ∙ first-behind (refusalsOfWords p words) (lastRefusal p words ++ late) (words-numbered p words) (sym words-first ∙ i)
-            ∙ rw (← presence-all (covering (basis p (map unpack words))), ← t (problemOf p words) h)
+            ∙ rw (← presence-all (covering (callBasis p words)), ← t (problemOf p words) h (blocks-alone (map unpack words)))
 
         pub back-uncovered : c ≡ false → HandedBack (multiplyCovers p words (length (now first)) (length (now second))) first second first 12 0
         back-uncovered k = back-refused (sym (left ∙ rw k)) (λ e. omega (arith, e))
 
-        pub back-multiplied : c ≡ true → {row : RefT (List ℕ)} {number count : ℕ} → Multiplies q first second row number count
+        pub back-multiplied : c ≡ true → {row : RefT (List ℕ)} {number count : ℕ} → Multiplies q (replicate 256 0) first second row number count
             → HandedBack (multiplyCovers p words (length (now first)) (length (now second))) first second row number count
         unfolding multiplyCovers
-        back-multiplied k {row} {number} {count} m = go (tooMany (covering (basis p (map unpack words)))) refl
+        back-multiplied k {row} {number} {count} m = go (tooMany (covering (callBasis p words))) refl
           where
-            o : MultipliedTo (covering (basis p (map unpack words))) first second row number count
-            o = m (problemOf p words) h
+            o : MultipliedTo (covering (callBasis p words)) first second row number count
+            o = m (problemOf p words) h (blocks-alone (map unpack words))
 
             -- both rows are so long
             long : (n : ℕ) → length (now (turn n first second)) ≡ 1024
             long n = turned n first second (f .room z .0) (f .room z .1)
 
-            go : (x : Bool) → tooMany (covering (basis p (map unpack words))) ≡ x → HandedBack (multiplyCovers p words a b) first second row number count
+            go : (x : Bool) → tooMany (covering (callBasis p words)) ≡ x → HandedBack (multiplyCovers p words a b) first second row number count
             go true y =
                 rw (left, k, y)
                 (record { told = o .told ∙ rw y; counted = o .counted ∙ rw y; which = o .which ∙ rw y; size = o .size ∙ sym (f .room z .0); sets = o .sets ∙ rw y })
@@ -128,6 +129,6 @@ module _ (p : Table) (words : List ℕ) (first second : RefT (List ℕ)) where
                   told = o .told ∙ rw y;
                   counted = o .counted ∙ rw y;
                   which = o .which ∙ rw y;
-                  size = o .size ∙ sym (long (length (covering (basis p (map unpack words)) .points)));
+                  size = o .size ∙ sym (long (length (covering (callBasis p words) .points)));
                   sets = o .sets ∙ rw y;
                 })

@@ -7,19 +7,18 @@ use lib.Dec.{T, ltb, eqb}
 use lib.ListN.{getD, length, replicate}
 use Rattle.model.specs.Base.{below, some, join}
 use Rattle.model.specs.Table.{Table}
-use Rattle.model.specs.Sets.{irredundants}
-use Rattle.model.specs.Candidates.{usual, termCost, covering}
+use Rattle.model.specs.Sets.{coverable, irredundants}
+use Rattle.model.specs.Candidates.{termsAlone, usual, candidateCost, covering}
 use Rattle.model.specs.Commands as model
-use Rattle.model.specs.Commands.{basisOf, tableOf}
+use Rattle.model.specs.Commands.{tableOf}
 use Rattle.model.specs.Refusals.{Refusal, refuse, firstOf, size, badRow}
 use Rattle.model.specs.Library as model-library
-use Rattle.model.specs.Library.{unpack, badVertex, refusalsOfWord}
+use Rattle.model.specs.Library.{unpack, callBasis, badVertex, refusalsOfWord}
 use Rattle.table.specs.Cubes.{Allowed}
 use Rattle.lister.specs.Lister.{Paged}
 use Rattle.answers.specs.Writers.{InFront}
 use Rattle.problem.specs.declared.Problem.{Problem}
 use Rattle.problem.specs.Problems.{Holds}
-use Rattle.problem.specs.Matrix.{TellsCovered}
 use Rattle.library.specs.declared.Listed.{Listed}
 use Rattle.library.specs.declared.Listed.the-variants.{Filled, Refused}
 
@@ -96,8 +95,8 @@ problemOf p words = record {
   place = model.queried;
   settings = record { n = p .n; m = p .m; prices = usual };
   rows = record { on = p .on; dc = p .dc; given = [] };
-  cands = map unpack words;
-  weights = map (termCost usual) (map unpack words);
+  cands = termsAlone (map unpack words);
+  weights = map (candidateCost usual) (termsAlone (map unpack words));
 }
 
 -- a row in front of zeros, in an array of 256
@@ -117,7 +116,12 @@ WordsRefusal p words r =
 
 -- ---- the sets
 
--- 12 and the row as it was, or the page of the problem that p holds
+-- of a call whose problem p holds: b tells whether each wanted cell is held
+abbrev pub TellsCovered : Problem → Bool → Type 0
+TellsCovered p b = (t : Table) (words : List ℕ) → Holds p (problemOf t words) → b ≡ coverable (covering (callBasis t words))
+
+-- 12 and the row as it was, or the page of that call
 abbrev pub RowFilled : Problem → ℕ → List ℕ → List ℕ → Listed → Type 0
-RowFilled p start old new (Filled k b) = TellsCovered p true × ((q : model.Problem) → Holds p q → Paged (irredundants (covering (basisOf q))) start old new (record { count = k; more = b }))
+RowFilled p start old new (Filled k b) =
+    TellsCovered p true × ((t : Table) (words : List ℕ) → Holds p (problemOf t words) → Paged (irredundants (covering (callBasis t words))) start old new (record { count = k; more = b }))
 RowFilled p start old new (Refused n) = TellsCovered p false × (n ≡ 12) × (new ≡ old)

@@ -1,7 +1,8 @@
 // The library calls: the irredundant covers of a table and a list of terms, a row at a time, or all of them by multiplication.
 //
 // `list_covers` is the call for Rattle; its contract says that answer and row are those of `listCovers` in crate `model`. `multiply_covers` is
-// K8's; its contract says so of `multiplyCovers`, and which of the two lent rows is handed back.
+// K8's; its contract says so of `multiplyCovers`, and which of the two lent rows is handed back. By K10 they take terms alone: `held`, which has
+// the blocks at each vertex, is lent empty.
 // The tests come in the calls' own order: 6, 8 by rising vertex, 11, then 9 and 10 term by term, then 12, and 17 of the multiplication.
 ghost use mathlib.Core.Path.{_≡_};
 ghost use mathlib.Core.List.{map};
@@ -145,6 +146,7 @@ fn problem_of(n: u8, m: u8, on: &[u8], dc: &[u8], words: &[u32]) -> Problem
         candidates: Candidates {
             terms: terms,
             weights: weights::weights(prices, terms, count),
+            blocks: 0,
             count: count,
         },
     }
@@ -187,8 +189,9 @@ fn fill_row(p: Problem, start: u64, row: &mut [u64]) -> Listed
     requires { ⌜ Sized p ⌝ }
     ensures { λ r. ⌜ RowFilled p start (now (row .entry)) (now (row .exit)) r ⌝ }
 {
+    let held = [0u64; 256];
     let mut rows = [0u64; 2048];
-    let m = matrix::prepare(p, &mut rows);
+    let m = matrix::prepare(p, &held, &mut rows);
     if m.covered {
         let count = m.count;
         let page = cursor::fill(&rows[..count], p.candidates.count as u64, start, row);
@@ -270,8 +273,9 @@ pub fn multiply_covers<'a>(
     if wrong != 0 {
         return first;
     }
-    if matrix::is_covered(p) {
-        return products::multiply(p, first, second, number, count);
+    let held = [0u64; 256];
+    if matrix::is_covered(p, &held) {
+        return products::multiply(p, &held, first, second, number, count);
     }
     *number = 12;
     first

@@ -85,12 +85,13 @@ fn words(terms: [Term; 64]) -> [u32; 64] {
     all
 }
 
-// The cheapest cover of the first count terms, and its cost.
+// The cheapest cover of the first count terms, and its cost. None is a block.
 fn show_cheapest(on: &[u8; 256], terms: [Term; 64], count: usize)
     requires { ⌜ count ≤ 64 ⌝ }
 {
+    let held = [0u64; 256];
     let mut all = [0u64; 2048];
-    let k = rows::rows(on, terms, count, 7, 1, &mut all);
+    let k = rows::rows(on, terms, count, 0, &held, 7, 1, &mut all);
     let weights = problem::weights::weights(problem::usual_prices(), terms, count);
     if k <= 2048 {
         if let Optimum::Cover(set, cost) = search::cheapest(&all[..k], &weights[..count]) {

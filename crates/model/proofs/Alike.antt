@@ -7,15 +7,16 @@ use mathlib.Core.List.{List}
 use lib.Dec.{T, T-not, ltb}
 use lib.Arith.{le→nltb}
 use lib.ListN.{length, take, length-take}
-use Rattle.model.specs.Commands.{Kind, is, kindOf, width, Problem, Context, operand, addRows, problemAfter}
+use Rattle.model.specs.Commands.{Kind, is, kindOf, width, Problem, Context, operand, addRows, addBlock, problemAfter}
 use Rattle.model.specs.Answers.{answerFor, answer}
-use Rattle.model.specs.Refusals.{rowsRefusals, refusalsOf}
+use Rattle.model.specs.Refusals.{rowsRefusals, blockRefusals, refusalsOf}
 use Rattle.model.specs.Rules.{refusalsBy, refusalBy, refusal}
 use Rattle.model.specs.Standing.{commandOf}
 use Rattle.model.specs.Pieces.{reach}
 use Rattle.model.proofs.Lists.{T-false}
 use Rattle.model.proofs.Runs.{context}
 use Rattle.model.proofs.RowByRow.{same-rows}
+use Rattle.model.proofs.BlockBytes.{same-block}
 use Rattle.model.proofs.Replay.{same-operand}
 use Rattle.model.proofs.FreshQuery.{same-answer}
 use Rattle.model.proofs.Pieces.{Within, all-or-within}
@@ -57,6 +58,9 @@ does-by x bs Kind.T e g f =
     let b = g 1 (omega arith) in
     let c = g 2 (omega arith) in
     record { refusals = rw (a, b, c); answer = refl; after = rw (a, b, c) }
+does-by x bs Kind.F e g f =
+    let a = same-block bs (x .rest) g in
+    record { refusals = ap (blockRefusals (x .problem)) a; answer = refl; after = ap (addBlock (x .problem)) a }
 does-by x bs Kind.P e g f = record { refusals = refl; answer = refl; after = refl }
 does-by x bs Kind.A e g f =
     let a = g 0 (omega arith) in

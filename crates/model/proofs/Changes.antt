@@ -9,11 +9,11 @@ use lib.Dec.{T, ltb, ltb→lt}
 use lib.Count.{ones, onesIn}
 use lib.ListN.{getD, length, take, drop}
 use Rattle.model.specs.Base.{filter}
-use Rattle.model.specs.Table.{Term, term, isOn, onCells, isDc, isOff, cells, holds, formed, holdsNoOff, legal}
+use Rattle.model.specs.Table.{term, isOn, onCells, isDc, isOff, cells, holds, formed, holdsNoOff, legal}
 use Rattle.model.specs.Primes.{contains, sameTerm, containedIn, terms, prime, primes}
 use Rattle.model.specs.Sets.{irredundants, irredundant, redundant, covers, cover, coverable, cost, cheapest}
 use Rattle.model.specs.Pages.{page, more, atOrAbove}
-use Rattle.model.specs.Candidates.{literalsCharged, termCost, basis}
+use Rattle.model.specs.Candidates.{Candidate, termsAlone, literalsCharged, termCost, basis}
 use Rattle.model.specs.Commands.{Kind, isQueryKind, kindOf, empty, Context, problemAfter}
 use Rattle.model.specs.Answers.{answer, answerFor}
 use Rattle.model.specs.Refusals.{refusalsOf}
@@ -22,7 +22,7 @@ use Rattle.model.specs.Job.{run, runBy}
 use Rattle.model.specs.Demand3.{ArePrimes}
 use Rattle.model.specs.Cases.{example, exampleHead, bothOn}
 use Rattle.model.specs.Standing.{Command, commandOf, Behind, setsTo, standing, SetBy, freshJob, GivesAlone}
-use Rattle.model.proofs.Cubes.{primes-iff}
+use Rattle.model.proofs.Pricing.{only-primes}
 use Rattle.model.proofs.Fresh.{fresh}
 
 -- ---- the job, and its first L behind C, D and A
@@ -53,7 +53,7 @@ before = take 14 read
 
 -- ---- what stands, and the fresh job
 
-pub changed-stands : standing (map commandOf before) ≡ basis example (term 1 0 1 ∷ term 3 1 3 ∷ term 2 2 2 ∷ term 3 2 3 ∷ term 2 0 1 ∷ term 1 1 2 ∷ [])
+pub changed-stands : standing (map commandOf before) ≡ basis example (termsAlone (term 1 0 1 ∷ term 3 1 3 ∷ term 2 2 2 ∷ term 3 2 3 ∷ term 2 0 1 ∷ term 1 1 2 ∷ []))
 unfolding irredundants irredundant redundant covers cover coverable cost cheapest page more atOrAbove isOn onCells isDc isOff cells holds formed holdsNoOff legal literalsCharged termCost ones onesIn runBy kindOf refusalBy refusalsBy refusalsOf answer answerFor problemAfter setsTo
 changed-stands = refl
 
@@ -93,12 +93,13 @@ one : primes bothOn ≡ term 0 0 1 ∷ []
 unfolding isOn cells holds primes prime legal formed holdsNoOff isOff isDc contains sameTerm containedIn terms
 one = refl
 
-once : (t u : Term) → List·Memᴰ t (u ∷ u ∷ []) → List·Memᴰ t (u ∷ [])
-once t u (List·Memᴰ·head e) = List·Memᴰ·head e
-once t u (List·Memᴰ·tail m) = m
+once : (c d : Candidate) → List·Memᴰ c (d ∷ d ∷ []) → List·Memᴰ c (d ∷ [])
+once c d (List·Memᴰ·head e) = List·Memᴰ·head e
+once c d (List·Memᴰ·tail m) = m
 
-pub primes-by-others : ArePrimes (basis bothOn (term 0 0 1 ∷ term 0 0 1 ∷ []))
-primes-by-others t = (
-  (λ p. List·Memᴰ·tail (subst (λ (ts : List Term). List·Memᴰ t ts) one (primes-iff bothOn t .0 p))),
-  (λ m. primes-iff bothOn t .1 (subst⁻¹ (λ (ts : List Term). List·Memᴰ t ts) one (once t (term 0 0 1) m))),
-)
+pub primes-by-others : ArePrimes (basis bothOn (termsAlone (term 0 0 1 ∷ term 0 0 1 ∷ [])))
+primes-by-others c =
+    let here : termsAlone (primes bothOn) ≡ Candidate.term (term 0 0 1) ∷ [] = ap termsAlone one in (
+      (λ p. List·Memᴰ·tail (subst (λ (cs : List Candidate). List·Memᴰ c cs) here (only-primes bothOn c .0 p))),
+      (λ m. only-primes bothOn c .1 (subst⁻¹ (λ (cs : List Candidate). List·Memᴰ c cs) here (once c (Candidate.term (term 0 0 1)) m))),
+    )

@@ -16,6 +16,7 @@ kind-of-code Kind.W = refl
 kind-of-code Kind.R = refl
 kind-of-code Kind.B = refl
 kind-of-code Kind.T = refl
+kind-of-code Kind.F = refl
 kind-of-code Kind.P = refl
 kind-of-code Kind.A = refl
 kind-of-code Kind.D = refl

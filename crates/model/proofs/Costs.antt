@@ -1,4 +1,4 @@
--- The cost of a term: its literals charged, few or many; K1's rule without a W; more literals do not lower it at connection price 0, and
+-- The cost of a candidate. Of a term: its literals charged, few or many; K1's rule without a W; more literals do not lower it at connection price 0, and
 -- it is small.
 use Prim.Native.Nat.{_+_, _≤_, _<_}
 use native.Mathlib.Omega.{arith}
@@ -10,8 +10,8 @@ use lib.Dec.{T, ltb, ltb→lt, lt→ltb, nltb→le}
 use lib.Arith.{le→nltb}
 use lib.Count.{ones, ones-le}
 use Rattle.model.specs.Table.{Term}
-use Rattle.model.specs.Candidates.{Prices, usual, literalsCharged, termCost}
-use Rattle.model.specs.Invariants.{Small, Moderate}
+use Rattle.model.specs.Candidates.{Candidate, Prices, usual, literalsCharged, termCost, candidateCost}
+use Rattle.model.specs.Invariants.{Small, SmallCandidate, Moderate}
 use Rattle.model.proofs.Lists.{yes-or-no, T-true, T-false}
 
 pub charged-few : (t : Term) → ones (t .care) < 2 → literalsCharged t ≡ 0
@@ -66,3 +66,7 @@ charged-small t l = go (charged t)
 pub cost-small : (w : Prices) (t : Term) → Moderate w → Small t → termCost w t ≤ 850
 unfolding termCost
 cost-small w t m s = omega (arith, m .term, mul-le-mul (m .literal) (charged-small t (s .0)), mul-le-mul (m .connection) (ones-le 8 (t .outputs) (s .2)))
+
+pub weight-small : (w : Prices) → Moderate w → (c : Candidate) → SmallCandidate c → candidateCost w c ≤ 850
+weight-small w m (Candidate.term t) s = cost-small w t m s
+weight-small w m (Candidate.block b) s = s .weight

@@ -12,7 +12,7 @@ use Rattle.model.specs.Base.{some, All}
 use Rattle.model.specs.Sets.{coverable, cost, cheapest, Best}
 use Rattle.model.specs.Products.{tooMany}
 use Rattle.model.specs.Pages.{Page, PageOf, isLast}
-use Rattle.model.specs.Candidates.{Basis, covering, HoldsExactly, LegalBasis}
+use Rattle.model.specs.Candidates.{Candidate, Basis, covering, HoldsExactly, LegalBasis}
 use Rattle.model.specs.Commands.{Kind, is, isQueryKind, width, allowed, pricesOf, basisOf, Context, start, count, coveringOf}
 use Rattle.model.specs.Answers.{Answer, hasBytes, answerFor, answer, bytesOf}
 use Rattle.model.specs.Refusals.{Refusal, refuse, firstOf, refusalsOf}
@@ -130,7 +130,7 @@ correct b x s h = subst (λ (z : Basis). T (coverable (covering z)) → Correct 
     best : T (coverable (coveringOf x)) → x .kind ≡ Kind.C → (c : ℕ) × (s : ℕ) × (answer x ≡ Answer.cheapestIs c s) × Best (coveringOf x) c s × NoCheaperList (basisOf (x .problem)) c
     best c e =
         let s = cheapest (coveringOf x) in
-        (cost (coveringOf x) s, s, rw e, cheapest-best (coveringOf x) c, λ n f. no-cheaper-list (basisOf (x .problem)) (cost-dearer (pricesOf (x .problem)) n) (λ u. f u .0))
+        (cost (coveringOf x) s, s, rw e, cheapest-best (coveringOf x) c, λ n f. no-cheaper-list (basisOf (x .problem)) (cost-dearer (pricesOf (x .problem)) n) (λ u. f (Candidate.term u) .0))
 
     all : x .kind ≡ Kind.N → answer x ≡ Answer.productsAre (coversOf (basisOf (x .problem)))
     all e = rw e (ap Answer.productsAre (products-irredundants (coveringOf x)))

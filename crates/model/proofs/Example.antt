@@ -13,7 +13,7 @@ use Rattle.model.specs.Table.{isOn, onCells, isDc, isOff, cells, holds, 
 use Rattle.model.specs.Sets.{irredundants, irredundant, redundant, covers, cover, coverable, cost, cheapest}
 use Rattle.model.specs.Products.{containsNoOther, holders, joined, kept, productsUpTo, products, tooMany}
 use Rattle.model.specs.Pages.{page, more, atOrAbove, nextStart, Page, isLast, joinedSets, InOrder, Joined}
-use Rattle.model.specs.Candidates.{literalsCharged, termCost, basis}
+use Rattle.model.specs.Candidates.{termsAlone, literalsCharged, termCost, basis}
 use Rattle.model.specs.Commands.{Kind, is, kindOf, low, problemAfter}
 use Rattle.model.specs.Answers.{hasBytes, answer, answerFor}
 use Rattle.model.specs.Refusals.{refusalsOf}
@@ -79,7 +79,7 @@ met : All Met calls
 unfolding irredundants irredundant redundant covers cover coverable cost cheapest page more atOrAbove isOn onCells isDc isOff cells holds formed holdsNoOff legal literalsCharged termCost ones onesIn runBy kindOf packed written bufferAfter refusalBy refusalsBy refusalsOf answer answerFor problemAfter products tooMany productsUpTo kept joined holders containsNoOther
 met = (record { returned = refl; after = refl }, (record { returned = refl; after = refl }, tt))
 
-stands : All (StandsOn (basis example sixTerms)) exchanges
+stands : All (StandsOn (basis example (termsAlone sixTerms))) exchanges
 unfolding irredundants irredundant redundant covers cover coverable cost cheapest page more atOrAbove isOn onCells isDc isOff cells holds formed holdsNoOff legal literalsCharged termCost ones onesIn runBy kindOf refusalBy refusalsBy refusalsOf answer answerFor problemAfter decoded read readIn products tooMany productsUpTo kept joined holders containsNoOther
 stands = ((tt, refl), ((tt, refl), ((tt, refl), ((tt, refl), ((tt, refl), tt)))))
 
@@ -91,10 +91,10 @@ pub joined-are : joinedSets pages ≡ 11 ∷ 22 ∷ 26 ∷ 41 ∷ 52 ∷ 56 ∷ 
 unfolding irredundants irredundant redundant covers cover coverable cost cheapest page more atOrAbove isOn onCells isDc isOff cells holds formed holdsNoOff legal literalsCharged termCost ones onesIn runBy kindOf refusalBy refusalsBy refusalsOf answer answerFor problemAfter decoded read readIn products tooMany productsUpTo kept joined holders containsNoOther
 joined-are = refl
 
-pub all-right : Demand (basis example sixTerms) exchanges
-all-right = demand-3 (basis example sixTerms) calls met .bytes exchanges (sublist-filter isAsked (allRead engine calls)) stands
+pub all-right : Demand (basis example (termsAlone sixTerms)) exchanges
+all-right = demand-3 (basis example (termsAlone sixTerms)) calls met .bytes exchanges (sublist-filter isAsked (allRead engine calls)) stands
 
-pub all-joined : Joined (coversOf (basis example sixTerms)) pages
+pub all-joined : Joined (coversOf (basis example (termsAlone sixTerms))) pages
 all-joined = all-right .pages .joined (inOrder-e [] pages in-order)
 
 -- and an N that is answered has their sets: there is one, and the last page has more 0
@@ -106,7 +106,7 @@ unfolding irredundants irredundant redundant covers cover coverable cost cheapes
 one-multiplied = tt
 
 -- K9: they are all pages of this table and these terms
-pub all-pages : AllPages (basis example sixTerms) pages
+pub all-pages : AllPages (basis example (termsAlone sixTerms)) pages
 unfolding irredundants irredundant redundant covers cover coverable cost cheapest page more atOrAbove isOn onCells isDc isOff cells holds formed holdsNoOff legal literalsCharged termCost ones onesIn runBy kindOf refusalBy refusalsBy refusalsOf answer answerFor problemAfter decoded read readIn products tooMany productsUpTo kept joined holders containsNoOther
 all-pages = record {
   calls = calls;

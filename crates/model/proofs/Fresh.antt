@@ -1,31 +1,31 @@
 -- K2: an L, C or N that is answered is answered the same in a fresh job with the standing candidates.
-use Prim.Native.Nat.{ℕ, suc, _-_, _*_, _≤_, _<_}
+use Prim.Native.Nat.{ℕ, suc, _-_, _*_, _≤_}
 use native.Mathlib.Omega.{arith}
 use mathlib.Core.Path.{_≡_, refl, sym, ap, _∙_, subst⁻¹}
-use mathlib.Core.Bool.{Bool, not}
+use mathlib.Core.Bool.{not}
 use mathlib.Core.List.{List, [], _∷_, _++_, map, List·Memᴰ, List·Memᴰ·head, Memᴰ·append-right}
 use lib.Dec.{T, T-not}
 use lib.ListN.{length, length-append}
-use Rattle.model.specs.Base.{filter, join, All, Bytes}
-use Rattle.model.specs.Table.{Term}
-use Rattle.model.specs.Candidates.{Basis}
-use Rattle.model.specs.Commands.{Kind, is, kindOf, width, Context}
+use Rattle.model.specs.Base.{All}
+use Rattle.model.specs.Candidates.{Candidate, Basis}
+use Rattle.model.specs.Commands.{Kind, is, Context}
 use Rattle.model.specs.Answers.{bytesOf, answerFor, answer}
 use Rattle.model.specs.Rules.{engine, refusal}
 use Rattle.model.specs.Job.{Run, run}
 use Rattle.model.specs.Calls.{ran, Reads}
-use Rattle.model.specs.Invariants.{Small, Valid}
+use Rattle.model.specs.Invariants.{SmallCandidate, Valid}
 use Rattle.model.specs.Demand3.{isQuery}
-use Rattle.model.specs.Standing.{Command, commandOf, commandBytes, Behind, setsUp, termCommand, freshJob, GivesAlone, Fresh, FreshAnswered, FreshRead}
-use Rattle.model.proofs.Lists.{all-append, all-filter, all-take, all-drop, all-to, all-join, all-map}
-use Rattle.model.proofs.Codes.{is-kind, code-byte}
+use Rattle.model.specs.Standing.{commandOf, commandBytes, Behind, addingCommand, addedAgain, freshJob, GivesAlone, Fresh, FreshAnswered, FreshRead}
+use Rattle.model.proofs.Lists.{all-to}
+use Rattle.model.proofs.Codes.{is-kind}
 use Rattle.model.proofs.Runs.{context, OnRuns, IfEnds, IfGoes, run-ind, run-is, judged}
 use Rattle.model.proofs.Sound.{engine-lawful}
 use Rattle.model.proofs.Valid.{valid}
 use Rattle.model.proofs.Caller.{caller}
 use Rattle.model.proofs.Exchanges.{reply-read}
 use Rattle.model.proofs.Demand3.{query-kind, has-bytes}
-use Rattle.model.proofs.Behind.{all-here, all-before}
+use Rattle.model.proofs.Behind.{all-here}
+use Rattle.model.proofs.BlockBytes.{block-long}
 use Rattle.model.proofs.Standing.{stands}
 use Rattle.model.proofs.Replay.{ending}
 use Rattle.model.proofs.FreshRows.{rowsOf, rows-replayed, rows-short}
@@ -60,28 +60,32 @@ rooms job room = run-ind engine engine-lawful Rooms (λ q free at e. absurd (ome
 
 -- ---- a query and its fresh job
 
-terms-length : (ts : List Term) → length (join (map termCommand ts)) ≡ 4 * length ts
-terms-length [] = refl
-terms-length (t ∷ ts) = let r = terms-length ts in omega arith
+adding-length : (c : Candidate) → SmallCandidate c → length (commandBytes (addingCommand c)) ≤ 36
+adding-length (Candidate.term t) s = omega arith
+adding-length (Candidate.block b) s = omega (arith, block-long b s)
+
+added-length : (cs : List Candidate) → All SmallCandidate cs → length (addedAgain cs) ≤ 36 * length cs
+added-length [] a = omega arith
+added-length (c ∷ cs) a = omega (arith, length-append (commandBytes (addingCommand c)) (addedAgain cs), adding-length c (a .0), added-length cs (a .1))
 
 module _ (job : List ℕ) (room : ℕ) (before : List Context) (x : Context) (g : Behind (run job room) before x) where
   abbrev r : Run
   r = run job room
 
-  fair : Valid (x .problem)
+  pub fair : Valid (x .problem)
   fair = all-here (λ (y : Context). Valid (y .problem)) r before x g (valid job room)
 
-  pieces : freshJob (map commandOf before) (commandOf x) ≡ rowsOf before ++ tailOf x
-  pieces = ap (λ (b : Basis). rowsOf before ++ (join (map termCommand (b .cands)) ++ (commandBytes (commandOf x) ++ ending))) (sym (stands job room before x g))
+  pub pieces : freshJob (map commandOf before) (commandOf x) ≡ rowsOf before ++ tailOf x
+  pieces = ap (λ (b : Basis). rowsOf before ++ (addedAgain (b .cands) ++ (commandBytes (commandOf x) ++ ending))) (sym (stands job room before x g))
 
-  -- 3 bytes of I, 4 of W, 4 for each of 256 rows and of 64 candidates, the query and E
+  -- 3 bytes of I, 4 of W, 4 for each of 256 rows, at most 36 for each of 64 candidates, the query and E
   fresh-short : T (isQuery x) → length (rowsOf before ++ tailOf x) ≤ 32768
   fresh-short i =
-      let terms = join (map termCommand (x .problem .cands)) in
+      let added = addedAgain (x .problem .cands) in
       let rows = rows-short job room before x g (fair .sound .inputs) in
       let whole = length-append (rowsOf before) (tailOf x) in
-      let tail = length-append terms (commandBytes (commandOf x) ++ ending) in
-      omega (arith, length-append (commandBytes (commandOf x)) ending, terms-length (x .problem .cands), fair .sound .few, query-short x i)
+      let tail = length-append added (commandBytes (commandOf x) ++ ending) in
+      omega (arith, length-append (commandBytes (commandOf x)) ending, added-length (x .problem .cands) (fair .sound .small), fair .sound .few, query-short x i)
 
   answered-again : T (isQuery x) → refusal x ≡ 0 → (larger : ℕ) → suc (length (bytesOf (answer x))) ≤ larger → larger ≤ 32768
       → GivesAlone (answer x) (run (freshJob (map commandOf before) (commandOf x)) larger)
@@ -125,42 +129,3 @@ fresh-read c f mc mf z before x g i e l m = record {
 
     same : GivesAlone (answer x) (ran f)
     same = subst⁻¹ (λ (bs : List ℕ). GivesAlone (answer x) (run bs (length (f .before)))) e (fresh (c .job) (length (c .before)) accepted before x g i (length (f .before)) l m)
-
--- ---- bytes
-
-abbrev byte : ℕ → Type 0
-byte b = b < 256
-
-abbrev Rest : Context → Type 0
-Rest x = Bytes (x .rest)
-
-rest-bytes : (job : List ℕ) (room : ℕ) → Bytes job → All Rest (run job room .contexts)
-rest-bytes job room = run-ind engine engine-lawful (λ q bs free at r. Bytes bs → All Rest (r .contexts))
-    (λ q free at y. tt) (λ q b bs free at n y. (y .1, tt)) (λ q b bs free at h z e y. (y .1, tt)) (λ q b bs free at h z e r f y. (y .1, f (all-drop byte (width (kindOf b)) bs (y .1))))
-    (λ r. Bytes job → All Rest (r .contexts)) job room (λ l y. tt) (λ l m r f. f)
-
-abbrev ByteCommand : Command → Type 0
-ByteCommand c = Bytes (commandBytes c)
-
-command-bytes : (x : Context) → Rest x → ByteCommand (commandOf x)
-command-bytes x y = (code-byte (x .kind), all-take byte (width (x .kind)) (x .rest) y)
-
-commands-bytes : (cs : List Command) → All ByteCommand cs → Bytes (join (map commandBytes cs))
-commands-bytes cs a = all-join byte (map commandBytes cs) (all-map Bytes commandBytes cs a)
-
-terms-bytes : (ts : List Term) → All Small ts → Bytes (join (map termCommand ts))
-terms-bytes ts a = all-join byte (map termCommand ts) (all-map Bytes termCommand ts (all-to Small (λ t. Bytes (termCommand t)) (λ t s. (omega arith, (s .0, (s .1, (s .2, tt))))) ts a))
-
--- a job of bytes has a fresh job of bytes
-pub fresh-bytes : (job : List ℕ) (room : ℕ) → Bytes job → (before : List Context) (x : Context) → Behind (run job room) before x → Bytes (freshJob (map commandOf before) (commandOf x))
-fresh-bytes job room y before x g =
-    let rows : Command → Bool = λ c. setsUp (c .kind) in
-    let ts = x .problem .cands in
-    let query = command-bytes x (all-here Rest (run job room) before x g (rest-bytes job room y)) in
-    subst⁻¹ Bytes (pieces job room before x g)
-    (all-append byte (rowsOf before) (tailOf x) (commands-bytes (filter rows (map commandOf before)) (all-filter ByteCommand rows (map commandOf before) given))
-    (all-append byte (join (map termCommand ts)) (commandBytes (commandOf x) ++ ending) (terms-bytes ts (fair job room before x g .sound .small))
-    (all-append byte (commandBytes (commandOf x)) ending query (omega arith, tt))))
-  where
-    given : All ByteCommand (map commandOf before)
-    given = all-map ByteCommand commandOf before (all-to Rest (λ z. ByteCommand (commandOf z)) command-bytes before (all-before Rest (run job room) before x g (rest-bytes job room y)))

@@ -1,65 +1,104 @@
--- K2: the rest of a fresh job, behind I, W and the rows: a T for each candidate, the query and E.
+-- K2: the rest of a fresh job, behind I, W and the rows: a T or an F for each candidate, the query and E.
 use Prim.Native.Nat.{ℕ, suc, _+_, _≤_, _<_}
 use native.Mathlib.Omega.{arith}
 use mathlib.Core.Path.{_≡_, refl, sym, ap, ap₂, _∙_, subst, subst⁻¹}
 use mathlib.Core.Bool.{not}
-use mathlib.Core.List.{List, [], _∷_, _++_, map, append-assoc, append-nil}
+use mathlib.Core.List.{List, [], _∷_, _++_, append-assoc, append-nil}
 use lib.Dec.{T}
 use lib.Arith.{lt→nleb}
 use lib.Seq.{take-at, take-take}
 use lib.ListN.{length, take, length-append, length-take}
-use Rattle.model.specs.Base.{join, All}
-use Rattle.model.specs.Table.{Term, formed, holdsNoOff, legal}
+use Rattle.model.specs.Base.{All}
+use Rattle.model.specs.Table.{formed, holdsNoOff, legal}
+use Rattle.model.specs.Blocks.{Block, blockFormed, blockHoldsNoOff}
 use Rattle.model.specs.Sets.{irredundants, cost, cheapest}
 use Rattle.model.specs.Products.{products}
 use Rattle.model.specs.Pages.{page, more}
-use Rattle.model.specs.Candidates.{Basis, covering}
-use Rattle.model.specs.Commands.{begun, inTerms, queried, Kind, formOf, is, isQueryKind, width, allowed, Problem, atPlace, withCands, basisOf}
-use Rattle.model.specs.Commands.{tableOf, Context, number, operandTerm, start, count, problemAfter}
-use Rattle.model.specs.Answers.{Answer, termBytes, bytesOf, answerFor, answer}
-use Rattle.model.specs.Refusals.{candidateRefusals, refusalsOf}
+use Rattle.model.specs.Candidates.{Candidate, candidateLegal, Basis, covering}
+use Rattle.model.specs.Commands.{begun, inCandidates, queried, Kind, formOf, is, isQueryKind, width, allowed, Problem, atPlace, withCands, addCandidate, addBlock, basisOf}
+use Rattle.model.specs.Commands.{tableOf, Context, number, operandTerm, operandBlock, start, count, problemAfter}
+use Rattle.model.specs.Answers.{Answer, bytesOf, answerFor, answer}
+use Rattle.model.specs.Refusals.{termRefusals, blockRefusals, refusalsOf}
 use Rattle.model.specs.Rules.{engine, refusal}
-use Rattle.model.specs.Invariants.{Valid}
+use Rattle.model.specs.Invariants.{SmallCandidate, Valid}
 use Rattle.model.specs.Demand3.{isQuery, HasBasis, Acceptable}
-use Rattle.model.specs.Standing.{commandOf, commandBytes, termCommand}
+use Rattle.model.specs.Standing.{commandOf, commandBytes, addingCommand, addedAgain}
 use Rattle.model.proofs.Lists.{not-not, and-l, and-r}
 use Rattle.model.proofs.Codes.{any-query}
 use Rattle.model.proofs.Runs.{NoneApplies, not-refused}
 use Rattle.model.proofs.Valid.{place-one, allowed-from}
+use Rattle.model.proofs.BlockBytes.{block-long, read-block}
 use Rattle.model.proofs.Demand3.{query-kind, query-place, acceptable-iff, has-bytes}
 use Rattle.model.proofs.Replay.{reads, full-of, same-operand, GivesFrom, silent, ending, last-answer}
 use Rattle.model.proofs.RowByRow.{bare}
 use Rattle.model.proofs.FreshRows.{From}
 
 abbrev pub tailOf : Context → List ℕ
-tailOf x = join (map termCommand (x .problem .cands)) ++ (commandBytes (commandOf x) ++ ending)
+tailOf x = addedAgain (x .problem .cands) ++ (commandBytes (commandOf x) ++ ending)
 
--- ---- a T for each candidate
+-- ---- a T or an F for each candidate
 
-term-passes : (x : Context) → T (legal (tableOf (x .problem)) (operandTerm x)) → length (x .problem .cands) < 64 → NoneApplies (candidateRefusals x)
+term-passes : (x : Context) → T (legal (tableOf (x .problem)) (operandTerm x)) → length (x .problem .cands) < 64 → NoneApplies (termRefusals x)
 unfolding legal
 term-passes x g l =
     let f = formed (tableOf (x .problem)) (operandTerm x) in
     let h = holdsNoOff (tableOf (x .problem)) (operandTerm x) in
     (not-not f (and-l f h g), (not-not h (and-r f h g), (lt→nleb 64 (length (x .problem .cands)) l, tt)))
 
+block-passes : (q : Problem) (b : Block) → T (candidateLegal (tableOf q) (Candidate.block b)) → length (q .cands) < 64 → NoneApplies (blockRefusals q b)
+block-passes q b g l =
+    let f = blockFormed (tableOf q) b in
+    let h = blockHoldsNoOff (tableOf q) b in
+    (not-not f (and-l f h g), (not-not h (and-r f h g), (lt→nleb 64 (length (q .cands)) l, tt)))
+
+-- the command that adds c, read where it may stand, is accepted, adds it, and is silent
+record AddsAgain (q : Problem) (c : Candidate) (bs : List ℕ) (room : ℕ) : Type 0 where
+  full : length (addingCommand c .operands) ≡ width (addingCommand c .kind)
+  passes : refusal (reads q (addingCommand c) bs room) ≡ 0
+  goes : T (not (is (addingCommand c .kind) Kind.E))
+  nothing : answer (reads q (addingCommand c) bs room) ≡ Answer.nothing
+  after : problemAfter (reads q (addingCommand c) bs room) (addingCommand c .kind) ≡ addCandidate q c
+
+adds-again : (q : Problem) (c : Candidate) (bs : List ℕ) (room : ℕ) → begun ≤ q .place → q .place ≤ inCandidates → SmallCandidate c → T (candidateLegal (tableOf q) c)
+    → length (q .cands) < 64 → AddsAgain q c bs room
+unfolding refusalsOf problemAfter answer answerFor
+adds-again q (Candidate.term t) bs room l m s g h =
+    let y = reads q (addingCommand (Candidate.term t)) bs room in
+    record {
+      full = refl;
+      passes = not-refused engine y (record { named = tt; place = allowed-from Kind.T (q .place) l m; operands = omega arith; own = term-passes y g h; room = omega arith });
+      goes = tt;
+      nothing = refl;
+      after = refl;
+    }
+adds-again q (Candidate.block b) bs room l m s g h =
+    let y = reads q (addingCommand (Candidate.block b)) bs room in
+    let same : operandBlock y ≡ b = read-block b s bs in
+    let fair = subst⁻¹ (λ (u : Block). NoneApplies (blockRefusals q u)) same (block-passes q b g h) in
+    let operands = length-append (addingCommand (Candidate.block b) .operands) bs in
+    record {
+      full = block-long b s;
+      passes = not-refused engine y (record { named = tt; place = allowed-from Kind.F (q .place) l m; operands = omega (arith, operands, block-long b s); own = fair; room = omega arith });
+      goes = tt;
+      nothing = refl;
+      after = ap (addBlock q) same;
+    }
+
 -- from any place where a T may stand, then bytes that give an answer behind them
 module _ (a : Answer) (room : ℕ) (bs : List ℕ) where
-  terms-given : (ts : List Term) (q : Problem) → begun ≤ q .place → q .place ≤ inTerms → All (λ t. T (legal (tableOf q) t)) ts → length (q .cands) + length ts ≤ 64
-      → ((p : ℕ) (ws : List ℕ) → begun ≤ p → p ≤ inTerms → GivesFrom a room bs (atPlace p (withCands (q .cands ++ ts) ws q))) → GivesFrom a room (join (map termCommand ts) ++ bs) q
-  unfolding refusalsOf problemAfter answer answerFor
-  terms-given [] q l m g c f = subst (λ (us : List Term). GivesFrom a room bs (withCands us (q .weights) q)) (append-nil (q .cands)) (f (q .place) (q .weights) l m)
-  terms-given (t ∷ ts) q l m g c f =
-      silent a room (record { kind = Kind.T; operands = termBytes t }) rest q refl
-      (not-refused engine y (record { named = tt; place = allowed-from Kind.T (q .place) l m; operands = omega arith; own = term-passes y (g .0) (omega arith); room = omega arith })) tt refl
-      (terms-given ts (problemAfter y Kind.T) (omega arith) (omega arith) (g .1) (omega (arith, length-append (q .cands) (t ∷ [])))
-      (λ p ws b h. subst⁻¹ (λ (us : List Term). GivesFrom a room bs (atPlace p (withCands us ws q))) (append-assoc (q .cands) (t ∷ []) ts) (f p ws b h)))
+  cands-given : (cs : List Candidate) (q : Problem) → begun ≤ q .place → q .place ≤ inCandidates → All SmallCandidate cs → All (λ c. T (candidateLegal (tableOf q) c)) cs
+      → length (q .cands) + length cs ≤ 64 → ((p : ℕ) (ws : List ℕ) → begun ≤ p → p ≤ inCandidates → GivesFrom a room bs (atPlace p (withCands (q .cands ++ cs) ws q)))
+      → GivesFrom a room (addedAgain cs ++ bs) q
+  cands-given [] q l m s g n f = subst (λ (ds : List Candidate). GivesFrom a room bs (withCands ds (q .weights) q)) (append-nil (q .cands)) (f (q .place) (q .weights) l m)
+  cands-given (c ∷ cs) q l m s g n f =
+      let again = adds-again q c rest room l m (s .0) (g .0) (omega arith) in
+      let later = cands-given cs (addCandidate q c) (omega arith) (omega arith) (s .1) (g .1) (omega (arith, length-append (q .cands) (c ∷ [])))
+      (λ p ws b h. subst⁻¹ (λ (ds : List Candidate). GivesFrom a room bs (atPlace p (withCands ds ws q))) (append-assoc (q .cands) (c ∷ []) cs) (f p ws b h)) in
+      subst⁻¹ (λ (ds : List ℕ). GivesFrom a room ds q) (append-assoc (commandBytes (addingCommand c)) (addedAgain cs) bs)
+      (silent a room (addingCommand c) rest q (again .full) (again .passes) (again .goes) (again .nothing) (subst⁻¹ (GivesFrom a room rest) (again .after) later))
     where
       rest : List ℕ
-      rest = join (map termCommand ts) ++ bs
-
-      y : Context
-      y = reads q (record { kind = Kind.T; operands = termBytes t }) rest room
+      rest = addedAgain cs ++ bs
 
 -- ---- the query
 
@@ -120,7 +159,7 @@ module _ (x : Context) (i : T (isQuery x)) (z : refusal x ≡ 0) (room : ℕ) (l
   accepted = acceptable-iff (basisOf (x .problem)) x (query-kind x i) (query-place x i) refl .0 z
 
   -- read again with its table and candidates, and E behind it
-  query-given : (q : Problem) → basisOf q ≡ basisOf (x .problem) → begun ≤ q .place → q .place ≤ inTerms → GivesFrom (answer x) room (commandBytes (commandOf x) ++ ending) q
+  query-given : (q : Problem) → basisOf q ≡ basisOf (x .problem) → begun ≤ q .place → q .place ≤ inCandidates → GivesFrom (answer x) room (commandBytes (commandOf x) ++ ending) q
   unfolding answer
   query-given q s b m =
       last-answer (answer x) room (commandOf x) q full (acceptable-iff (basisOf (x .problem)) y (query-kind x i) place s .1 good) (query x i .goes) same
@@ -149,9 +188,10 @@ module _ (x : Context) (i : T (isQuery x)) (z : refusal x ≡ 0) (room : ℕ) (l
         room = subst⁻¹ (λ (a : Answer). length (bytesOf a) ≤ room) same (omega arith);
       }
 
-  -- and a T for each candidate before it
+  -- and a T or an F for each candidate before it
   pub tail-given : Valid (x .problem) → From (answer x) room (tailOf x) (x .problem)
   tail-given v p b m =
       let o = query-begun x i in
-      terms-given (answer x) room (commandBytes (commandOf x) ++ ending) (x .problem .cands) (bare p (x .problem)) (omega arith) (omega arith) (v .legal) (omega (arith, v .sound .few))
+      cands-given (answer x) room (commandBytes (commandOf x) ++ ending) (x .problem .cands) (bare p (x .problem)) (omega arith) (omega arith)
+      (v .sound .small) (v .legal) (omega (arith, v .sound .few))
       (λ p' ws. query-given (atPlace p' (withCands (x .problem .cands) ws (x .problem))) refl)

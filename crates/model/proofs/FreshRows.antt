@@ -45,6 +45,7 @@ behind-I x h n = place-one (x .kind) (x .problem .place) (not-or-l (is (x .kind)
 others-keep : (x : Context) (k : Kind) → T (not (setsUp k)) → (p : ℕ) → bare p (problemAfter x k) ≡ bare p (x .problem)
 unfolding problemAfter
 others-keep x Kind.T n p = refl
+others-keep x Kind.F n p = refl
 others-keep x Kind.P n p = refl
 others-keep x Kind.A n p = refl
 others-keep x Kind.D n p = refl

@@ -9,6 +9,7 @@ pub mod Cheapest
 pub mod Rows
 pub mod Matrix
 pub mod Presence
+pub mod Idle
 pub mod ProductsStep
 pub mod Products
 pub mod ProductsSame
@@ -34,6 +35,7 @@ pub mod Caller
 pub mod Exchanges
 pub mod Demand3
 pub mod Behind
+pub mod BlockBytes
 pub mod Spelled
 pub mod Standing
 pub mod PricesFound
@@ -42,6 +44,7 @@ pub mod Replay
 pub mod FreshRows
 pub mod FreshQuery
 pub mod Fresh
+pub mod FreshBytes
 pub mod Pieces
 pub mod ExpandedJob
 pub mod Alike
@@ -61,8 +64,10 @@ pub mod Reordered
 pub mod ReorderedCall
 pub mod Numbers
 pub mod Marked
+pub mod MarkedBlocks
 pub mod EightRows
 pub mod Example
 pub mod ManyProducts
 pub mod Changes
 pub mod Sorted
+pub mod SortedBlocks

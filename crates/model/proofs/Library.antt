@@ -13,14 +13,14 @@ use Rattle.model.specs.Base.{below, some, filter, join, All}
 use Rattle.model.specs.Table.{Table, Term, formed, holdsNoOff, legal}
 use Rattle.model.specs.Sets.{coverable, irredundants}
 use Rattle.model.specs.Pages.{Rising, atOrAbove, page, more, nextStart}
-use Rattle.model.specs.Candidates.{Basis, usual, basis, covering, HoldsExactly, LegalBasis}
+use Rattle.model.specs.Candidates.{Candidate, termsAlone, candidateLegal, Basis, usual, priced, basis, covering, HoldsExactly, LegalBasis}
 use Rattle.model.specs.Commands.{begun, Kind, allowed, Problem, Context, start, count, coveringOf, tableOf, pricesOf}
 use Rattle.model.specs.Answers.{Answer, answerFor, answer}
 use Rattle.model.specs.Refusals.{size, Refusal, refuse, firstOf, refusalsOf}
 use Rattle.model.specs.Rules.{engine}
-use Rattle.model.specs.Library.{unpack, badVertex, refusalsOfWord, callRefusals, Listed, listCovers, setsOf, joinedRows}
-use Rattle.model.specs.Invariants.{Small, Valid}
-use Rattle.model.proofs.Lists.{twice, not-not, T-false, and-l, and-r, and-i, some-e, all-append, all-left}
+use Rattle.model.specs.Library.{unpack, callBasis, badVertex, refusalsOfWord, callRefusals, Listed, listCovers, setsOf, joinedRows}
+use Rattle.model.specs.Invariants.{Small, SmallCandidate, Valid}
+use Rattle.model.proofs.Lists.{twice, not-not, T-false, and-l, and-r, and-i, some-e, all-append, all-left, all-unmap}
 use Rattle.model.proofs.Pages.{rising, all-page, upto-got, step, more-iff}
 use Rattle.model.proofs.Pricing.{listing-untouched, coverable-untouched}
 use Rattle.model.proofs.Legal.{legal-basis, all-exactly}
@@ -47,7 +47,7 @@ pub record Told (all : List ℕ) (a : ℕ) (old : List ℕ) (l : Listed) : Type 
   pub some : 1 ≤ length old → 1 ≤ length (atOrAbove all a) → 1 ≤ l .filled
 
 pub listed-told : (p : Table) (words : List ℕ) (a : ℕ) (old : List ℕ) → firstOf (callRefusals p words) ≡ 0
-    → Told (irredundants (covering (basis p (map unpack words)))) a old (listCovers p words a old)
+    → Told (irredundants (covering (callBasis p words))) a old (listCovers p words a old)
 unfolding listCovers
 listed-told p words a old z = rw z (record {
   number = refl;
@@ -60,7 +60,7 @@ listed-told p words a old z = rw z (record {
 })
   where
     all : List ℕ
-    all = irredundants (covering (basis p (map unpack words)))
+    all = irredundants (covering (callBasis p words))
 
     ss : List ℕ
     ss = page all a (length old)
@@ -77,10 +77,10 @@ listed-refused p words a old n = rw (T-false {b = eqb (firstOf (callRefusals p w
 
 module _ (p : Table) (words : List ℕ) (z : firstOf (callRefusals p words) ≡ 0) where
   abbrev all : List ℕ
-  all = irredundants (covering (basis p (map unpack words)))
+  all = irredundants (covering (callBasis p words))
 
   up : Rising 0 all
-  up = rising (covering (basis p (map unpack words)))
+  up = rising (covering (callBasis p words))
 
   joined-part : (g left : List ℕ) (olds : List (List ℕ)) → all ≡ g ++ left → (rem : List ℕ) × (all ≡ joinedRows p words g olds ++ rem)
   joined-part g left [] e = (left, e)
@@ -112,10 +112,10 @@ words-numbered p (w ∷ ws) = (omega arith, (omega arith, words-numbered p ws))
 pub call-numbered : (p : Table) (words : List ℕ) → All Numbered (callRefusals p words)
 unfolding callRefusals
 call-numbered p words =
-    let last = refuse 12 (not (coverable (covering (basis p (map unpack words))))) ∷ [] in
+    let last = refuse 12 (not (coverable (covering (callBasis p words)))) ∷ [] in
     (omega arith, (omega arith, (omega arith, all-append Numbered (join (map (refusalsOfWord p) words)) last (words-numbered p words) (omega arith, tt))))
 
-words-legal : (p : Table) (words : List ℕ) → NoneApplies (join (map (refusalsOfWord p) words)) → All (λ t. T (legal p t)) (map unpack words)
+words-legal : (p : Table) (words : List ℕ) → NoneApplies (join (map (refusalsOfWord p) words)) → All (λ c. T (candidateLegal p c)) (termsAlone (map unpack words))
 unfolding legal
 words-legal p [] a = tt
 words-legal p (w ∷ ws) a =
@@ -135,12 +135,12 @@ none-told p words a old z = go (eqb n 0) refl
 
 -- an accepted call: its terms are legal, and each set that it fills holds every wanted cell and no off cell
 pub listed-legal : (p : Table) (words : List ℕ) (a : ℕ) (old : List ℕ) → listCovers p words a old .number ≡ 0
-    → LegalBasis (basis p (map unpack words)) × All (HoldsExactly (basis p (map unpack words))) (setsOf (listCovers p words a old))
+    → LegalBasis (callBasis p words) × All (HoldsExactly (callBasis p words)) (setsOf (listCovers p words a old))
 unfolding callRefusals
 listed-legal p words a old z = (fair, subst⁻¹ (All (HoldsExactly b)) (listed-told p words a old none .sets) (all-page (HoldsExactly b) (irredundants (covering b)) a (length old) (all-exactly b fair)))
   where
     b : Basis
-    b = basis p (map unpack words)
+    b = callBasis p words
 
     none : firstOf (callRefusals p words) ≡ 0
     none = none-told p words a old z
@@ -184,47 +184,56 @@ words-pass p (t ∷ ts) s l =
     let h = and-r (formed p t) (holdsNoOff p t) (l .0) in
     (rw (top, unpack-pack t (s .0)) (not-not (formed p t) f), (rw (unpack-pack t (s .0)) (not-not (holdsNoOff p t) h), words-pass p ts (s .1) (l .1)))
 
--- no refusal of the library call applies where none applies to an L
-library-passes : (q : Problem) → Valid q → begun ≤ q .place → T (coverable (covering (basis (tableOf q) (q .cands)))) → firstOf (callRefusals (tableOf q) (map pack (q .cands))) ≡ 0
-unfolding callRefusals
-library-passes q v o c = none-first (callRefusals p words) (not-not (size (p .n) && size (p .m) && (eqb (length (p .on)) (2 ^ p .n) && eqb (length (p .dc)) (2 ^ p .n))) shape, (clean, (few, rest)))
-  where
-    p : Table
-    p = tableOf q
+-- no refusal of the library call applies where none applies to an L and the candidates are terms alone
+module _ (q : Problem) (ts : List Term) (alone : q .cands ≡ termsAlone ts) (v : Valid q) where
+  small-terms : All Small ts
+  small-terms = all-unmap SmallCandidate Candidate.term ts (subst (All SmallCandidate) alone (v .sound .small))
 
-    words : List ℕ
-    words = map pack (q .cands)
+  library-passes : begun ≤ q .place → T (coverable (covering (basis (tableOf q) (termsAlone ts)))) → firstOf (callRefusals (tableOf q) (map pack ts)) ≡ 0
+  unfolding callRefusals
+  library-passes o c = none-first (callRefusals p words) (not-not (size (p .n) && size (p .m) && (eqb (length (p .on)) (2 ^ p .n) && eqb (length (p .dc)) (2 ^ p .n))) shape, (clean, (few, rest)))
+    where
+      p : Table
+      p = tableOf q
 
-    full : (xs : List ℕ) → length xs ≡ 2 ^ p .n → T (eqb (length xs) (2 ^ p .n))
-    full xs e = rw e (eqb-refl (2 ^ p .n))
+      words : List ℕ
+      words = map pack ts
 
-    shape : T (size (p .n) && size (p .m) && (eqb (length (p .on)) (2 ^ p .n) && eqb (length (p .dc)) (2 ^ p .n)))
-    shape =
-        and-i (size (p .n) && size (p .m)) (eqb (length (p .on)) (2 ^ p .n) && eqb (length (p .dc)) (2 ^ p .n)) (and-i (size (p .n)) (size (p .m)) (v .sizes o .0) (v .sizes o .1))
-        (and-i (eqb (length (p .on)) (2 ^ p .n)) (eqb (length (p .dc)) (2 ^ p .n)) (full (p .on) (v .rows o .0)) (full (p .dc) (v .rows o .1)))
+      full : (xs : List ℕ) → length xs ≡ 2 ^ p .n → T (eqb (length xs) (2 ^ p .n))
+      full xs e = rw e (eqb-refl (2 ^ p .n))
 
-    clean : T (not (some (badVertex p) (below (2 ^ p .n))))
-    clean = not-T (some (badVertex p) (below (2 ^ p .n))) (λ t. let e = some-e (badVertex p) (below (2 ^ p .n)) t in T-not (badVertex p (e .0)) (v .good (e .0)) (e .2))
+      shape : T (size (p .n) && size (p .m) && (eqb (length (p .on)) (2 ^ p .n) && eqb (length (p .dc)) (2 ^ p .n)))
+      shape =
+          and-i (size (p .n) && size (p .m)) (eqb (length (p .on)) (2 ^ p .n) && eqb (length (p .dc)) (2 ^ p .n)) (and-i (size (p .n)) (size (p .m)) (v .sizes o .0) (v .sizes o .1))
+          (and-i (eqb (length (p .on)) (2 ^ p .n)) (eqb (length (p .dc)) (2 ^ p .n)) (full (p .on) (v .rows o .0)) (full (p .dc) (v .rows o .1)))
 
-    few : T (not (ltb 64 (length words)))
-    few = le→nltb 64 (length words) (omega (arith, length-map (q .cands) pack, v .sound .few))
+      clean : T (not (some (badVertex p) (below (2 ^ p .n))))
+      clean = not-T (some (badVertex p) (below (2 ^ p .n))) (λ t. let e = some-e (badVertex p) (below (2 ^ p .n)) t in T-not (badVertex p (e .0)) (v .good (e .0)) (e .2))
 
-    rest : All (λ r. T (not (r .applies))) (join (map (refusalsOfWord p) words) ++ (refuse 12 (not (coverable (covering (basis p (map unpack words))))) ∷ []))
-    rest = all-append (λ (r : Refusal). T (not (r .applies))) (join (map (refusalsOfWord p) words)) (refuse 12 (not (coverable (covering (basis p (map unpack words))))) ∷ [])
-        (words-pass p (q .cands) (v .sound .small) (v .legal))
-        (subst⁻¹ (λ (ts : List Term). T (not (not (coverable (covering (basis p ts)))))) (unpack-all (q .cands) (v .sound .small)) (not-not (coverable (covering (basis p (q .cands)))) c), tt)
+      few : T (not (ltb 64 (length words)))
+      few = le→nltb 64 (length words) (omega (arith, length-map ts pack, length-map ts Candidate.term, ap length alone, v .sound .few))
 
--- an L answers what the library call fills into a row of `count` entries
-pub page-library : (t : Context) → t .kind ≡ Kind.L → Valid (t .problem) → Passed engine t → (old : List ℕ) → length old ≡ count t
-    → let l = listCovers (tableOf (t .problem)) (map pack (t .problem .cands)) (start t) old in (l .number ≡ 0) × (answer t ≡ Answer.paged (setsOf l) (l .above))
+      legal-terms : All (λ t. T (legal p t)) ts
+      legal-terms = all-unmap (λ (c : Candidate). T (candidateLegal p c)) Candidate.term ts (subst (All (λ (c : Candidate). T (candidateLegal p c))) alone (v .legal))
+
+      last : List Refusal
+      last = refuse 12 (not (coverable (covering (callBasis p words)))) ∷ []
+
+      rest : NoneApplies (join (map (refusalsOfWord p) words) ++ last)
+      rest = all-append (λ (r : Refusal). T (not (r .applies))) (join (map (refusalsOfWord p) words)) last (words-pass p ts small-terms legal-terms)
+          (subst⁻¹ (λ (us : List Term). T (not (not (coverable (covering (basis p (termsAlone us))))))) (unpack-all ts small-terms) (not-not (coverable (covering (basis p (termsAlone ts)))) c), tt)
+
+-- an L answers what the library call fills into a row of `count` entries, where the candidates are terms alone
+pub page-library : (t : Context) → t .kind ≡ Kind.L → Valid (t .problem) → Passed engine t → (ts : List Term) → t .problem .cands ≡ termsAlone ts → (old : List ℕ) → length old ≡ count t
+    → let l = listCovers (tableOf (t .problem)) (map pack ts) (start t) old in (l .number ≡ 0) × (answer t ≡ Answer.paged (setsOf l) (l .above))
 unfolding answer answerFor refusalsOf
-page-library t e v h old n =
+page-library t e v h ts alone old n =
     let a : T (allowed Kind.L (t .problem .place)) = subst (λ (k : Kind). T (allowed k (t .problem .place))) e (h .place) in
     let w : NoneApplies (refusalsOf t Kind.L) = subst (λ (k : Kind). NoneApplies (refusalsOf t k)) e (h .own) in
     let p = tableOf (t .problem) in
-    let ts = t .problem .cands in
-    let same = listing-untouched (pricesOf (t .problem)) usual p ts in
-    let c = subst (λ (b : Bool). T b) (coverable-untouched (pricesOf (t .problem)) usual p ts) (twice (coverable (coveringOf t)) (w .0)) in
-    let z = library-passes (t .problem) v (place-one Kind.L (t .problem .place) tt a) c in
+    let same = ap (λ (cs : List Candidate). irredundants (covering (priced (pricesOf (t .problem)) p cs))) alone ∙ listing-untouched (pricesOf (t .problem)) usual p (termsAlone ts) in
+    let held = ap (λ (cs : List Candidate). coverable (covering (priced (pricesOf (t .problem)) p cs))) alone ∙ coverable-untouched (pricesOf (t .problem)) usual p (termsAlone ts) in
+    let c = subst (λ (b : Bool). T b) held (twice (coverable (coveringOf t)) (w .0)) in
+    let z = library-passes (t .problem) ts alone v (place-one Kind.L (t .problem .place) tt a) c in
     let d = listed-told p (map pack ts) (start t) old z in
-    (d .number, rw (e, d .sets, d .above, unpack-all ts (v .sound .small), n, same))
+    (d .number, rw (e, d .sets, d .above, unpack-all ts (small-terms (t .problem) ts alone v), n, same))

@@ -9,7 +9,8 @@ use lib.Dec.{T, ltb, eqb, eqb→eq, nltb→le}
 use lib.Seq.{length-take-le}
 use lib.ListN.{length, drop, length-drop}
 use Rattle.model.specs.Base.{filter}
-use Rattle.model.specs.Table.{Table, Term}
+use Rattle.model.specs.Table.{Table}
+use Rattle.model.specs.Candidates.{Candidate}
 use Rattle.model.specs.Commands.{Kind, is, kindOf, width, allowed, Problem, empty, Context, problemAfter}
 use Rattle.model.specs.Commands.{inPrices, atPlace, operandPrices, tableOf}
 use Rattle.model.specs.Answers.{Answer, bytesOf, answerFor, answer}
@@ -130,7 +131,7 @@ asked-first x y h xs ys e = rw (same-bytes (answer y) (answer x) (h .answer)) (g
     go : (b : Bool) → (T b → askedOf y ≡ askedOf x) → map askedOf
         (cond b (x ∷ filter (answers engine) xs) (filter (answers engine) xs)) ≡ map askedOf
         (cond b (y ∷ filter (answers engine) ys) (filter (answers engine) ys))
-    go true a = ap₂ (λ (c : Command × Table × List Term) (cs : List (Command × Table × List Term)). c ∷ cs) (sym (a tt)) e
+    go true a = ap₂ (λ (c : Command × Table × List Candidate) (cs : List (Command × Table × List Candidate)). c ∷ cs) (sym (a tt)) e
     go false a = e
 
 -- a refused command, and an answered one with what both jobs give behind it

@@ -7,8 +7,8 @@ use mathlib.Core.List.{List, [], _∷_, _++_, map}
 use lib.Dec.{T}
 use lib.ListN.{length, length-append}
 use Rattle.model.specs.Base.{every, filter, join, All}
-use Rattle.model.specs.Table.{Table, Term}
-use Rattle.model.specs.Candidates.{Prices, usual, priced, basis, covering}
+use Rattle.model.specs.Table.{Table}
+use Rattle.model.specs.Candidates.{Candidate, Prices, usual, priced, basis, covering}
 use Rattle.model.specs.Commands.{Kind, is, Context}
 use Rattle.model.specs.Commands.{basisOf}
 use Rattle.model.specs.Answers.{Answer, bytesOf, hasBytes}
@@ -159,7 +159,7 @@ module _ (c d : Call) (mc : Met c) (md : Met d) (same : SameButPrices (c .job) (
     answers = same-replies;
     places = places-uncosted (replies c) ∙ ap (map (λ (a : Answer). length (bytesOf a))) same-replies ∙ sym (places-uncosted (replies d));
     after = λ e t. ends e t;
-    pages = pages-read c ∙ ap₂ pagesBy (ap (map (λ (t : Command × Table × List Term). t .0)) (runs .asked)) same-replies ∙ sym (pages-read d);
+    pages = pages-read c ∙ ap₂ pagesBy (ap (map (λ (t : Command × Table × List Candidate). t .0)) (runs .asked)) same-replies ∙ sym (pages-read d);
   }
 
 pub untouched-read : UntouchedRead
@@ -167,39 +167,39 @@ untouched-read c d mc md same room nc nd = same-pages c d mc md same room nc nd
 
 -- ---- at any prices
 
-lists-at-any : (p : Table) (ts : List Term) (e : Exchange) → StandsAtAnyPrices p ts e → Lists engine Kind.L (coversOf (basis p ts)) (e .context)
-lists-at-any p ts e s =
+lists-at-any : (p : Table) (cs : List Candidate) (e : Exchange) → StandsAtAnyPrices p cs e → Lists engine Kind.L (coversOf (basis p cs)) (e .context)
+lists-at-any p cs e s =
     let w = s .1 .0 in
-    subst (λ (sets : List ℕ). Lists engine Kind.L sets (e .context)) (listing-untouched w usual p ts) (lists-covers (priced w p ts) (e .context) (s .1 .1))
+    subst (λ (sets : List ℕ). Lists engine Kind.L sets (e .context)) (listing-untouched w usual p cs) (lists-covers (priced w p cs) (e .context) (s .1 .1))
 
 -- what stands on a table and candidates at one setting of prices stands so at any
-pub stands-at-any : (w : Prices) (p : Table) (ts : List Term) (e : Exchange) → StandsOn (priced w p ts) e → StandsAtAnyPrices p ts e
-stands-at-any w p ts e s = (s .0, (w, s .1))
+pub stands-at-any : (w : Prices) (p : Table) (cs : List Candidate) (e : Exchange) → StandsOn (priced w p cs) e → StandsAtAnyPrices p cs e
+stands-at-any w p cs e s = (s .0, (w, s .1))
 
-each-at-any : (p : Table) (ts : List Term) (es : List Exchange) → All (RepliedIn engine Fine) es → All (StandsAtAnyPrices p ts) es
+each-at-any : (p : Table) (cs : List Candidate) (es : List Exchange) → All (RepliedIn engine Fine) es → All (StandsAtAnyPrices p cs) es
     → All (λ e. CorrectExchange (basisOf (e .context .problem)) e) es
-each-at-any p ts [] r s = tt
-each-at-any p ts (e ∷ es) r s = (correct-exchange (basisOf (e .context .problem)) e (r .0) (s .0 .0, refl), each-at-any p ts es (r .1) (s .1))
+each-at-any p cs [] r s = tt
+each-at-any p cs (e ∷ es) r s = (correct-exchange (basisOf (e .context .problem)) e (r .0) (s .0 .0, refl), each-at-any p cs es (r .1) (s .1))
 
 -- N is no more touched than the pages are
-equal-at-any : (p : Table) (ts : List Term) (es : List Exchange) → Gives Kind.L (coversOf (basis p ts)) es → (us : List Exchange)
-    → All (λ e. CorrectExchange (basisOf (e .context .problem)) e) us → All (StandsAtAnyPrices p ts) us → All (EqualsPages (pagesOf Kind.L es)) us
-equal-at-any p ts es g [] c s = tt
-equal-at-any p ts es g (e ∷ us) c s =
+equal-at-any : (p : Table) (cs : List Candidate) (es : List Exchange) → Gives Kind.L (coversOf (basis p cs)) es → (us : List Exchange)
+    → All (λ e. CorrectExchange (basisOf (e .context .problem)) e) us → All (StandsAtAnyPrices p cs) us → All (EqualsPages (pagesOf Kind.L es)) us
+equal-at-any p cs es g [] c s = tt
+equal-at-any p cs es g (e ∷ us) c s =
     let w = s .0 .1 .0 in
-    let same = ap coversOf (s .0 .1 .1) ∙ listing-untouched w usual p ts in
-    (equals-pages (coversOf (basis p ts)) es g (basisOf (e .context .problem)) same e (c .0), equal-at-any p ts es g us (c .1) (s .1))
+    let same = ap coversOf (s .0 .1 .1) ∙ listing-untouched w usual p cs in
+    (equals-pages (coversOf (basis p cs)) es g (basisOf (e .context .problem)) same e (c .0), equal-at-any p cs es g us (c .1) (s .1))
 
-demand-at-any : (p : Table) (ts : List Term) (es : List Exchange) → All (RepliedIn engine Fine) es → All (StandsAtAnyPrices p ts) es → DemandAtAnyPrices p ts es
-demand-at-any p ts es r s = record { each = each; pages = pages; products = equal-at-any p ts es pages es each s }
+demand-at-any : (p : Table) (cs : List Candidate) (es : List Exchange) → All (RepliedIn engine Fine) es → All (StandsAtAnyPrices p cs) es → DemandAtAnyPrices p cs es
+demand-at-any p cs es r s = record { each = each; pages = pages; products = equal-at-any p cs es pages es each s }
   where
     each : All (λ e. CorrectExchange (basisOf (e .context .problem)) e) es
-    each = each-at-any p ts es r s
+    each = each-at-any p cs es r s
 
-    pages : Gives Kind.L (coversOf (basis p ts)) es
+    pages : Gives Kind.L (coversOf (basis p cs)) es
     pages =
-        gives engine Kind.L (coversOf (basis p ts)) (StandsAtAnyPrices p ts) (lists-at-any p ts) (rising (covering (basis p ts))) es
+        gives engine Kind.L (coversOf (basis p cs)) (StandsAtAnyPrices p cs) (lists-at-any p cs) (rising (covering (basis p cs))) es
         (all-to (RepliedIn engine Fine) (Replied engine) (λ e h. h .0) es r) s
 
 pub at-any-prices : AtAnyPrices
-at-any-prices p ts = claim engine engine-lawful Fine valid (StandsAtAnyPrices p ts) (DemandAtAnyPrices p ts) (demand-at-any p ts)
+at-any-prices p cs = claim engine engine-lawful Fine valid (StandsAtAnyPrices p cs) (DemandAtAnyPrices p cs) (demand-at-any p cs)

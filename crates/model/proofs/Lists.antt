@@ -2,7 +2,7 @@
 use Prim.Native.Nat.{ℕ, zero, suc, _+_, _≤_, _<_}
 use native.Mathlib.Omega.{arith}
 use native.Mathlib.Decide.{decLt}
-use mathlib.Core.Path.{_≡_, refl, ap, _∙_, subst, subst⁻¹}
+use mathlib.Core.Path.{_≡_, refl, sym, ap, ap₂, _∙_, subst, subst⁻¹}
 use mathlib.Core.Logic.{_⊎_, inl, inr}
 use mathlib.Core.Bool.{Bool, true, false, not, cond, _&&_, _||_}
 use mathlib.Core.Option.{Option, none, some as just}
@@ -185,6 +185,15 @@ from-e i zero m = elim m [ ]
 from-e i (suc k) (List·Memᴰ·head e) = omega arith
 from-e i (suc k) (List·Memᴰ·tail m) = let r = from-e (suc i) k m in omega arith
 
+-- the first n entries of a list, by an account of them from k on
+pub by-entries : (f : ℕ → ℕ) (xs : List ℕ) (k n : ℕ) → n ≤ length xs → ((i : ℕ) → i < n → f (k + i) ≡ getD xs i 0) → take n xs ≡ map f (from k n)
+by-entries f xs k zero l h = refl
+by-entries f [] k (suc n) l h = absurd (omega arith)
+by-entries f (x ∷ xs) k (suc n) l h =
+    let here : f k ≡ x = ap f (omega arith) ∙ h 0 (omega arith) in
+    let next : (i : ℕ) → i < n → f (suc k + i) ≡ getD xs i 0 = λ i m. let e : suc k + i ≡ k + suc i = omega arith in ap f e ∙ h (suc i) (omega arith) in
+    ap₂ (λ (y : ℕ) (ys : List ℕ). y ∷ ys) (sym here) (by-entries f xs (suc k) n (omega arith) next)
+
 pub below-i : {k x : ℕ} → x < k → List·Memᴰ x (below k)
 below-i {k} {x} h = from-i 0 k x (omega arith) (omega arith)
 
@@ -269,6 +278,19 @@ getD-without zero i (x ∷ xs) d l = refl
 getD-without (suc k) zero (x ∷ xs) d l = absurd (omega arith)
 getD-without (suc k) (suc i) (x ∷ xs) d l = getD-without k i xs d (omega arith)
 
+-- the entries as they are, with none for what is not there
+pub entry-before : {A : Type 0} (k i : ℕ) (xs : List A) → i < k → getElem? (without k xs) i ≡ getElem? xs i
+entry-before k i [] l = refl
+entry-before zero i (x ∷ xs) l = absurd (omega arith)
+entry-before (suc k) zero (x ∷ xs) l = refl
+entry-before (suc k) (suc i) (x ∷ xs) l = entry-before k i xs (omega arith)
+
+pub entry-without : {A : Type 0} (k i : ℕ) (xs : List A) → k ≤ i → getElem? (without k xs) i ≡ getElem? xs (suc i)
+entry-without k i [] l = refl
+entry-without zero i (x ∷ xs) l = refl
+entry-without (suc k) zero (x ∷ xs) l = absurd (omega arith)
+entry-without (suc k) (suc i) (x ∷ xs) l = entry-without k i xs (omega arith)
+
 -- each entry is so
 
 module _ {A : Type 0} (P : A → Type 0) where
@@ -348,6 +370,10 @@ module _ {A : Type 0} (P : A → Type 0) where
 pub all-map : {A B : Type 0} (P : B → Type 0) (f : A → B) (xs : List A) → All (λ x. P (f x)) xs → All P (map f xs)
 all-map P f [] a = tt
 all-map P f (x ∷ xs) a = (a .0, all-map P f xs (a .1))
+
+pub all-unmap : {A B : Type 0} (P : B → Type 0) (f : A → B) (xs : List A) → All P (map f xs) → All (λ x. P (f x)) xs
+all-unmap P f [] a = tt
+all-unmap P f (x ∷ xs) a = (a .0, all-unmap P f xs (a .1))
 
 pub map-all : {A B : Type 0} (P : B → Type 0) (f : A → B) (xs : List A) → All P (map f xs) → All (λ x. P (f x)) xs
 map-all P f [] a = tt

@@ -16,10 +16,10 @@ use Rattle.model.specs.Table.{isOn, isDc, isOff, cell, cells, onCells, h
 use Rattle.model.specs.Sets.{Covering, Within, covers, coverable}
 use Rattle.model.specs.Presence.{valuesAt, sumAt, productUpTo}
 use Rattle.model.specs.Products.{holders, joined, kept, productsUpTo, tooMany, MinimalUpTo}
-use Rattle.model.specs.Candidates.{usual, termCost}
-use Rattle.model.specs.Commands.{kindOf, begun, inTerms, Problem, empty, started, atPlace, withCands, addRows, Context, coveringOf, problemAfter, tableOf}
+use Rattle.model.specs.Candidates.{termsAlone, usual, candidateCost}
+use Rattle.model.specs.Commands.{kindOf, begun, inCandidates, Problem, empty, started, atPlace, withCands, addRows, Context, coveringOf, problemAfter, tableOf}
 use Rattle.model.specs.Answers.{answer, answerFor}
-use Rattle.model.specs.Refusals.{largestNumber, refusalsOf}
+use Rattle.model.specs.Refusals.{refusalsOf}
 use Rattle.model.specs.Rules.{engine, refusalsBy, refusalBy, refusal}
 use Rattle.model.specs.Job.{commands, run, written, packed}
 use Rattle.model.specs.Library.{callRefusals, multiplyCovers}
@@ -205,8 +205,8 @@ module _ {A X : Type 0} (k : Covering A X) where
 -- what its N finds: the rows of eleven vertices, and the terms
 abbrev pub found : Problem
 found =
-    withCands manyProductsTerms (map (termCost usual) manyProductsTerms)
-    (atPlace inTerms (addRows (started begun 4 1 16) (map (λ v. record { vertex = v; on = 1; dc = 0 }) (below 11))))
+    withCands (termsAlone manyProductsTerms) (map (candidateCost usual) (termsAlone manyProductsTerms))
+    (atPlace inCandidates (addRows (started begun 4 1 16) (map (λ v. record { vertex = v; on = 1; dc = 0 }) (below 11))))
 
 abbrev atN : Context
 atN = context found 0x4e (0x45 ∷ []) 32768
@@ -251,7 +251,3 @@ many-products =
 pub many-products-call : multiplyCovers (tableOf found) (map pack manyProductsTerms) 1024 1024 .number ≡ 17
 unfolding callRefusals coverable covers isOn isDc isOff onCells cells holds formed holdsNoOff
 many-products-call = multiply-17 (tableOf found) (map pack manyProductsTerms) 1024 1024 .1 (tt, refl, found-many)
-
--- the largest number is met
-pub largest-met : packed (run manyProductsJob 32768) ≡ largestNumber * 2 ^ 32 + 135 * 2 ^ 16
-largest-met = many-products

@@ -10,13 +10,13 @@ use lib.Arith.{le→nltb}
 use lib.Count.{ones, onesIn}
 use lib.ListN.{length}
 use Rattle.model.specs.Base.{below}
-use Rattle.model.specs.Table.{Term, term, isOn, isDc, isOff, cells, onCells, holds, formed, holdsNoOff, legal, represents}
+use Rattle.model.specs.Table.{term, isOn, isDc, isOff, cells, onCells, holds, formed, holdsNoOff, legal, represents}
 use Rattle.model.specs.Primes.{contains, sameTerm, containedIn, terms, prime, primes}
 use Rattle.model.specs.Sets.{covers, cover, coverable, redundant, irredundant, irredundants, cost, cheapest}
 use Rattle.model.specs.Presence.{sumUpTo, sumAt, productUpTo, productWithDelta}
 use Rattle.model.specs.Products.{containsNoOther, holders, joined, kept, productsUpTo, products, tooMany}
 use Rattle.model.specs.Pages.{atOrAbove, page, more}
-use Rattle.model.specs.Candidates.{usual, literalsCharged, termCost, listCost, priced, basis, covering}
+use Rattle.model.specs.Candidates.{Candidate, usual, literalsCharged, termCost, listCost, priced, basis, covering}
 use Rattle.model.specs.Commands.{Kind, kindOf, width, allowed, Problem, Context, coveringOf, rowsOfB, problemAfter, tableOf, pricesOf}
 use Rattle.model.specs.Answers.{answer, answerFor}
 use Rattle.model.specs.Refusals.{refusalsOf}
@@ -79,7 +79,7 @@ unfolding irredundants irredundant redundant cover covers coverable isOn onCells
 come-and-go-bytes = refl
 
 -- K5: the candidates in the records that jobs leave, and the weights beside them
-abbrev beside : Problem → List Term × List ℕ
+abbrev beside : Problem → List Candidate × List ℕ
 beside q = (q .cands, q .weights)
 
 pub marked-weights : map (λ c. beside (lastRecord (run (c .job) (c .room)))) weighings ≡ map (λ c. (c .cands, c .weights)) weighings

@@ -12,9 +12,9 @@ use Rattle.model.specs.Table.{Table}
 use Rattle.model.specs.Sets.{coverable, irredundants}
 use Rattle.model.specs.Products.{tooMany}
 use Rattle.model.specs.Pages.{nextStart}
-use Rattle.model.specs.Candidates.{basis, covering}
+use Rattle.model.specs.Candidates.{covering}
 use Rattle.model.specs.Refusals.{Refusal, refuse, firstOf}
-use Rattle.model.specs.Library.{unpack, refusalsOfWord, callRefusals, listCovers, setsOf, joinedRows, rightRoom, multiplyRefusals, multiplyCovers}
+use Rattle.model.specs.Library.{callBasis, refusalsOfWord, callRefusals, listCovers, setsOf, joinedRows, rightRoom, multiplyRefusals, multiplyCovers}
 use Rattle.model.proofs.Lists.{T-true, T-false, all-append}
 use Rattle.model.proofs.Products.{products-irredundants}
 use Rattle.model.proofs.Runs.{first-before, first-behind}
@@ -37,7 +37,7 @@ words-most p (w ∷ ws) = (omega arith, (omega arith, words-most p ws))
 call-most : (p : Table) (words : List ℕ) → firstOf (callRefusals p words) ≤ 12
 unfolding callRefusals
 call-most p words =
-    let last = refuse 12 (not (coverable (covering (basis p (map unpack words))))) ∷ [] in
+    let last = refuse 12 (not (coverable (covering (callBasis p words)))) ∷ [] in
     first-most 12 (callRefusals p words)
     (omega arith, (omega arith, (omega arith, all-append (λ (r : Refusal). r .no ≤ 12) (join (map (refusalsOfWord p) words)) last (words-most p words) (omega arith, tt))))
 
@@ -49,7 +49,7 @@ module _ (p : Table) (words : List ℕ) (a b : ℕ) where
   lister = firstOf (callRefusals p words)
 
   abbrev many : Bool
-  many = tooMany (covering (basis p (map unpack words)))
+  many = tooMany (covering (callBasis p words))
 
   -- the call tells the first refusal that applies
   told : multiplyCovers p words a b .number ≡ first
@@ -77,7 +77,7 @@ module _ (p : Table) (words : List ℕ) (a b : ℕ) where
   by-products r z = rw (T-true {b = rightRoom a b} r) (first-behind (callRefusals p words) (refuse 17 many ∷ []) (call-numbered p words) z)
 
   -- 17 is told exactly where the lister would accept, the rows are right, and more than 1,024 products remain at some cell
-  pub multiply-17 : (multiplyCovers p words a b .number ≡ 17) ↔ (T (rightRoom a b) × (firstOf (callRefusals p words) ≡ 0) × T (tooMany (covering (basis p (map unpack words)))))
+  pub multiply-17 : (multiplyCovers p words a b .number ≡ 17) ↔ (T (rightRoom a b) × (firstOf (callRefusals p words) ≡ 0) × T (tooMany (covering (callBasis p words))))
   multiply-17 = (λ e. room (rightRoom a b) refl (sym told ∙ e), λ h. told ∙ by-products (h .0) (h .1) ∙ rw (T-true {b = many} (h .2)))
     where
       products : T (rightRoom a b) → lister ≡ 0 → (x : Bool) → many ≡ x → first ≡ 17 → T many
@@ -107,9 +107,9 @@ module _ (p : Table) (words : List ℕ) (a b : ℕ) where
   -- ---- what is handed back
 
   -- an accepted call hands back the irredundant covers, rising
-  pub multiply-lists : multiplyCovers p words a b .number ≡ 0 → multiplyCovers p words a b .sets ≡ irredundants (covering (basis p (map unpack words)))
+  pub multiply-lists : multiplyCovers p words a b .number ≡ 0 → multiplyCovers p words a b .sets ≡ irredundants (covering (callBasis p words))
   unfolding multiplyCovers
-  multiply-lists e = rw (sym told ∙ e) (products-irredundants (covering (basis p (map unpack words))))
+  multiply-lists e = rw (sym told ∙ e) (products-irredundants (covering (callBasis p words)))
 
   -- "It equals L's pages joined until no more is reported": rows of any lengths, the last of which is told that none stands above
   pub multiply-joined : multiplyCovers p words a b .number ≡ 0 → (olds : List (List ℕ)) (old : List ℕ)

@@ -191,7 +191,7 @@ all-shown k os n = rw (T-false {b = is k Kind.T} n) refl
 -- nothing is lost
 refill : (cs : List Piece) → fill (filter addsOne (map masked cs)) (operandsOfT cs) ≡ filter addsOne cs
 refill [] = refl
-refill (c ∷ cs) = go (isT c) refl (is (pieceKind c) Kind.A) (refill cs)
+refill (c ∷ cs) = go (isT c) refl (is (pieceKind c) Kind.F || is (pieceKind c) Kind.A) (refill cs)
   where
     empty : List Piece
     empty = filter addsOne (map masked cs)

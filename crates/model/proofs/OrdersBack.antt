@@ -124,7 +124,7 @@ module _ {A : Type 0} where
 
 order-T : (a b : List ℕ) → List·Permᴰ (adding a) (adding b) → List·Permᴰ (filter isT (pieces a)) (filter isT (pieces b))
 unfolding adding
-order-T a b p = let only = filter-or isT (λ c. is (pieceKind c) Kind.A) in rw (only (pieces a), only (pieces b)) at (order-filter isT p)
+order-T a b p = let only = filter-or isT (λ c. is (pieceKind c) Kind.F || is (pieceKind c) Kind.A) in rw (only (pieces a), only (pieces b)) at (order-filter isT p)
 
 -- that only a T changes its position is not needed: the T commands are told by themselves, wherever they go
 order-of : (r : Renumbering) (a b : List ℕ) → Reordered r a b → DifferInOrder a b

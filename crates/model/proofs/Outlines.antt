@@ -1,5 +1,5 @@
--- K9: what two lists of commands set that are the same but for the operands of T. Table and prices are the same; the candidates are the terms of
--- those that add one. The lists are compared as wholes: between two T commands the candidates do not correspond.
+-- K9: what two lists of commands set that are the same but for the operands of T. Table and prices are the same; the candidates are those of the
+-- commands that add one. The lists are compared as wholes: between two T commands the candidates do not correspond.
 use Prim.Native.Nat.{ℕ, _<_}
 use native.Mathlib.Omega.{arith}
 use mathlib.Core.Path.{_≡_, refl, sym, ap, ap₂, _∙_, subst}
@@ -8,11 +8,11 @@ use mathlib.Core.List.{List, [], _∷_, _++_, map, map-map, append-nil, append-a
 use lib.Dec.{T}
 use lib.ListN.{getD, length, length-map}
 use Rattle.model.specs.Base.{filter}
-use Rattle.model.specs.Table.{Term, onCells, holds}
+use Rattle.model.specs.Table.{onCells}
 use Rattle.model.specs.Sets.{Covering}
 use Rattle.model.specs.Presence.{valuesAt}
-use Rattle.model.specs.Candidates.{Prices, Basis, covering, weigh, termCost}
-use Rattle.model.specs.Commands.{Kind, is}
+use Rattle.model.specs.Candidates.{Candidate, candidateHolds, Prices, Basis, covering, weigh, candidateCost}
+use Rattle.model.specs.Commands.{Kind, is, blockOfF}
 use Rattle.model.specs.Standing.{Command, termOf, setsTo, setFrom}
 use Rattle.model.specs.Renumbered.{Renumbering, Renumbers}
 use Rattle.model.specs.Reordered.{shown, adds}
@@ -59,6 +59,7 @@ setting-step os us Kind.W e b d s = record { table = s .table; prices = rw (e tt
 setting-step os us Kind.R e b d s = record { table = rw (e tt, s .table) refl; prices = s .prices }
 setting-step os us Kind.B e b d s = record { table = rw (e tt, s .table) refl; prices = s .prices }
 setting-step os us Kind.T e b d s = record { table = s .table; prices = s .prices }
+setting-step os us Kind.F e b d s = record { table = s .table; prices = s .prices }
 setting-step os us Kind.P e b d s = record { table = s .table; prices = s .prices }
 setting-step os us Kind.A e b d s = record { table = s .table; prices = s .prices }
 setting-step os us Kind.D e b d s = record { table = s .table; prices = s .prices }
@@ -86,14 +87,22 @@ same-setting (x ∷ cs) (y ∷ ds) e b d s =
 abbrev pub addsOne : Command → Bool
 addsOne c = adds (c .kind)
 
+-- the candidate that a command of kind k adds
+abbrev addedBy : Command → Kind → Candidate
+addedBy c k = cond (is k Kind.F) (Candidate.block (blockOfF (c .operands))) (Candidate.term (termOf c))
+
+abbrev pub candidateOf : Command → Candidate
+candidateOf c = addedBy c (c .kind)
+
 -- where nothing sets the candidates anew or takes one out, these are added
 keeps-cands : (c : Command) (k : Kind) (b : Basis) → T (not (is k Kind.I)) → T (not (is k Kind.P)) → T (not (is k Kind.D))
-    → setsTo c k b .cands ≡ b .cands ++ cond (adds k) (termOf c ∷ []) []
+    → setsTo c k b .cands ≡ b .cands ++ cond (adds k) (addedBy c k ∷ []) []
 unfolding setsTo
 keeps-cands c Kind.W b i p d = sym (append-nil (b .cands))
 keeps-cands c Kind.R b i p d = sym (append-nil (b .cands))
 keeps-cands c Kind.B b i p d = sym (append-nil (b .cands))
 keeps-cands c Kind.T b i p d = refl
+keeps-cands c Kind.F b i p d = refl
 keeps-cands c Kind.A b i p d = refl
 keeps-cands c Kind.L b i p d = sym (append-nil (b .cands))
 keeps-cands c Kind.C b i p d = sym (append-nil (b .cands))
@@ -101,50 +110,50 @@ keeps-cands c Kind.N b i p d = sym (append-nil (b .cands))
 keeps-cands c Kind.E b i p d = sym (append-nil (b .cands))
 keeps-cands c Kind.none b i p d = sym (append-nil (b .cands))
 
-pub added : (cs : List Command) → None Kind.I (kindsIn cs) → None Kind.P (kindsIn cs) → None Kind.D (kindsIn cs) → (b : Basis) → setFrom b cs .cands ≡ b .cands ++ map termOf (filter addsOne cs)
+pub added : (cs : List Command) → None Kind.I (kindsIn cs) → None Kind.P (kindsIn cs) → None Kind.D (kindsIn cs) → (b : Basis) → setFrom b cs .cands ≡ b .cands ++ map candidateOf (filter addsOne cs)
 added [] i p d b = sym (append-nil (b .cands))
 added (c ∷ cs) i p d b =
     added cs (i .1) (p .1) (d .1) (setsTo c (c .kind) b)
-    ∙ ap (λ (ts : List Term). ts ++ map termOf (filter addsOne cs)) (keeps-cands c (c .kind) b (i .0) (p .0) (d .0))
-    ∙ append-assoc (b .cands) (cond (addsOne c) (termOf c ∷ []) []) (map termOf (filter addsOne cs))
-    ∙ ap (λ (ts : List Term). b .cands ++ ts) (go (addsOne c))
+    ∙ ap (λ (ks : List Candidate). ks ++ map candidateOf (filter addsOne cs)) (keeps-cands c (c .kind) b (i .0) (p .0) (d .0))
+    ∙ append-assoc (b .cands) (cond (addsOne c) (candidateOf c ∷ []) []) (map candidateOf (filter addsOne cs))
+    ∙ ap (λ (ks : List Candidate). b .cands ++ ks) (go (addsOne c))
   where
-    go : (a : Bool) → cond a (termOf c ∷ []) [] ++ map termOf (filter addsOne cs) ≡ map termOf (cond a (c ∷ filter addsOne cs) (filter addsOne cs))
+    go : (a : Bool) → cond a (candidateOf c ∷ []) [] ++ map candidateOf (filter addsOne cs) ≡ map candidateOf (cond a (c ∷ filter addsOne cs) (filter addsOne cs))
     go true = refl
     go false = refl
 
 -- ---- coverings
 
--- the terms of two lists of commands, each at its new position
+-- the candidates of two lists of commands, each at its new position
 module _ (r : Renumbering) (us vs : List Command) where
   abbrev pub MovesTo : Type 1
   MovesTo = (B : Type 0) (f : Command → B) (d : B) (i : ℕ) → i < length us → getD (map f us) i d ≡ getD (map f vs) (r .to i) d
 
-  pub moved-renumbers : (b d : Basis) → SameSetting b d → b .cands ≡ map termOf us → d .cands ≡ map termOf vs → length us ≡ length vs → FixedFrom (length us) r → MovesTo
+  pub moved-renumbers : (b d : Basis) → SameSetting b d → b .cands ≡ map candidateOf us → d .cands ≡ map candidateOf vs → length us ≡ length vs → FixedFrom (length us) r → MovesTo
       → Renumbers r (covering b) (covering d)
   moved-renumbers b d s e f l fixed m = record {
     points = ap onCells (s .table);
     count = count-b ∙ l ∙ sym count-d;
     beyond = λ i h. fixed i (omega (arith, count-b));
     holds = λ x i h.
-        by (λ t. holds t x) (b .cands) us e false i
-        ∙ m Bool (λ c. holds (termOf c) x) false i (omega (arith, count-b))
-        ∙ sym (by (λ t. holds t x) (d .cands) vs f false (r .to i));
+        by (λ k. candidateHolds k x) (b .cands) us e false i
+        ∙ m Bool (λ c. candidateHolds (candidateOf c) x) false i (omega (arith, count-b))
+        ∙ sym (by (λ k. candidateHolds k x) (d .cands) vs f false (r .to i));
     weight = λ i h.
         by (weigh b) (b .cands) us e 0 i
-        ∙ m ℕ (λ c. weigh b (termOf c)) 0 i (omega (arith, count-b))
-        ∙ ap (λ (w : Prices). getD (map (λ c. termCost w (termOf c)) vs) (r .to i) 0) (s .prices)
+        ∙ m ℕ (λ c. weigh b (candidateOf c)) 0 i (omega (arith, count-b))
+        ∙ ap (λ (w : Prices). getD (map (λ c. candidateCost w (candidateOf c)) vs) (r .to i) 0) (s .prices)
         ∙ sym (by (weigh d) (d .cands) vs f 0 (r .to i));
   }
     where
       count-b : length (b .cands) ≡ length us
-      count-b = ap length e ∙ length-map us termOf
+      count-b = ap length e ∙ length-map us candidateOf
 
       count-d : length (d .cands) ≡ length vs
-      count-d = ap length f ∙ length-map vs termOf
+      count-d = ap length f ∙ length-map vs candidateOf
 
-      by : {B : Type 0} (g : Term → B) (ts : List Term) (ws : List Command) → ts ≡ map termOf ws → (z : B) (i : ℕ) → getD (map g ts) i z ≡ getD (map (λ c. g (termOf c)) ws) i z
-      by g ts ws q z i = ap (λ (ts : List Term). getD (map g ts) i z) q ∙ ap (λ (ys : List _). getD ys i z) (map-map g termOf ws)
+      by : {B : Type 0} (g : Candidate → B) (ks : List Candidate) (ws : List Command) → ks ≡ map candidateOf ws → (z : B) (i : ℕ) → getD (map g ks) i z ≡ getD (map (λ c. g (candidateOf c)) ws) i z
+      by g ks ws q z i = ap (λ (ks : List Candidate). getD (map g ks) i z) q ∙ ap (λ (ys : List _). getD ys i z) (map-map g candidateOf ws)
 
 -- where nothing moves
 pub stay-renumbers : {A X : Type 0} (r : Renumbering) (k : Covering A X) → ((i : ℕ) → r .to i ≡ i) → Renumbers r k k

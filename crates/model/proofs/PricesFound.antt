@@ -29,6 +29,7 @@ prices-kept c Kind.W b i w = absurd w
 prices-kept c Kind.R b i w = refl
 prices-kept c Kind.B b i w = refl
 prices-kept c Kind.T b i w = refl
+prices-kept c Kind.F b i w = refl
 prices-kept c Kind.P b i w = refl
 prices-kept c Kind.A b i w = refl
 prices-kept c Kind.D b i w = refl

@@ -8,9 +8,8 @@ use borrow.Author.Tests.{ne-eqb}
 use lib.Dec.{T, eqb, ltb}
 use lib.ListN.{length, drop}
 use Rattle.model.specs.Base.{without, All}
-use Rattle.model.specs.Table.{Term}
-use Rattle.model.specs.Candidates.{Prices, termCost}
-use Rattle.model.specs.Commands.{Kind, is, kindOf, width, allowed, Problem, pricesOf, Context, empty, Row, rowsOfB, withPrices, addRow, addRows, addTerm, takeOut, problemAfter}
+use Rattle.model.specs.Candidates.{Candidate, Prices, candidateCost}
+use Rattle.model.specs.Commands.{Kind, is, kindOf, width, allowed, Problem, pricesOf, Context, empty, Row, rowsOfB, withPrices, addRow, addRows, addCandidate, takeOut, problemAfter}
 use Rattle.model.specs.Answers.{Answer, bytesOf, answerFor, answer}
 use Rattle.model.specs.Refusals.{rowsRefusals, refusalsOf}
 use Rattle.model.specs.Rules.{engine, refusalsBy, refusalBy}
@@ -27,11 +26,11 @@ use Rattle.model.proofs.Behind.{behind-ind}
 
 -- ---- one command
 
-pub weighed-added : (q : Problem) (t : Term) → Weighed q → Weighed (addTerm q t)
-weighed-added q t w = ap (λ (ws : List ℕ). ws ++ (termCost (pricesOf q) t ∷ [])) w ∙ sym (map-append (termCost (pricesOf q)) (q .cands) (t ∷ []))
+pub weighed-added : (q : Problem) (c : Candidate) → Weighed q → Weighed (addCandidate q c)
+weighed-added q c w = ap (λ (ws : List ℕ). ws ++ (candidateCost (pricesOf q) c ∷ [])) w ∙ sym (map-append (candidateCost (pricesOf q)) (q .cands) (c ∷ []))
 
 pub weighed-without : (q : Problem) (k : ℕ) → Weighed q → Weighed (takeOut q k)
-weighed-without q k w = ap (without k) w ∙ sym (map-without (termCost (pricesOf q)) k (q .cands))
+weighed-without q k w = ap (without k) w ∙ sym (map-without (candidateCost (pricesOf q)) k (q .cands))
 
 weighed-rows : (ws : List Row) (q : Problem) → Weighed q → Weighed (addRows q ws)
 weighed-rows [] q w = w
@@ -39,7 +38,7 @@ weighed-rows (r ∷ ws) q w = weighed-rows ws (addRow q r) w
 
 -- W finds no candidate
 weighed-prices : (q : Problem) (p : Prices) → q .cands ≡ [] → Weighed q → Weighed (withPrices p q)
-weighed-prices q p none w = w ∙ ap (map (termCost (pricesOf q))) none ∙ sym (ap (map (termCost p)) none)
+weighed-prices q p none w = w ∙ ap (map (candidateCost (pricesOf q))) none ∙ sym (ap (map (candidateCost p)) none)
 
 pub weighed-after : (x : Context) (k : Kind) → T (allowed k (x .problem .place)) → Valid (x .problem) → Weighed (x .problem) → Weighed (problemAfter x k)
 unfolding problemAfter
@@ -48,6 +47,7 @@ weighed-after x Kind.W a v w = weighed-prices (x .problem) _ (v .early (omega (a
 weighed-after x Kind.R a v w = w
 weighed-after x Kind.B a v w = weighed-rows (rowsOfB (x .rest)) (x .problem) w
 weighed-after x Kind.T a v w = weighed-added (x .problem) _ w
+weighed-after x Kind.F a v w = weighed-added (x .problem) _ w
 weighed-after x Kind.P a v w = refl
 weighed-after x Kind.A a v w = weighed-added (x .problem) _ w
 weighed-after x Kind.D a v w = weighed-without (x .problem) _ w
@@ -150,6 +150,7 @@ unread x Kind.W = record { refusals = refl; answer = refl; after = refl }
 unread x Kind.R = record { refusals = refl; answer = refl; after = refl }
 unread x Kind.B = record { refusals = rows-refused (rowsOfB (x .rest)) (x .problem); answer = refl; after = rows-same (rowsOfB (x .rest)) (x .problem) }
 unread x Kind.T = record { refusals = refl; answer = refl; after = refl }
+unread x Kind.F = record { refusals = refl; answer = refl; after = refl }
 unread x Kind.P = record { refusals = refl; answer = refl; after = refl }
 unread x Kind.A = record { refusals = refl; answer = refl; after = refl }
 unread x Kind.D = record { refusals = refl; answer = refl; after = refl }

@@ -10,7 +10,7 @@ use lib.ListN.{getD, getElem?, length, length-map, List·getD-append}
 use Rattle.model.specs.Base.{every, filter, All}
 use Rattle.model.specs.Candidates.{covering}
 use Rattle.model.specs.Commands.{atStart, Kind, is, empty, basisOf}
-use Rattle.model.specs.Standing.{Command, termOf, setsTo, standing, raises}
+use Rattle.model.specs.Standing.{Command, setsTo, standing, raises}
 use Rattle.model.specs.Pieces.{Piece, pieceKind, pieces}
 use Rattle.model.specs.Renumbered.{Renumbering, Renumbers, SameCovers}
 use Rattle.model.specs.Reordered.{holdsNoD, masked, outline, adding, Reordered}
@@ -18,7 +18,7 @@ use Rattle.model.proofs.Lists.{T-false, and-l, and-r, filter-append, fi
 use Rattle.model.proofs.RenumberedSets.{FixedFrom, to-lt}
 use Rattle.model.proofs.Renumbered.{same-covers}
 use Rattle.model.proofs.Accepted.{commandIn, Orderly, kindsIn, None, terms-or-primes, first-is-I}
-use Rattle.model.proofs.Outlines.{givesTerm, hidden, hidden-kinds, all-seen, SameSetting, same-setting, addsOne, added, MovesTo, moved-renumbers, stay-renumbers}
+use Rattle.model.proofs.Outlines.{givesTerm, hidden, hidden-kinds, all-seen, SameSetting, same-setting, addsOne, candidateOf, added, MovesTo, moved-renumbers, stay-renumbers}
 
 -- the commands that a job is cut into
 abbrev pub cut : List ℕ → List Command
@@ -41,8 +41,8 @@ orderly-left : (p : ℕ) (ks js : List Kind) → Orderly p (ks ++ js) → Orderl
 orderly-left p [] js o = tt
 orderly-left p (k ∷ ks) js o = (o .0, orderly-left (max (raises k) p) ks js (o .1))
 
--- without P and D: the terms of T and A, as they came
-pub stand-added : (cs : List Command) → Orderly atStart (kindsIn cs) → None Kind.P (kindsIn cs) → None Kind.D (kindsIn cs) → standing cs .cands ≡ map termOf (filter addsOne cs)
+-- without P and D: those of T, F and A, as they came
+pub stand-added : (cs : List Command) → Orderly atStart (kindsIn cs) → None Kind.P (kindsIn cs) → None Kind.D (kindsIn cs) → standing cs .cands ≡ map candidateOf (filter addsOne cs)
 unfolding setsTo
 stand-added [] o p d = refl
 stand-added (c ∷ cs) o p d =

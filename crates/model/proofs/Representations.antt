@@ -15,7 +15,7 @@ use Rattle.model.specs.Base.{bit, every, sum}
 use Rattle.model.specs.Table.{Table, Term, isOn, onCells, holds, cells, legal, represents}
 use Rattle.model.specs.Primes.{prime}
 use Rattle.model.specs.Sets.{Covering, Within, members, covers, cover, cost, cheapest}
-use Rattle.model.specs.Candidates.{listCost, Basis, weigh, covering}
+use Rattle.model.specs.Candidates.{Candidate, termsAlone, Prices, termCost, candidateCost, listCost, Basis, priced, covering}
 use Rattle.model.proofs.Lists.{yes-or-no, and-l, and-r, every-e, filter-e, T-true, T-false}
 use Rattle.model.proofs.Bits.{bit0-e, bit0-n}
 use Rattle.model.proofs.Sets.{members-more, covers-e, cover-i, cheapest-le}
@@ -125,25 +125,37 @@ module _ {A B X : Type 0} (k : Covering A X) (held-by : B → X → Bool) (price
 
 -- ---- terms, at any weight that more literals do not lower
 
-module _ (b : Basis) (dearer : (t u : Term) → ones (t .care) ≤ ones (u .care) → weigh b t ≤ weigh b u) where
-  pub no-cheaper-list : ((t : Term) → T (prime (b .table) t) → List·Memᴰ t (b .cands)) → (qs : List Term) → T (represents (b .table) qs) → cost (covering b) (cheapest (covering b)) ≤ listCost b qs
+module _ (b : Basis) (dearer : (t u : Term) → ones (t .care) ≤ ones (u .care) → termCost (b .prices) t ≤ termCost (b .prices) u) where
+  pub no-cheaper-list : ((t : Term) → T (prime (b .table) t) → List·Memᴰ (Candidate.term t) (b .cands)) → (qs : List Term)
+      → T (represents (b .table) qs) → cost (covering b) (cheapest (covering b)) ≤ listCost b qs
   unfolding represents onCells covers listCost
   no-cheaper-list all qs r =
       let fair = and-l (every (legal p) qs) (covers holds (onCells p) qs) r in
-      dominated (covering b) holds (weigh b) qs (λ q m. one q (prime-over p q (every-e (legal p) m fair))) (and-r (every (legal p) qs) (covers holds (onCells p) qs) r)
+      dominated (covering b) holds (termCost (b .prices)) qs (λ q m. one q (prime-over p q (every-e (legal p) m fair))) (and-r (every (legal p) qs) (covers holds (onCells p) qs) r)
     where
       p : Table
       p = b .table
 
-      one : (q : Term) → Over p q → Dominated (covering b) holds (weigh b) q
+      one : (q : Term) → Over p q → Dominated (covering b) holds (termCost (b .prices)) q
       one q o = record {
-        by = o .top;
+        by = Candidate.term (o .top);
         listed = all (o .top) (o .prime-top);
         wider = λ x i h. contains-e p (o .top) q (o .containing) x (filter-e (isOn p) (cells p) i .0) h;
         fewer = dearer (o .top) q (o .fewer);
       }
 
--- the rival pays for the members of a set what the set costs
-pub members-cost : (b : Basis) (s : ℕ) → listCost b (members (b .cands) s) ≡ cost (covering b) s
+-- the rival pays for the members of a set of terms what the set costs
+pub members-cost : (w : Prices) (p : Table) (ts : List Term) (s : ℕ) → listCost (priced w p (termsAlone ts)) (members ts s) ≡ cost (covering (priced w p (termsAlone ts))) s
 unfolding listCost cost
-members-cost b s = refl
+members-cost w p [] s = refl
+members-cost w p (t ∷ ts) s = go (bit 0 s) (members-cost w p ts (s / 2))
+  where
+    ms : List Term
+    ms = members ts (s / 2)
+
+    ks : List Candidate
+    ks = members (termsAlone ts) (s / 2)
+
+    go : (b : Bool) → sum (termCost w) ms ≡ sum (candidateCost w) ks → sum (termCost w) (cond b (t ∷ ms) ms) ≡ sum (candidateCost w) (cond b (Candidate.term t ∷ ks) ks)
+    go true e = ap (λ (x : ℕ). termCost w t + x) e
+    go false e = e

@@ -29,11 +29,11 @@ use Rattle.model.proofs.ReorderedCall.{in-any-order}
 -- ---- the order, twice: the equal T commands may be told apart in two ways
 
 -- position i goes to entry i of the list, and stays where there is none
-abbrev through : List ℕ → ℕ → ℕ
+abbrev pub through : List ℕ → ℕ → ℕ
 through ps i = getD ps i i
 
 -- what holds of the first four and of all behind them
-one-by-one : (P : ℕ → Type 0) → P 0 → P 1 → P 2 → P 3 → ((i : ℕ) → P (suc (suc (suc (suc i))))) → (i : ℕ) → P i
+pub one-by-one : (P : ℕ → Type 0) → P 0 → P 1 → P 2 → P 3 → ((i : ℕ) → P (suc (suc (suc (suc i))))) → (i : ℕ) → P i
 one-by-one P a b c d f zero = a
 one-by-one P a b c d f (suc zero) = b
 one-by-one P a b c d f (suc (suc zero)) = c

@@ -2,33 +2,34 @@
 use Prim.Native.Nat.{ℕ, zero, suc, _*_, _/_, _^_, _≤_, _<_}
 use native.Mathlib.Omega.{arith}
 use native.Mathlib.Nat.{mul-suc}
-use mathlib.Core.Path.{_≡_, subst, subst⁻¹}
+use mathlib.Core.Path.{_≡_, refl, subst, subst⁻¹}
 use mathlib.Core.Bool.{Bool, true, false, not, cond, _&&_, _||_}
 use mathlib.Core.List.{List, [], _∷_, map}
-use lib.Dec.{T, leb, ltb, leb→le, nleb→lt, nltb→le}
+use lib.Dec.{T, leb, ltb, leb→le, ltb→lt, nleb→lt, nltb→le}
 use lib.Pow.{pow-mono}
-use lib.ListN.{getD, length, length-take, length-append}
+use lib.ListN.{getD, length, length-take, length-append, length-map}
 use Rattle.model.specs.Base.{bit, below, join, sum, All, Bytes}
 use Rattle.model.specs.Table.{Table, Term, formed}
 use Rattle.model.specs.Primes.{primes}
+use Rattle.model.specs.Blocks.{Block, verticesBelow, blockFormed}
 use Rattle.model.specs.Sets.{Covering, members, coverable, irredundant, irredundants, cost, cheapest}
 use Rattle.model.specs.Products.{mostProducts, products}
 use Rattle.model.specs.Pages.{atOrAbove, page, more}
-use Rattle.model.specs.Candidates.{Prices, usual, termCost, weigh}
-use Rattle.model.specs.Commands.{queried, Kind, kindOf, width, Problem, empty, atPlace, Context, low, operand, operandTerm, operandNumber, operandPrices}
-use Rattle.model.specs.Commands.{start, count, coveringOf, Row, rowOfR, rowsOfB, addRow, addTerm, problemAfter, tableOf, pricesOf, basisOf}
+use Rattle.model.specs.Candidates.{Candidate, Prices, usual, candidateCost, weigh}
+use Rattle.model.specs.Commands.{queried, Kind, kindOf, width, Problem, empty, atPlace, Context, low, operand, operandTerm, operandBlock, operandNumber, operandPrices}
+use Rattle.model.specs.Commands.{start, count, coveringOf, Row, rowOfR, rowsOfB, addRow, addCandidate, problemAfter, tableOf, pricesOf, basisOf}
 use Rattle.model.specs.Answers.{Answer, bytesOf, answerFor, answer}
-use Rattle.model.specs.Refusals.{size, dear, candidateRefusals, refusalsOf}
+use Rattle.model.specs.Refusals.{size, dear, termRefusals, blockRefusals, refusalsOf}
 use Rattle.model.specs.Rules.{Rules, engine}
 use Rattle.model.specs.Job.{runBy, written}
-use Rattle.model.specs.Invariants.{Small, Moderate, Sound}
-use Rattle.model.proofs.Lists.{twice, not-or-l, not-or-r, and-l, and-r, below-e, length-without, all-append, all-filter, all-drop, all-without, all-of, all-to}
+use Rattle.model.specs.Invariants.{Small, SmallCandidate, Moderate, Sound}
+use Rattle.model.proofs.Lists.{twice, not-or-l, not-or-r, and-l, and-r, below-e, length-without, all-append, all-filter, all-drop, all-without, all-of, all-to, all-map}
 use Rattle.model.proofs.Bits.{within-le}
 use Rattle.model.proofs.Sets.{cheapest-irredundant}
 use Rattle.model.proofs.Pages.{all-page}
 use Rattle.model.proofs.Products.{products-irredundants}
 use Rattle.model.proofs.Remaining.{few-products}
-use Rattle.model.proofs.Costs.{cost-small}
+use Rattle.model.proofs.Costs.{weight-small}
 use Rattle.model.proofs.Cubes.{Formed, formed-e, legal-formed, prime-e, primes-e}
 use Rattle.model.proofs.Codes.{is-kind}
 use Rattle.model.proofs.Runs.{Numbered, NoneApplies, Lawful, context, OnRuns, IfEnds, IfGoes, run-ind}
@@ -46,9 +47,33 @@ formed-small p t n m f =
 primes-small : (p : Table) → p .n ≤ 8 → p .m ≤ 8 → All Small (primes p)
 primes-small p n m = all-of Small (primes p) (λ t i. formed-small p t n m (legal-formed p t (prime-e p t (primes-e p t i) .0)))
 
+-- ---- blocks
+
+pub record FormedBlock (p : Table) (b : Block) : Type 0 where
+  pub some-output : 0 < b .outputs
+  pub outputs-lt : b .outputs < 2 ^ p .m
+  pub vertices : T (verticesBelow (2 ^ p .n) b)
+  pub light : b .weight ≤ 850
+
+pub formed-block : (p : Table) (b : Block) → T (blockFormed p b) → FormedBlock p b
+unfolding blockFormed
+formed-block p b f =
+    let none = ltb 0 (b .outputs) in
+    let low = ltb (b .outputs) (2 ^ p .m) in
+    let inside = verticesBelow (2 ^ p .n) b in
+    let light = leb (b .weight) 850 in
+    let rest = and-r none (low && (inside && light)) f in
+    let last = and-r low (inside && light) rest in
+    record {
+      some-output = ltb→lt 0 (b .outputs) (and-l none (low && (inside && light)) f);
+      outputs-lt = ltb→lt (b .outputs) (2 ^ p .m) (and-l low (inside && light) rest);
+      vertices = and-l inside light last;
+      light = leb→le (b .weight) 850 (and-r inside light last);
+    }
+
 -- ---- bytes
 
-low-bytes : (w x : ℕ) → Bytes (low w x)
+pub low-bytes : (w x : ℕ) → Bytes (low w x)
 low-bytes zero x = tt
 low-bytes (suc w) x = (omega arith, low-bytes w (x / 256))
 
@@ -102,8 +127,8 @@ sum-small w most (t ∷ ts) s a = go (bit 0 s) (sum-small w most ts (s / 2) (a .
     go true h = omega (arith, a .0, mul-suc most (length ts))
     go false h = omega (arith, mul-suc most (length ts))
 
-costs-small : (w : Prices) → Moderate w → (ts : List Term) → All Small ts → All (λ t. termCost w t ≤ 850) ts
-costs-small w m ts = all-to Small (λ t. termCost w t ≤ 850) (λ t. cost-small w t m) ts
+costs-small : (w : Prices) → Moderate w → (cs : List Candidate) → All SmallCandidate cs → All (λ c. candidateCost w c ≤ 850) cs
+costs-small w m cs = all-to SmallCandidate (λ c. candidateCost w c ≤ 850) (weight-small w m) cs
 
 -- ---- prices
 
@@ -147,18 +172,30 @@ sound-I t a =
       small = tt;
     }
 
--- T and A
-sound-term : (t : Context) → NoneApplies (candidateRefusals t) → Sound (t .problem) → Sound (addTerm (t .problem) (operandTerm t))
-sound-term t a s = record {
+-- one candidate more
+sound-more : (q : Problem) (c : Candidate) → T (not (leb 64 (length (q .cands)))) → SmallCandidate c → Sound q → Sound (addCandidate q c)
+sound-more q c l a s = record {
   inputs = s .inputs;
   outputs = s .outputs;
   prices = s .prices;
-  few = omega (arith, nleb→lt 64 (length (t .problem .cands)) (a .1 .1 .0), length-append (t .problem .cands) (operandTerm t ∷ []));
-  small =
-      let p = tableOf (t .problem) in
-      let u = operandTerm t in
-      all-append Small (t .problem .cands) (u ∷ []) (s .small) (formed-small p u (s .inputs) (s .outputs) (formed-e p u (twice (formed p u) (a .0))), tt);
+  few = omega (arith, nleb→lt 64 (length (q .cands)) l, length-append (q .cands) (c ∷ []));
+  small = all-append SmallCandidate (q .cands) (c ∷ []) (s .small) (a, tt);
 }
+
+-- T and A
+sound-term : (t : Context) → NoneApplies (termRefusals t) → Sound (t .problem) → Sound (addCandidate (t .problem) (Candidate.term (operandTerm t)))
+sound-term t a s =
+    let p = tableOf (t .problem) in
+    let u = operandTerm t in
+    sound-more (t .problem) (Candidate.term u) (a .1 .1 .0) (formed-small p u (s .inputs) (s .outputs) (formed-e p u (twice (formed p u) (a .0)))) s
+
+sound-block : (t : Context) → NoneApplies (blockRefusals (t .problem) (operandBlock t)) → Sound (t .problem) → Sound (addCandidate (t .problem) (Candidate.block (operandBlock t)))
+sound-block t a s =
+    let p = tableOf (t .problem) in
+    let b = operandBlock t in
+    let f = formed-block p b (twice (blockFormed p b) (a .0)) in
+    let m = pow-mono (s .outputs) in
+    sound-more (t .problem) (Candidate.block b) (a .1 .1 .0) (record { outputs = omega (arith, f .outputs-lt); vertices = refl; weight = f .light }) s
 
 fits-P : (t : Context) → NoneApplies (refusalsOf t Kind.P) → Sound (t .problem) → FitsBehind (t .rest) (answerFor t Kind.P)
 unfolding refusalsOf answerFor
@@ -198,14 +235,15 @@ lawful-at t Kind.B = record {
   fits = λ a s. (tt, λ b. tt);
 }
 lawful-at t Kind.T = record { numbered = (omega arith, (omega arith, (omega arith, tt))); sound = sound-term t; fits = λ a s. (tt, λ b. tt) }
+lawful-at t Kind.F = record { numbered = (omega arith, (omega arith, (omega arith, tt))); sound = sound-block t; fits = λ a s. (tt, λ b. tt) }
 lawful-at t Kind.P = record {
   numbered = (omega arith, tt);
   sound = λ a s. record {
     inputs = s .inputs;
     outputs = s .outputs;
     prices = s .prices;
-    few = nltb→le 64 (length (primes (tableOf (t .problem)))) (a .0);
-    small = primes-small (tableOf (t .problem)) (s .inputs) (s .outputs);
+    few = omega (arith, length-map (primes (tableOf (t .problem))) Candidate.term, nltb→le 64 (length (primes (tableOf (t .problem)))) (a .0));
+    small = all-map SmallCandidate Candidate.term (primes (tableOf (t .problem))) (primes-small (tableOf (t .problem)) (s .inputs) (s .outputs));
   };
   fits = fits-P t;
 }
@@ -217,7 +255,7 @@ lawful-at t Kind.D = record {
     outputs = s .outputs;
     prices = s .prices;
     few = omega (arith, length-without (operandNumber t) (t .problem .cands) (nleb→lt (length (t .problem .cands)) (operandNumber t) (a .0)), s .few);
-    small = all-without Small (operandNumber t) (t .problem .cands) (s .small);
+    small = all-without SmallCandidate (operandNumber t) (t .problem .cands) (s .small);
   };
   fits = λ a s. (tt, λ b. tt);
 }

@@ -10,16 +10,16 @@ use lib.Dec.{T, leb, leb→le, le→leb, nleb→lt}
 use lib.Seq.{getD-take}
 use lib.ListN.{length}
 use Rattle.model.specs.Base.{some, filter, All}
-use Rattle.model.specs.Table.{term}
-use Rattle.model.specs.Candidates.{Basis, priced}
-use Rattle.model.specs.Commands.{atStart, begun, inRows, inTerms, queried, Kind, formOf, is, kinds, width, isQueryKind, allowed, empty}
+use Rattle.model.specs.Blocks.{Block}
+use Rattle.model.specs.Candidates.{Candidate, Basis, priced}
+use Rattle.model.specs.Commands.{atStart, begun, inRows, inCandidates, queried, Kind, formOf, is, kinds, width, isQueryKind, allowed, empty}
 use Rattle.model.specs.Commands.{Problem, tableOf, pricesOf, basisOf, Context, operand, operandNumber, Row, rowsOfB, problemAfter}
 use Rattle.model.specs.Refusals.{refusalsOf}
 use Rattle.model.specs.Rules.{engine}
 use Rattle.model.specs.Demand3.{HasBasis}
 use Rattle.model.specs.Standing.{Command, commandOf, operandOf, rowsSet, setsTo, setFrom, standing, FindsStanding, TakenOut, TakesOut, raises}
 use Rattle.model.specs.Standing.{highest, Placed, noneCame, Places, addsOrRemoves, SameBetween, SetBy, AskedBehind, StandingDemand3}
-use Rattle.model.proofs.Lists.{T-true, bool-ext, and-l, and-r, and-i, length-without, getD-before, getD-without, all-e}
+use Rattle.model.proofs.Lists.{T-true, bool-ext, and-l, and-r, and-i, length-without, entry-before, entry-without, all-e}
 use Rattle.model.proofs.Codes.{is-kind, kind-among, any-query, query-keeps}
 use Rattle.model.proofs.Runs.{NoneApplies, Passed, passed}
 use Rattle.model.proofs.RowByRow.{rows-set, same-rows}
@@ -28,6 +28,7 @@ use Rattle.model.proofs.Valid.{place-one, place-last, allowed-from}
 use Rattle.model.proofs.Exchanges.{claim-where}
 use Rattle.model.proofs.Demand3.{query-kind, demand-3}
 use Rattle.model.proofs.Behind.{not-nil, behind-ind}
+use Rattle.model.proofs.BlockBytes.{same-block}
 
 -- ---- the table, the prices and the candidates
 
@@ -40,6 +41,7 @@ sets-by x Kind.R g = rw (g 0 (omega arith), g 1 (omega arith), g 2 (omega arith)
 sets-by x Kind.B g = rows-set (rowsOfB (x .rest)) (x .problem)
     ∙ ap (λ (ws : List Row). priced (pricesOf (x .problem)) (rowsSet (tableOf (x .problem)) ws) (x .problem .cands)) (sym (same-rows (commandOf x .operands) (x .rest) g))
 sets-by x Kind.T g = rw (g 0 (omega arith), g 1 (omega arith), g 2 (omega arith))
+sets-by x Kind.F g = ap (λ (b : Block). priced (pricesOf (x .problem)) (tableOf (x .problem)) (x .problem .cands ++ (Candidate.block b ∷ []))) (sym (same-block (commandOf x .operands) (x .rest) g))
 sets-by x Kind.P g = refl
 sets-by x Kind.A g = rw (g 0 (omega arith), g 1 (omega arith), g 2 (omega arith))
 sets-by x Kind.D g = rw (g 0 (omega arith))
@@ -67,8 +69,8 @@ taken x a =
     let ts = x .problem .cands in
     record {
       fewer = length-without k ts (nleb→lt (length ts) k (a .0));
-      before = λ i. getD-before k i ts (term 0 0 0);
-      behind = λ i. getD-without k i ts (term 0 0 0);
+      before = λ i. entry-before k i ts;
+      behind = λ i. entry-without k i ts;
     }
 
 pub taken-out : TakesOut
@@ -89,6 +91,7 @@ raised x Kind.W a = omega (arith, place-last Kind.W (x .problem .place) a)
 raised x Kind.R a = omega (arith, place-last Kind.R (x .problem .place) a)
 raised x Kind.B a = omega (arith, place-last Kind.B (x .problem .place) a)
 raised x Kind.T a = omega arith
+raised x Kind.F a = omega arith
 raised x Kind.P a = omega (arith, place-last Kind.P (x .problem .place) a)
 raised x Kind.A a = omega arith
 raised x Kind.D a = omega (arith, place-one Kind.D (x .problem .place) tt a)
@@ -119,17 +122,17 @@ raises-as-R = refl
 
 -- in the paper's words: which kinds raise the place beyond that of I, of a row, and of a term
 
-beyond-start : (k : Kind) → leb (raises k) begun ≡ not (some (is k) (Kind.W ∷ Kind.R ∷ Kind.B ∷ Kind.T ∷ Kind.A ∷ Kind.P ∷ Kind.L ∷ Kind.C ∷ Kind.N ∷ []))
-beyond-start k = all-e (λ (k : Kind). leb (raises k) begun ≡ not (some (is k) (Kind.W ∷ Kind.R ∷ Kind.B ∷ Kind.T ∷ Kind.A ∷ Kind.P ∷ Kind.L ∷ Kind.C ∷ Kind.N ∷ []))) (Kind.none ∷ kinds)
-    (refl, (refl, (refl, (refl, (refl, (refl, (refl, (refl, (refl, (refl, (refl, (refl, (refl, tt))))))))))))) (kind-among k)
+beyond-start : (k : Kind) → leb (raises k) begun ≡ not (some (is k) (Kind.W ∷ Kind.R ∷ Kind.B ∷ Kind.T ∷ Kind.F ∷ Kind.A ∷ Kind.P ∷ Kind.L ∷ Kind.C ∷ Kind.N ∷ []))
+beyond-start k = all-e (λ (k : Kind). leb (raises k) begun ≡ not (some (is k) (Kind.W ∷ Kind.R ∷ Kind.B ∷ Kind.T ∷ Kind.F ∷ Kind.A ∷ Kind.P ∷ Kind.L ∷ Kind.C ∷ Kind.N ∷ []))) (Kind.none ∷ kinds)
+    (refl, (refl, (refl, (refl, (refl, (refl, (refl, (refl, (refl, (refl, (refl, (refl, (refl, (refl, tt)))))))))))))) (kind-among k)
 
-beyond-rows : (k : Kind) → leb (raises k) inRows ≡ not (some (is k) (Kind.T ∷ Kind.A ∷ Kind.P ∷ Kind.L ∷ Kind.C ∷ Kind.N ∷ []))
-beyond-rows k = all-e (λ (k : Kind). leb (raises k) inRows ≡ not (some (is k) (Kind.T ∷ Kind.A ∷ Kind.P ∷ Kind.L ∷ Kind.C ∷ Kind.N ∷ []))) (Kind.none ∷ kinds)
-    (refl, (refl, (refl, (refl, (refl, (refl, (refl, (refl, (refl, (refl, (refl, (refl, (refl, tt))))))))))))) (kind-among k)
+beyond-rows : (k : Kind) → leb (raises k) inRows ≡ not (some (is k) (Kind.T ∷ Kind.F ∷ Kind.A ∷ Kind.P ∷ Kind.L ∷ Kind.C ∷ Kind.N ∷ []))
+beyond-rows k = all-e (λ (k : Kind). leb (raises k) inRows ≡ not (some (is k) (Kind.T ∷ Kind.F ∷ Kind.A ∷ Kind.P ∷ Kind.L ∷ Kind.C ∷ Kind.N ∷ []))) (Kind.none ∷ kinds)
+    (refl, (refl, (refl, (refl, (refl, (refl, (refl, (refl, (refl, (refl, (refl, (refl, (refl, (refl, tt)))))))))))))) (kind-among k)
 
-beyond-terms : (k : Kind) → leb (raises k) inTerms ≡ not (some (is k) (Kind.P ∷ Kind.L ∷ Kind.C ∷ Kind.N ∷ []))
-beyond-terms k = all-e (λ (k : Kind). leb (raises k) inTerms ≡ not (some (is k) (Kind.P ∷ Kind.L ∷ Kind.C ∷ Kind.N ∷ []))) (Kind.none ∷ kinds)
-    (refl, (refl, (refl, (refl, (refl, (refl, (refl, (refl, (refl, (refl, (refl, (refl, (refl, tt))))))))))))) (kind-among k)
+beyond-terms : (k : Kind) → leb (raises k) inCandidates ≡ not (some (is k) (Kind.P ∷ Kind.L ∷ Kind.C ∷ Kind.N ∷ []))
+beyond-terms k = all-e (λ (k : Kind). leb (raises k) inCandidates ≡ not (some (is k) (Kind.P ∷ Kind.L ∷ Kind.C ∷ Kind.N ∷ []))) (Kind.none ∷ kinds)
+    (refl, (refl, (refl, (refl, (refl, (refl, (refl, (refl, (refl, (refl, (refl, (refl, (refl, (refl, tt)))))))))))))) (kind-among k)
 
 max-leb : (a b m : ℕ) → leb (max a b) m ≡ leb a m && leb b m
 max-leb a b m = bool-ext (leb (max a b) m) (leb a m && leb b m)
@@ -153,11 +156,12 @@ pub places : Places
 places job room before x g l =
     let e = placed job room before x g in
     record {
-      prices = place-in-words Kind.W (Kind.W ∷ Kind.R ∷ Kind.B ∷ Kind.T ∷ Kind.A ∷ Kind.P ∷ Kind.L ∷ Kind.C ∷ Kind.N ∷ []) beyond-start before (x .problem .place) e l;
-      row = place-in-words Kind.R (Kind.T ∷ Kind.A ∷ Kind.P ∷ Kind.L ∷ Kind.C ∷ Kind.N ∷ []) beyond-rows before (x .problem .place) e l;
-      rows = place-in-words Kind.B (Kind.T ∷ Kind.A ∷ Kind.P ∷ Kind.L ∷ Kind.C ∷ Kind.N ∷ []) beyond-rows before (x .problem .place) e l;
-      primes = place-in-words Kind.P (Kind.T ∷ Kind.A ∷ Kind.P ∷ Kind.L ∷ Kind.C ∷ Kind.N ∷ []) beyond-rows before (x .problem .place) e l;
+      prices = place-in-words Kind.W (Kind.W ∷ Kind.R ∷ Kind.B ∷ Kind.T ∷ Kind.F ∷ Kind.A ∷ Kind.P ∷ Kind.L ∷ Kind.C ∷ Kind.N ∷ []) beyond-start before (x .problem .place) e l;
+      row = place-in-words Kind.R (Kind.T ∷ Kind.F ∷ Kind.A ∷ Kind.P ∷ Kind.L ∷ Kind.C ∷ Kind.N ∷ []) beyond-rows before (x .problem .place) e l;
+      rows = place-in-words Kind.B (Kind.T ∷ Kind.F ∷ Kind.A ∷ Kind.P ∷ Kind.L ∷ Kind.C ∷ Kind.N ∷ []) beyond-rows before (x .problem .place) e l;
+      primes = place-in-words Kind.P (Kind.T ∷ Kind.F ∷ Kind.A ∷ Kind.P ∷ Kind.L ∷ Kind.C ∷ Kind.N ∷ []) beyond-rows before (x .problem .place) e l;
       term = place-in-words Kind.T (Kind.P ∷ Kind.L ∷ Kind.C ∷ Kind.N ∷ []) beyond-terms before (x .problem .place) e l;
+      block = place-in-words Kind.F (Kind.P ∷ Kind.L ∷ Kind.C ∷ Kind.N ∷ []) beyond-terms before (x .problem .place) e l;
     }
 
 -- ---- no A and no D between
@@ -170,6 +174,7 @@ settled x Kind.W p a n = absurd (omega (arith, place-last Kind.W (x .problem .pl
 settled x Kind.R p a n = absurd (omega (arith, place-last Kind.R (x .problem .place) a))
 settled x Kind.B p a n = absurd (omega (arith, place-last Kind.B (x .problem .place) a))
 settled x Kind.T p a n = absurd (omega (arith, place-last Kind.T (x .problem .place) a))
+settled x Kind.F p a n = absurd (omega (arith, place-last Kind.F (x .problem .place) a))
 settled x Kind.P p a n = absurd (omega (arith, place-last Kind.P (x .problem .place) a))
 settled x Kind.L p a n = refl
 settled x Kind.C p a n = refl

@@ -105,6 +105,7 @@ unpriced-by x Kind.W = record { refusals = refl; answer = refl; after = refl }
 unpriced-by x Kind.R = record { refusals = refl; answer = refl; after = refl }
 unpriced-by x Kind.B = record { refusals = rows-refused (rowsOfB (x .rest)) (x .problem); answer = refl; after = rows-same (rowsOfB (x .rest)) (x .problem) }
 unpriced-by x Kind.T = record { refusals = refl; answer = refl; after = refl }
+unpriced-by x Kind.F = record { refusals = refl; answer = refl; after = refl }
 unpriced-by x Kind.P = record { refusals = refl; answer = refl; after = refl }
 unpriced-by x Kind.A = record { refusals = refl; answer = refl; after = refl }
 unpriced-by x Kind.D = record { refusals = refl; answer = refl; after = refl }

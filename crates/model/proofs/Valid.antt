@@ -13,14 +13,16 @@ use lib.ListN.{length, length-set, length-replicate}
 use Rattle.model.specs.Base.{some, without, All}
 use Rattle.model.specs.Table.{Table, Term, formed, holdsNoOff, legal}
 use Rattle.model.specs.Primes.{primes}
-use Rattle.model.specs.Commands.{atStart, begun, inRows, inTerms, queried, Kind, formOf, is, allowed, Problem, Context, operand, operandTerm}
-use Rattle.model.specs.Commands.{operandNumber, Row, rowOfR, rowsOfB, withRow, withRows, atPlace, withCands, addRow, addRows, addTerm, problemAfter, empty, tableOf}
-use Rattle.model.specs.Refusals.{size, badRow, rowRefusals, rowsRefusals, candidateRefusals, refusalsOf}
+use Rattle.model.specs.Blocks.{blockFormed, blockHoldsNoOff}
+use Rattle.model.specs.Candidates.{Candidate, termsAlone, candidateLegal}
+use Rattle.model.specs.Commands.{atStart, begun, inRows, inCandidates, queried, Kind, formOf, is, allowed, Problem, Context, operand, operandTerm, operandBlock}
+use Rattle.model.specs.Commands.{operandNumber, Row, rowOfR, rowsOfB, withRow, withRows, atPlace, withCands, addRow, addRows, addCandidate, problemAfter, empty, tableOf}
+use Rattle.model.specs.Refusals.{size, badRow, rowRefusals, rowsRefusals, termRefusals, blockRefusals, refusalsOf}
 use Rattle.model.specs.Rules.{Rules, engine}
 use Rattle.model.specs.Job.{run, runBy}
 use Rattle.model.specs.Library.{badVertex}
 use Rattle.model.specs.Invariants.{Sound, Valid}
-use Rattle.model.proofs.Lists.{zero-at, twice, not-or-l, and-l, and-r, and-i, all-append, all-without, all-of}
+use Rattle.model.proofs.Lists.{zero-at, twice, not-or-l, and-l, and-r, and-i, all-append, all-without, all-of, all-map}
 use Rattle.model.proofs.Cubes.{prime-e, primes-e}
 use Rattle.model.proofs.Runs.{NoneApplies, Lawful, context, OnRuns, run-ind}
 use Rattle.model.proofs.RowByRow.{rows-keep}
@@ -108,7 +110,7 @@ valid-row q w o m a s =
       rows = λ l. (length-set (q .rows .on) (w .vertex) (w .on) ∙ s .rows o .0, length-set (q .rows .dc) (w .vertex) (w .dc) ∙ s .rows o .1);
       good = set-good q (w .vertex) (w .on) (w .dc) (omega (arith, within, s .rows o .0)) (omega (arith, within, s .rows o .1)) (a .1 .0) (s .good);
       early = λ l. none;
-      legal = subst⁻¹ (All (λ u. T (legal (tableOf (addRow q w)) u))) none tt;
+      legal = subst⁻¹ (All (λ c. T (candidateLegal (tableOf (addRow q w)) c))) none tt;
     }
   where
     within : w .vertex < 2 ^ q .settings .n
@@ -123,23 +125,26 @@ valid-rows : (q : Problem) (ws : List Row) → begun ≤ q .place → q .place �
 valid-rows q ws o m a s = rows-keep InRows (λ r w b v. (omega arith, omega arith, valid-row r w (v .0) (v .1) b (v .2))) ws q a (o, m, s) .2
 
 -- other candidates, behind the rows
-valid-cands : (q : Problem) (place : ℕ) (ts : List Term) (ws : List ℕ) → inTerms ≤ place → begun ≤ q .place → Valid q → All (λ u. T (legal (tableOf q) u)) ts
-    → Sound (atPlace place (withCands ts ws q)) → Valid (atPlace place (withCands ts ws q))
-valid-cands q place ts ws i o v l s = record { sound = s; sizes = λ h. v .sizes o; rows = λ h. v .rows o; good = v .good; early = λ h. absurd (omega (arith, h)); legal = l }
+valid-cands : (q : Problem) (place : ℕ) (cs : List Candidate) (ws : List ℕ) → inCandidates ≤ place → begun ≤ q .place → Valid q → All (λ c. T (candidateLegal (tableOf q) c)) cs
+    → Sound (atPlace place (withCands cs ws q)) → Valid (atPlace place (withCands cs ws q))
+valid-cands q place cs ws i o v l s = record { sound = s; sizes = λ h. v .sizes o; rows = λ h. v .rows o; good = v .good; early = λ h. absurd (omega (arith, h)); legal = l }
 
-legal-term : (t : Context) → NoneApplies (candidateRefusals t) → T (legal (tableOf (t .problem)) (operandTerm t))
+legal-term : (t : Context) → NoneApplies (termRefusals t) → T (legal (tableOf (t .problem)) (operandTerm t))
 unfolding legal
 legal-term t a =
     let p = tableOf (t .problem) in
     and-i (formed p (operandTerm t)) (holdsNoOff p (operandTerm t)) (twice (formed p (operandTerm t)) (a .0)) (twice (holdsNoOff p (operandTerm t)) (a .1 .0))
 
--- T and A
-valid-term : (t : Context) → begun ≤ t .problem .place → NoneApplies (candidateRefusals t) → Valid (t .problem)
-    → Sound (addTerm (t .problem) (operandTerm t)) → Valid (addTerm (t .problem) (operandTerm t))
-valid-term t o a s =
-    let q = t .problem in
-    valid-cands q (max (q .place) inTerms) (q .cands ++ (operandTerm t ∷ [])) _ (omega arith) o s
-    (all-append (λ (u : Term). T (legal (tableOf q) u)) (q .cands) (operandTerm t ∷ []) (s .legal) (legal-term t a, tt))
+legal-block : (t : Context) → NoneApplies (blockRefusals (t .problem) (operandBlock t)) → T (candidateLegal (tableOf (t .problem)) (Candidate.block (operandBlock t)))
+legal-block t a =
+    let p = tableOf (t .problem) in
+    let b = operandBlock t in
+    and-i (blockFormed p b) (blockHoldsNoOff p b) (twice (blockFormed p b) (a .0)) (twice (blockHoldsNoOff p b) (a .1 .0))
+
+-- one candidate more: T, F and A
+valid-more : (q : Problem) (c : Candidate) → begun ≤ q .place → T (candidateLegal (tableOf q) c) → Valid q → Sound (addCandidate q c) → Valid (addCandidate q c)
+valid-more q c o l s = valid-cands q (max (q .place) inCandidates) (q .cands ++ (c ∷ [])) _ (omega arith) o s
+    (all-append (λ (c : Candidate). T (candidateLegal (tableOf q) c)) (q .cands) (c ∷ []) (s .legal) (l, tt))
 
 primes-legal : (p : Table) → All (λ u. T (legal p u)) (primes p)
 primes-legal p = all-of (λ (u : Term). T (legal p u)) (primes p) (λ u m. prime-e p u (primes-e p u m) .0)
@@ -150,18 +155,21 @@ after-valid t Kind.I p a s = valid-I t a s
 after-valid t Kind.W p a s = valid-W t p a s
 after-valid t Kind.R p a s = valid-row (t .problem) (rowOfR (t .rest)) (place-one Kind.R (t .problem .place) tt p) (place-last Kind.R (t .problem .place) p) a s
 after-valid t Kind.B p a s = valid-rows (t .problem) (rowsOfB (t .rest)) (place-one Kind.B (t .problem .place) tt p) (place-last Kind.B (t .problem .place) p) a s
-after-valid t Kind.T p a s = valid-term t (place-one Kind.T (t .problem .place) tt p) a s (after-sound t Kind.T a (s .sound))
-after-valid t Kind.P p a s =
-    let ts = primes (tableOf (t .problem)) in
-    valid-cands (t .problem) queried ts _ (omega arith) (place-one Kind.P (t .problem .place) tt p) s (primes-legal (tableOf (t .problem))) (after-sound t Kind.P a (s .sound))
-after-valid t Kind.A p a s = valid-term t (place-one Kind.A (t .problem .place) tt p) a s (after-sound t Kind.A a (s .sound))
+after-valid t Kind.T p a s = valid-more (t .problem) (Candidate.term (operandTerm t)) (place-one Kind.T (t .problem .place) tt p) (legal-term t a) s (after-sound t Kind.T a (s .sound))
+after-valid t Kind.F p a s = valid-more (t .problem) (Candidate.block (operandBlock t)) (place-one Kind.F (t .problem .place) tt p) (legal-block t a) s (after-sound t Kind.F a (s .sound))
+after-valid t Kind.P i a s =
+    let p = tableOf (t .problem) in
+    let ts = primes p in
+    valid-cands (t .problem) queried (termsAlone ts) _ (omega arith) (place-one Kind.P (t .problem .place) tt i) s
+    (all-map (λ (c : Candidate). T (candidateLegal p c)) Candidate.term ts (primes-legal p)) (after-sound t Kind.P a (s .sound))
+after-valid t Kind.A p a s = valid-more (t .problem) (Candidate.term (operandTerm t)) (place-one Kind.A (t .problem .place) tt p) (legal-term t a) s (after-sound t Kind.A a (s .sound))
 after-valid t Kind.D p a s = record {
   sound = after-sound t Kind.D a (s .sound);
   sizes = s .sizes;
   rows = s .rows;
   good = s .good;
   early = λ l. ap (without (operandNumber t)) (s .early l);
-  legal = all-without (λ (u : Term). T (legal (tableOf (t .problem)) u)) (operandNumber t) (t .problem .cands) (s .legal);
+  legal = all-without (λ (c : Candidate). T (candidateLegal (tableOf (t .problem)) c)) (operandNumber t) (t .problem .cands) (s .legal);
 }
 after-valid t Kind.L p a s = valid-cands (t .problem) queried (t .problem .cands) _ (omega arith) (place-one Kind.L (t .problem .place) tt p) s (s .legal) (after-sound t Kind.L a (s .sound))
 after-valid t Kind.N p a s = valid-cands (t .problem) queried (t .problem .cands) _ (omega arith) (place-one Kind.N (t .problem .place) tt p) s (s .legal) (after-sound t Kind.N a (s .sound))

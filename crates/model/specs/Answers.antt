@@ -11,7 +11,7 @@ use Rattle.model.specs.Products.{products}
 use Rattle.model.specs.Pages.{page, more}
 use Rattle.model.specs.Commands.{Kind, Context, low, start, count, coveringOf, tableOf}
 
--- I, W, R, B, T, A and D answer nothing
+-- I, W, R, B, T, F, A and D answer nothing
 pub data Answer : Type 0 where
   nothing : Answer
   primesAre : List Term → Answer
@@ -44,6 +44,7 @@ answerFor x Kind.W = nothing
 answerFor x Kind.R = nothing
 answerFor x Kind.B = nothing
 answerFor x Kind.T = nothing
+answerFor x Kind.F = nothing
 answerFor x Kind.P = primesAre (primes (tableOf (x .problem)))
 answerFor x Kind.A = nothing
 answerFor x Kind.D = nothing

@@ -11,9 +11,10 @@ use Rattle.model.specs.Base.{below, join}
 use Rattle.model.specs.Table.{Table, Term, term, represents}
 use Rattle.model.specs.Primes.{primes}
 use Rattle.model.specs.Sets.{coverable, irredundants, cost, cheapest}
-use Rattle.model.specs.Candidates.{Prices, prices, Basis, priced, basis, listCost, covering}
+use Rattle.model.specs.Candidates.{Candidate, termsAlone, Prices, prices, Basis, priced, basis, listCost, covering}
 use Rattle.model.specs.Commands.{low}
 use Rattle.model.specs.Demand3.{ArePrimes}
+use Rattle.model.specs.Spelling.{i11, row, b, zeros, t, a, d, l, w, times}
 
 -- ---- cases a to h
 
@@ -53,11 +54,11 @@ bothOn = table 1 1 (1 ∷ 1 ∷ []) (0 ∷ 0 ∷ [])
 
 pub record Case : Type 0 where
   pub of : Table
-  pub by : List Term
+  pub by : List Candidate
   pub gives : Outcome
 
 abbrev case : Table → List Term → Outcome → Case
-case p ts o = record { of = p; by = ts; gives = o }
+case p ts o = record { of = p; by = termsAlone ts; gives = o }
 
 -- a and b, c, d, e, f, g, h. K1: "Case costs and cheapest sets are worked out anew"; the sets listed are those of paper 01
 abbrev pub cases : List Case
@@ -76,13 +77,13 @@ cases =
 -- for a set, the product before any point and behind each point, as `presence` takes it and as document 000 does, with the delta
 pub record Walked : Type 0 where
   pub of : Table
-  pub by : List Term
+  pub by : List Candidate
   pub set : ℕ
   pub product : List Bool
   pub with-delta : List Bool
 
 abbrev walked : Table → List Term → ℕ → List Bool → List Bool → Walked
-walked p ts s product d = record { of = p; by = ts; set = s; product = product; with-delta = d }
+walked p ts s product d = record { of = p; by = termsAlone ts; set = s; product = product; with-delta = d }
 
 -- f at sets 0 and 1, g at sets 0 and 2, h at set 0: all functions agree at both points, and the delta drops them; f's table with a term that
 -- holds its first cell alone: with the delta the second, which no candidate holds, would pass; a at its cheapest set, and without that set's
@@ -140,54 +141,18 @@ pub record Stopped : Type 0 where
   pub offset : ℕ
   pub written : ℕ
 
-abbrev stopped : List ℕ → ℕ → ℕ → ℕ → ℕ → Stopped
+abbrev pub stopped : List ℕ → ℕ → ℕ → ℕ → ℕ → Stopped
 stopped job room n offset w = record { job = job; room = room; number = n; offset = offset; written = w }
 
--- I with one input and one output; rows and terms on it
-abbrev i11 : List ℕ → List ℕ
-i11 bs = 0x49 ∷ 1 ∷ 1 ∷ bs
-
-abbrev row : ℕ → ℕ → ℕ → List ℕ → List ℕ
-row v on dc bs = 0x52 ∷ v ∷ on ∷ dc ∷ bs
-
--- a B: its first vertex, its pairs; and one of eight rows of zeros
-abbrev b : ℕ → List ℕ → List ℕ → List ℕ
-b v pairs bs = 0x42 ∷ v ∷ (pairs ++ bs)
-
-abbrev zeros : ℕ → List ℕ → List ℕ
-zeros v bs = b v (replicate 16 0) bs
-
-abbrev t : ℕ → ℕ → ℕ → List ℕ → List ℕ
-t care value outputs bs = 0x54 ∷ care ∷ value ∷ outputs ∷ bs
-
-abbrev a : ℕ → ℕ → ℕ → List ℕ → List ℕ
-a care value outputs bs = 0x41 ∷ care ∷ value ∷ outputs ∷ bs
-
-abbrev d : ℕ → List ℕ → List ℕ
-d k bs = 0x44 ∷ k ∷ bs
-
--- an L from 0 on
-abbrev l : ℕ → List ℕ → List ℕ
-l count bs = 0x4c ∷ 0 ∷ 0 ∷ 0 ∷ 0 ∷ 0 ∷ 0 ∷ 0 ∷ 0 ∷ count ∷ bs
-
--- a W
-abbrev w : ℕ → ℕ → ℕ → List ℕ → List ℕ
-w term literal connection bs = 0x57 ∷ term ∷ literal ∷ connection ∷ bs
-
--- k times the same term
-abbrev times : ℕ → (List ℕ → List ℕ) → List ℕ → List ℕ
-times zero one bs = bs
-times (suc k) one bs = one (times k one bs)
-
 -- both cells free, and an A whose candidate has gone again
-abbrev bothFree : List ℕ → List ℕ
+abbrev pub bothFree : List ℕ → List ℕ
 bothFree bs = i11 (row 0 0 1 (row 1 0 1 bs))
 
 abbrev goneAgain : List ℕ → List ℕ
 goneAgain bs = bothFree (a 0 0 1 (d 0 bs))
 
 -- 64 candidates: one term each, both cells free; and vertex 0 free, vertex 1 off
-abbrev sixtyFour : List ℕ → List ℕ
+abbrev pub sixtyFour : List ℕ → List ℕ
 sixtyFour bs = bothFree (times 64 (t 0 0 1) bs)
 
 abbrev sixtyFourAtZero : List ℕ → List ℕ
@@ -344,18 +309,18 @@ pub record AnsweredJob : Type 0 where
   pub job : List ℕ
   pub bytes : List ℕ
 
-abbrev writes : List ℕ → List ℕ → AnsweredJob
+abbrev pub writes : List ℕ → List ℕ → AnsweredJob
 writes job bytes = record { job = job; bytes = bytes }
 
 -- an L's answer with no more, and a C's
-abbrev pageBytes : List ℕ → List ℕ
+abbrev pub pageBytes : List ℕ → List ℕ
 pageBytes ss = 0x6c ∷ length ss ∷ 0 ∷ join (map (low 8) ss)
 
-abbrev leastBytes : ℕ → ℕ → List ℕ
+abbrev pub leastBytes : ℕ → ℕ → List ℕ
 leastBytes c s = 0x63 ∷ (low 2 c ++ low 8 s)
 
 -- all sets, and the cheapest
-abbrev ask : List ℕ → List ℕ
+abbrev pub ask : List ℕ → List ℕ
 ask bs = l 255 (0x43 ∷ bs)
 
 -- the rows of the example job, and its terms put in by A
@@ -366,7 +331,7 @@ abbrev sixAdded : List ℕ → List ℕ
 sixAdded bs = a 1 0 1 (a 3 1 3 (a 1 1 2 (a 2 2 2 (a 3 2 3 (a 2 0 1 bs)))))
 
 -- both cells wanted; and the two halves of the one prime of that table
-abbrev wanted : List ℕ → List ℕ
+abbrev pub wanted : List ℕ → List ℕ
 wanted bs = i11 (row 0 1 0 (row 1 1 0 bs))
 
 abbrev halves : List Term
@@ -391,7 +356,7 @@ comeAndGo =
 -- "against a rival's free terms the cheapest set is compared only while the candidates are the primes": the halves are not the primes, and
 -- this list is cheaper than their cheapest set
 abbrev pub halvesBasis : Basis
-halvesBasis = basis bothOn halves
+halvesBasis = basis bothOn (termsAlone halves)
 
 abbrev pub cheaperList : List Term
 cheaperList = term 0 0 1 ∷ []
@@ -460,11 +425,11 @@ origins = 0 ∷ 0 ∷ 3 ∷ 3 ∷ 7 ∷ 7 ∷ 7 ∷ 7 ∷ 25 ∷ 26 ∷ 26 ∷ [
 pub record Weighing : Type 0 where
   pub job : List ℕ
   pub room : ℕ
-  pub cands : List Term
+  pub cands : List Candidate
   pub weights : List ℕ
 
 abbrev weighs : List ℕ → List Term → List ℕ → Weighing
-weighs job ts ws = record { job = job; room = 32768; cands = ts; weights = ws }
+weighs job ts ws = record { job = job; room = 32768; cands = termsAlone ts; weights = ws }
 
 abbrev pub weighings : List Weighing
 weighings =
@@ -516,11 +481,11 @@ charges =
 pub record PricedCase : Type 0 where
   pub at : Prices
   pub of : Table
-  pub by : List Term
+  pub by : List Candidate
   pub gives : Outcome
 
 abbrev pricedCase : Prices → Table → List Term → Outcome → PricedCase
-pricedCase w p ts o = record { at = w; of = p; by = ts; gives = o }
+pricedCase w p ts o = record { at = w; of = p; by = termsAlone ts; gives = o }
 
 -- the two halves of a table, and the term that is both
 abbrev wholeAndHalves : List Term
@@ -614,7 +579,7 @@ abbrev pub lone : List Term
 lone = term 0 0 1 ∷ []
 
 abbrev pub atItsPrimes : Prices → Basis
-atItsPrimes w = priced w freeBeside (primes freeBeside)
+atItsPrimes w = priced w freeBeside (termsAlone (primes freeBeside))
 
 -- the candidates are the primes, the list represents the table, and it is cheaper than the cheapest set
 pub record Undercut (b : Basis) (qs : List Term) : Type 0 where
@@ -627,11 +592,11 @@ pub record Undercut (b : Basis) (qs : List Term) : Type 0 where
 -- of a table and candidates: before any cell, and after each
 pub record Multiplying : Type 0 where
   pub of : Table
-  pub by : List Term
+  pub by : List Candidate
   pub products : List (List ℕ)
 
 abbrev multiplying : Table → List Term → List (List ℕ) → Multiplying
-multiplying p ts all = record { of = p; by = ts; products = all }
+multiplying p ts all = record { of = p; by = termsAlone ts; products = all }
 
 -- a; c; d, where a cell leaves no more than the one before it; e, "no wanted cell"; f; g, "one copy of each"; h, and f's table with a term that
 -- holds its first cell alone: no product is left, and 12 applies
@@ -648,7 +613,7 @@ multiplyings =
     ∷ []
 
 -- N's answer
-abbrev productBytes : List ℕ → List ℕ
+abbrev pub productBytes : List ℕ → List ℕ
 productBytes ss = 0x6e ∷ (low 2 (length ss) ++ join (map (low 8) ss))
 
 abbrev pub multipliedJobs : List AnsweredJob
@@ -676,13 +641,13 @@ manyProductsJob =
 -- ---- K9: two jobs that differ in the order of their T commands, with the bytes that they write; worked out by hand
 
 -- vertex 3 wanted, 1 and 2 free; then candidates, all sets, the cheapest and the products
-abbrev lastWanted : List ℕ → List ℕ
+abbrev pub lastWanted : List ℕ → List ℕ
 lastWanted bs = 0x49 ∷ 2 ∷ 1 ∷ row 1 0 1 (row 2 0 1 (row 3 1 0 bs))
 
-abbrev askAll : List ℕ
+abbrev pub askAll : List ℕ
 askAll = ask (0x4e ∷ 0x45 ∷ [])
 
--- x0 x1, x0 by A, and x1 twice: each holds the cell alone; the first costs 3, the others 1
+-- x0 x1, x0 by A, and x1 twice: each by itself holds the cell; the first costs 3, the others 1
 abbrev pub asWritten : AnsweredJob
 asWritten = writes (lastWanted (t 3 3 1 (a 1 1 1 (t 2 2 1 (t 2 2 1 askAll)))))
     (join (pageBytes (1 ∷ 2 ∷ 4 ∷ 8 ∷ []) ∷ leastBytes 1 2 ∷ productBytes (1 ∷ 2 ∷ 4 ∷ 8 ∷ []) ∷ (0x65 ∷ []) ∷ []))

@@ -1,4 +1,4 @@
--- Paper 01, "Job stream", and K2, K3, K5, K6 and K8: the commands, the problem so far, and what a command makes of it.
+-- Paper 01, "Job stream", and K2, K3, K5, K6, K8 and K10: the commands, the problem so far, and what a command makes of it.
 use Prim.Native.Nat.{ℕ, zero, suc, _+_, _*_, _/_, _%_, _^_, max}
 use mathlib.Core.Bool.{Bool, true, false, cond, _&&_}
 use mathlib.Core.List.{List, [], _∷_, _++_, map}
@@ -7,8 +7,9 @@ use lib.ListN.{getD, take, replicate, set}
 use Rattle.model.specs.Base.{below, filter, without}
 use Rattle.model.specs.Table.{Table, Cell, Term, term}
 use Rattle.model.specs.Primes.{primes}
+use Rattle.model.specs.Blocks.{Block}
 use Rattle.model.specs.Sets.{Covering}
-use Rattle.model.specs.Candidates.{Prices, prices, usual, termCost, Basis, priced, covering}
+use Rattle.model.specs.Candidates.{Candidate, termsAlone, Prices, prices, usual, candidateCost, Basis, priced, covering}
 
 -- ---- numbers as bytes
 
@@ -23,7 +24,7 @@ number (b ∷ bs) = b + 256 * number bs
 
 -- ---- places
 
--- the place in a job, by the furthest that came: nothing, I, W, a row (R or B), a term (T or A), or a P, L, C or N. Each is behind those before it
+-- the place in a job, by the furthest that came: nothing, I, W, a row (R or B), a candidate (T, F or A), or a P, L, C or N. Each is behind those before it
 abbrev pub atStart : ℕ
 atStart = 0
 
@@ -36,8 +37,8 @@ inPrices = 2
 abbrev pub inRows : ℕ
 inRows = 3
 
-abbrev pub inTerms : ℕ
-inTerms = 4
+abbrev pub inCandidates : ℕ
+inCandidates = 4
 
 abbrev pub queried : ℕ
 queried = 5
@@ -46,7 +47,7 @@ queried = 5
 
 -- "commands of one byte"; `none` is a byte that is no command
 pub data Kind : Type 0 where
-  I W R B T P A D L C N E none : Kind
+  I W R B T F P A D L C N E none : Kind
 
 -- "one byte with operands of fixed widths": the byte, the width, the last place at which the command may stand, and whether it is a
 -- query, which asks for covers
@@ -60,14 +61,15 @@ abbrev form : ℕ → ℕ → ℕ → Bool → Form
 form code width last query = record { code = code; width = width; last = last; query = query }
 
 -- I "first, once"; W "may stand once, after I and before any R, B, T, A, P, L or C"; R "after I, before any T, P, L or C"; B "stands where R may
--- stand"; T "after I and any R, not after P, L or C"; P "at most once, no T before it, not after L or C"; A and D "may stand anywhere after I and
--- before E"; L, C and E "after I"; N "where L may stand", and "for the place of the other commands it counts as an L"
+-- stand"; T "after I and any R, not after P, L or C"; F "where T may stand", and "For the place of every other command an F counts as a T"; P "at
+-- most once, no T before it, not after L or C"; A and D "may stand anywhere after I and before E"; L, C and E "after I"; N "where L may stand", and "for the place of the other commands it counts as an L"
 abbrev pub formOf : Kind → Form
 formOf I = form 0x49 2 atStart false
 formOf W = form 0x57 3 begun false
 formOf R = form 0x52 3 inRows false
 formOf B = form 0x42 17 inRows false
-formOf T = form 0x54 3 inTerms false
+formOf T = form 0x54 3 inCandidates false
+formOf F = form 0x46 35 inCandidates false
 formOf P = form 0x50 0 inRows false
 formOf A = form 0x41 3 queried false
 formOf D = form 0x44 1 queried false
@@ -93,7 +95,7 @@ firstKind b (k ∷ ks) = let r = firstKind b ks in cond (eqb b (formOf k .code))
 
 -- all commands
 abbrev pub kinds : List Kind
-kinds = I ∷ W ∷ R ∷ B ∷ T ∷ P ∷ A ∷ D ∷ L ∷ C ∷ N ∷ E ∷ []
+kinds = I ∷ W ∷ R ∷ B ∷ T ∷ F ∷ P ∷ A ∷ D ∷ L ∷ C ∷ N ∷ E ∷ []
 
 unfoldable pub kindOf : ℕ → Kind
 kindOf b = firstKind b kinds
@@ -124,7 +126,7 @@ pub record Problem : Type 0 where
   pub place : ℕ
   pub settings : Settings
   pub rows : TableRows
-  pub cands : List Term
+  pub cands : List Candidate
   pub weights : List ℕ
 
 -- no row yet
@@ -158,7 +160,7 @@ pub record Context : Type 0 where
   pub free : ℕ
 
 -- the covering problem that an L, a C or an N finds
-abbrev pub coveringOf : Context → Covering Term Cell
+abbrev pub coveringOf : Context → Covering Candidate Cell
 coveringOf x = covering (basisOf (x .problem))
 
 -- ---- operands
@@ -190,6 +192,13 @@ rowsOfB bs = map (rowOfB bs) (below 8)
 -- T: "care, value, outputs"; A "has T's operands"
 abbrev pub operandTerm : Context → Term
 operandTerm x = term (operand x 0) (operand x 1) (operand x 2)
+
+-- F: "outputs (1 byte), 32 bytes with bit v for vertex v, .. and a two-byte weight"
+abbrev pub blockOfF : List ℕ → Block
+blockOfF bs = record { outputs = getD bs 0 0; vertices = map (λ i. getD bs (suc i) 0) (below 32); weight = number (getD bs 33 0 ∷ getD bs 34 0 ∷ []) }
+
+abbrev pub operandBlock : Context → Block
+operandBlock x = blockOfF (x .rest)
 
 -- D: "has one byte, a candidate's number"
 abbrev pub operandNumber : Context → ℕ
@@ -224,8 +233,8 @@ withPrices w q = record {
 }
 
 -- with other candidates, and other weights beside them
-abbrev pub withCands : List Term → List ℕ → Problem → Problem
-withCands ts ws q = record { place = q .place; settings = q .settings; rows = q .rows; cands = ts; weights = ws }
+abbrev pub withCands : List Candidate → List ℕ → Problem → Problem
+withCands cs ws q = record { place = q .place; settings = q .settings; rows = q .rows; cands = cs; weights = ws }
 
 -- what R makes of a problem
 abbrev pub addRow : Problem → Row → Problem
@@ -236,14 +245,20 @@ abbrev pub addRows : Problem → List Row → Problem
 addRows q [] = q
 addRows q (w ∷ ws) = addRows (addRow q w) ws
 
--- T, and A, which "adds a candidate at the end, also after P, L or C". "For the place of R and P, an A counts as a T, even if its candidate
--- has gone again": the place is that of a term at least, and D leaves it
+-- T, F, and A, which "adds a candidate at the end, also after P, L or C". "For the place of R and P, an A counts as a T, even if its candidate
+-- has gone again": the place is that of a candidate at least, and D leaves it
+abbrev pub addCandidate : Problem → Candidate → Problem
+addCandidate q c = atPlace (max (q .place) inCandidates) (withCands (q .cands ++ (c ∷ [])) (q .weights ++ (candidateCost (pricesOf q) c ∷ [])) q)
+
 abbrev pub addTerm : Problem → Term → Problem
-addTerm q t = atPlace (max (q .place) inTerms) (withCands (q .cands ++ (t ∷ [])) (q .weights ++ (termCost (pricesOf q) t ∷ [])) q)
+addTerm q t = addCandidate q (Candidate.term t)
+
+abbrev pub addBlock : Problem → Block → Problem
+addBlock q b = addCandidate q (Candidate.block b)
 
 -- P, which puts the primes in the place of the candidates
 abbrev pub withPrimes : Problem → List Term → Problem
-withPrimes q ts = atPlace queried (withCands ts (map (termCost (pricesOf q)) ts) q)
+withPrimes q ts = atPlace queried (withCands (termsAlone ts) (map (candidateCost (pricesOf q)) (termsAlone ts)) q)
 
 -- D "takes it out; those above move down by one", each with its weight
 abbrev pub takeOut : Problem → ℕ → Problem
@@ -255,6 +270,7 @@ problemAfter x W = atPlace inPrices (withPrices (operandPrices x) (x .problem))
 problemAfter x R = addRow (x .problem) (rowOfR (x .rest))
 problemAfter x B = addRows (x .problem) (rowsOfB (x .rest))
 problemAfter x T = addTerm (x .problem) (operandTerm x)
+problemAfter x F = addBlock (x .problem) (operandBlock x)
 problemAfter x P = withPrimes (x .problem) (primes (tableOf (x .problem)))
 problemAfter x A = addTerm (x .problem) (operandTerm x)
 problemAfter x D = takeOut (x .problem) (operandNumber x)

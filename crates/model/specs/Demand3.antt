@@ -8,12 +8,12 @@ use mathlib.Core.List.{List, [], _∷_, List·Memᴰ}
 use lib.Dec.{T}
 use lib.ListN.{length}
 use Rattle.model.specs.Base.{All}
-use Rattle.model.specs.Table.{Term, represents}
+use Rattle.model.specs.Table.{Table, Term, represents}
 use Rattle.model.specs.Primes.{prime}
 use Rattle.model.specs.Sets.{Irredundant, coverable, irredundants, Best}
 use Rattle.model.specs.Products.{tooMany}
 use Rattle.model.specs.Pages.{page, more}
-use Rattle.model.specs.Candidates.{Basis, covering, listCost, HoldsExactly, LegalBasis}
+use Rattle.model.specs.Candidates.{Candidate, Basis, covering, listCost, HoldsExactly, LegalBasis}
 use Rattle.model.specs.Commands.{Kind, is, isQueryKind, allowed, width, basisOf, Context, start, count}
 use Rattle.model.specs.Answers.{Answer, bytesOf, hasBytes, answer}
 use Rattle.model.specs.Rules.{engine}
@@ -43,9 +43,14 @@ StandsOn b e = T (isAsked e) × HasBasis b (e .context)
 abbrev pub coversOf : Basis → List ℕ
 coversOf b = irredundants (covering b)
 
--- "the candidates are the primes when every prime stands among them and nothing else does"
+-- the candidate is a prime; a block is none
+abbrev pub IsPrime : Table → Candidate → Type 0
+IsPrime p (Candidate.term t) = T (prime p t)
+IsPrime p (Candidate.block b) = ⊥
+
+-- "the candidates are the primes when every prime stands among them and nothing else does". K10: the rival "is met only in jobs of primes alone"
 abbrev pub ArePrimes : Basis → Type 0
-ArePrimes b = (t : Term) → T (prime (b .table) t) ↔ List·Memᴰ t (b .cands)
+ArePrimes b = (c : Candidate) → IsPrime (b .table) c ↔ List·Memᴰ c (b .cands)
 
 -- where they are, no list of product terms that represents the table is cheaper than c. K6: "A rival's own terms are brought into the
 -- comparison only at connection price 0" (law `condition-needed`)

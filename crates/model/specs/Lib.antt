@@ -3,6 +3,7 @@
 pub mod Base
 pub mod Table
 pub mod Primes
+pub mod Blocks
 pub mod Sets
 pub mod Presence
 pub mod Products
@@ -25,5 +26,7 @@ pub mod Renumbered
 pub mod Reordered
 pub mod Numbers
 pub mod Library
+pub mod Spelling
 pub mod Cases
+pub mod BlockCases
 pub mod Invariants

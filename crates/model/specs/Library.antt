@@ -9,12 +9,16 @@ use Rattle.model.specs.Table.{Table, Term, term, formed, holdsNoOff}
 use Rattle.model.specs.Sets.{coverable, irredundants}
 use Rattle.model.specs.Products.{mostProducts, products, tooMany}
 use Rattle.model.specs.Pages.{page, more, nextStart}
-use Rattle.model.specs.Candidates.{basis, covering}
+use Rattle.model.specs.Candidates.{termsAlone, Basis, basis, covering}
 use Rattle.model.specs.Refusals.{Refusal, refuse, firstOf, size, badRow}
 
 -- "the terms as 32-bit numbers (care + 256 × value + 65,536 × outputs)"
 abbrev pub unpack : ℕ → Term
 unpack w = term (w % 256) (w / 256 % 256) (w / 65536 % 256)
+
+-- what a call stands on. K10: "the library calls take terms alone"
+abbrev pub callBasis : Table → List ℕ → Basis
+callBasis p words = basis p (termsAlone (map unpack words))
 
 -- 8 at vertex v
 abbrev pub badVertex : Table → ℕ → Bool
@@ -32,7 +36,7 @@ callRefusals p words =
     ∷ refuse 8 (some (badVertex p) (below (2 ^ p .n)))
     ∷ refuse 11 (ltb 64 (length words))
     ∷ [])
-    ++ (join (map (refusalsOfWord p) words) ++ (refuse 12 (not (coverable (covering (basis p (map unpack words))))) ∷ []))
+    ++ (join (map (refusalsOfWord p) words) ++ (refuse 12 (not (coverable (covering (callBasis p words)))) ∷ []))
 
 -- what the call tells, and the caller's row after it
 pub record Listed : Type 0 where
@@ -46,7 +50,7 @@ pub record Listed : Type 0 where
 unfoldable pub listCovers : Table → List ℕ → ℕ → List ℕ → Listed
 listCovers p words start old =
     let n = firstOf (callRefusals p words) in
-    let all = irredundants (covering (basis p (map unpack words))) in
+    let all = irredundants (covering (callBasis p words)) in
     let sets = page all start (length old) in
     let fine : Listed = record { number = 0; filled = length sets; above = more all start (length old); row = sets ++ drop (length sets) old } in
     cond (eqb n 0) fine (record { number = n; filled = 0; above = false; row = old })
@@ -69,7 +73,7 @@ rightRoom a b = eqb a mostProducts && eqb b mostProducts
 -- "it tries the lister's refusals, then 17"; "A lent row of another length is refused under 6"
 unfoldable pub multiplyRefusals : Table → List ℕ → ℕ → ℕ → List Refusal
 multiplyRefusals p words a b =
-    refuse 6 (not (rightRoom a b)) ∷ (callRefusals p words ++ (refuse 17 (tooMany (covering (basis p (map unpack words)))) ∷ []))
+    refuse 6 (not (rightRoom a b)) ∷ (callRefusals p words ++ (refuse 17 (tooMany (covering (callBasis p words))) ∷ []))
 
 -- what the call tells, the sets that stand first in the row handed back, "rising", and at how many cells the rows took turns
 pub record Multiplied : Type 0 where
@@ -81,7 +85,7 @@ pub record Multiplied : Type 0 where
 unfoldable pub multiplyCovers : Table → List ℕ → ℕ → ℕ → Multiplied
 multiplyCovers p words a b =
     let n = firstOf (multiplyRefusals p words a b) in
-    let all = covering (basis p (map unpack words)) in
+    let all = covering (callBasis p words) in
     let fine : Multiplied = record { number = 0; sets = products all; turns = length (all .points) } in
     cond (eqb n 0) fine (record { number = n; sets = []; turns = 0 })
 

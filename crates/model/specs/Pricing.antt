@@ -7,8 +7,8 @@ use mathlib.Core.List.{List, [], _∷_, _++_, map}
 use lib.Dec.{T}
 use lib.ListN.{length, replicate}
 use Rattle.model.specs.Base.{every, filter, join, All}
-use Rattle.model.specs.Table.{Table, Term}
-use Rattle.model.specs.Candidates.{Prices, prices, priced, basis}
+use Rattle.model.specs.Table.{Table}
+use Rattle.model.specs.Candidates.{Candidate, Prices, prices, priced, basis}
 use Rattle.model.specs.Commands.{Kind, is, Context, tableOf, pricesOf, basisOf}
 use Rattle.model.specs.Answers.{Answer, bytesOf}
 use Rattle.model.specs.Rules.{engine}
@@ -53,10 +53,10 @@ uncosted (Answer.productsAre ss) = Answer.productsAre ss
 uncosted Answer.ended = Answer.ended
 
 -- the commands with an answer that a job reads, a refused one too: each with its operands, and the table and the candidates that it finds
-abbrev pub askedOf : Context → Command × Table × List Term
+abbrev pub askedOf : Context → Command × Table × List Candidate
 askedOf x = (commandOf x, tableOf (x .problem), x .problem .cands)
 
-abbrev pub listing : Run → List (Command × Table × List Term)
+abbrev pub listing : Run → List (Command × Table × List Candidate)
 listing r = map askedOf (filter (answers engine) (r .contexts))
 
 -- the same but for what C says
@@ -98,15 +98,15 @@ UntouchedRead = (c d : Call) → Met c → Met d → SameButPrices (c .job) (d .
 -- ---- any jobs, whatever prices each set
 
 -- an L, a C or an N that finds this table and these candidates, at some prices
-abbrev pub StandsAtAnyPrices : Table → List Term → Exchange → Type 0
-StandsAtAnyPrices p ts e = T (isAsked e) × ((w : Prices) × HasBasis (priced w p ts) (e .context))
+abbrev pub StandsAtAnyPrices : Table → List Candidate → Exchange → Type 0
+StandsAtAnyPrices p cs e = T (isAsked e) × ((w : Prices) × HasBasis (priced w p cs) (e .context))
 
 -- each by itself at the prices that it finds, and the pages joined over all of them, which each N equals
-pub record DemandAtAnyPrices (p : Table) (ts : List Term) (es : List Exchange) : Type 0 where
+pub record DemandAtAnyPrices (p : Table) (cs : List Candidate) (es : List Exchange) : Type 0 where
   pub each : All (λ e. CorrectExchange (basisOf (e .context .problem)) e) es
-  pub pages : Gives Kind.L (coversOf (basis p ts)) es
+  pub pages : Gives Kind.L (coversOf (basis p cs)) es
   pub products : All (EqualsPages (pagesOf Kind.L es)) es
 
 -- demand 3 over all prices together (law `at-any-prices`)
 abbrev pub AtAnyPrices : Type 0
-AtAnyPrices = (p : Table) (ts : List Term) (calls : List Call) → All Met calls → Claim engine (StandsAtAnyPrices p ts) (DemandAtAnyPrices p ts) calls
+AtAnyPrices = (p : Table) (cs : List Candidate) (calls : List Call) → All Met calls → Claim engine (StandsAtAnyPrices p cs) (DemandAtAnyPrices p cs) calls

@@ -6,16 +6,16 @@ use mathlib.Core.Bool.{cond}
 use mathlib.Core.List.{List, [], _∷_, map}
 use lib.Dec.{eqb}
 use Rattle.model.specs.Base.{All}
-use Rattle.model.specs.Candidates.{termCost}
+use Rattle.model.specs.Candidates.{candidateCost}
 use Rattle.model.specs.Commands.{Problem, pricesOf, empty, Context, withCands, problemAfter}
 use Rattle.model.specs.Rules.{Rules, engine, refusalBy, refusal}
 use Rattle.model.specs.Job.{Run, run, runBy}
 use Rattle.model.specs.Calls.{Call, MetBy, Met}
 use Rattle.model.specs.Standing.{Behind}
 
--- "each weight equals the cost rule for its term": one beside each candidate, in their order, at the prices set
+-- "each weight equals the cost rule for its term", and that of a block is its own: one beside each candidate, in their order, at the prices set
 abbrev pub Weighed : Problem → Type 0
-Weighed q = q .weights ≡ map (termCost (pricesOf q)) (q .cands)
+Weighed q = q .weights ≡ map (candidateCost (pricesOf q)) (q .cands)
 
 module _ (rules : Rules) where
   -- the record that a command leaves

@@ -1,4 +1,4 @@
--- Paper 01, "When a job stops", and K2, K3, K6 and K8: the refusals of a command, as data. 1 and 2 are the job's own (`Job`).
+-- Paper 01, "When a job stops", and K2, K3, K6, K8 and K10: the refusals of a command, as data. 1 and 2 are the job's own (`Job`).
 use Prim.Native.Nat.{ℕ, _^_}
 use mathlib.Core.Bool.{Bool, not, cond, _&&_, _||_}
 use mathlib.Core.List.{List, [], _∷_, _++_}
@@ -8,14 +8,15 @@ use lib.ListN.{length}
 use Rattle.model.specs.Base.{some}
 use Rattle.model.specs.Table.{formed, holdsNoOff}
 use Rattle.model.specs.Primes.{primes}
+use Rattle.model.specs.Blocks.{Block, blockFormed, blockHoldsNoOff}
 use Rattle.model.specs.Sets.{coverable}
 use Rattle.model.specs.Products.{tooMany}
 use Rattle.model.specs.Candidates.{Prices}
-use Rattle.model.specs.Commands.{Kind, Problem, Context, operand, Row, rowOfR, rowsOfB, addRow, operandTerm, operandNumber, coveringOf, tableOf, operandPrices}
+use Rattle.model.specs.Commands.{Kind, Problem, Context, operand, Row, rowOfR, rowsOfB, addRow, operandTerm, operandBlock, operandNumber, coveringOf, tableOf, operandPrices}
 
 -- the largest number
 abbrev pub largestNumber : ℕ
-largestNumber = 17
+largestNumber = 18
 
 -- a refusal's number, and whether it applies
 pub record Refusal : Type 0 where
@@ -55,14 +56,22 @@ rowsRefusals q [] = []
 rowsRefusals q (w ∷ ws) = rowRefusals q w ++ rowsRefusals (addRow q w) ws
 
 -- 9 and 10 "a term has a care bit n or above, ..", "holds an off cell"; 11 "a 65th candidate comes": T, and A "meets 9, 10 and 11 as T does"
-abbrev pub candidateRefusals : Context → List Refusal
-candidateRefusals x =
+abbrev pub termRefusals : Context → List Refusal
+termRefusals x =
     refuse 9 (not (formed (tableOf (x .problem)) (operandTerm x)))
     ∷ refuse 10 (not (holdsNoOff (tableOf (x .problem)) (operandTerm x)))
     ∷ refuse 11 (leb 64 (length (x .problem .cands)))
     ∷ []
 
--- 6 to 13 and 15 to 17, by command:
+-- 18 "after 9, F has outputs 0, an output bit m or above, a vertex bit 2^n or above, or a weight above 850", and "Refusals 10 and 11 apply to F"
+abbrev pub blockRefusals : Problem → Block → List Refusal
+blockRefusals q b =
+    refuse 18 (not (blockFormed (tableOf q) b))
+    ∷ refuse 10 (not (blockHoldsNoOff (tableOf q) b))
+    ∷ refuse 11 (leb 64 (length (q .cands)))
+    ∷ []
+
+-- 6 to 13 and 15 to 18, by command:
 -- 6 "I has n or m outside 1 to 8"; 16 "after 6, W has a price above 50"
 -- 7 and 8 of R's row, and of B's eight; "missing operands of B itself give 5 before any of these" (`Rules`)
 -- 11 ".. or there are more than 64 primes"; 15 "after 5, D names a number that is not standing"
@@ -73,9 +82,10 @@ refusalsOf x Kind.I = refuse 6 (not (size (operand x 0) && size (operand x 1))) 
 refusalsOf x Kind.W = refuse 16 (dear (operandPrices x)) ∷ []
 refusalsOf x Kind.R = rowRefusals (x .problem) (rowOfR (x .rest))
 refusalsOf x Kind.B = rowsRefusals (x .problem) (rowsOfB (x .rest))
-refusalsOf x Kind.T = candidateRefusals x
+refusalsOf x Kind.T = termRefusals x
+refusalsOf x Kind.F = blockRefusals (x .problem) (operandBlock x)
 refusalsOf x Kind.P = refuse 11 (ltb 64 (length (primes (tableOf (x .problem))))) ∷ []
-refusalsOf x Kind.A = candidateRefusals x
+refusalsOf x Kind.A = termRefusals x
 refusalsOf x Kind.D = refuse 15 (leb (length (x .problem .cands)) (operandNumber x)) ∷ []
 refusalsOf x Kind.L = refuse 12 (not (coverable (coveringOf x))) ∷ []
 refusalsOf x Kind.C = refuse 12 (not (coverable (coveringOf x))) ∷ []

@@ -49,10 +49,10 @@ pub record DifferInOrder (a b : List ℕ) : Type 0 where
 
 -- ---- positions
 
--- the commands that add a candidate "at the end", T and A, as they came. With no P and no D those before a query are its candidates (law
+-- the commands that add a candidate "at the end", T, F and A, as they came. With no P and no D those before a query are its candidates (law
 -- `stand-added`); with a P there is no T, and nothing moves
 abbrev pub adds : Kind → Bool
-adds k = is k Kind.T || is k Kind.A
+adds k = is k Kind.T || (is k Kind.F || is k Kind.A)
 
 unfoldable pub adding : List ℕ → List Piece
 adding job = filter (λ c. adds (pieceKind c)) (pieces job)

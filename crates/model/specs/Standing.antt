@@ -1,17 +1,18 @@
--- Paper 02, K2, with K3's B, K6's W and K8's N: the standing candidates, the place behind an A, pages behind the same commands, and the fresh job of a query.
+-- Paper 02, K2, with K3's B, K6's W, K8's N and K10's F: the standing candidates, the place behind an A, pages behind the same commands, and the fresh job of a query.
 use Prim.Native.Nat.{ℕ, suc, _^_, _≤_, _<_, max}
 use mathlib.Core.Path.{_≡_}
 use mathlib.Core.Logic.{_↔_}
 use mathlib.Core.Bool.{Bool, not, _||_}
 use mathlib.Core.List.{List, [], _∷_, _++_, map, List·Memᴰ}
 use lib.Dec.{T}
-use lib.ListN.{getD, length, take, set, replicate}
+use lib.ListN.{getD, getElem?, length, take, set, replicate}
 use Rattle.model.specs.Base.{without, every, some, filter, join, All}
 use Rattle.model.specs.Table.{Table, Term, term}
 use Rattle.model.specs.Primes.{primes}
-use Rattle.model.specs.Candidates.{Prices, prices, Basis, priced, basis}
-use Rattle.model.specs.Commands.{atStart, begun, inPrices, inRows, inTerms, queried, Kind, formOf, is, kindOf, isQueryKind, width, allowed}
-use Rattle.model.specs.Commands.{empty, basisOf, Context, operandNumber, Row, rowOfR, rowsOfB, problemAfter}
+use Rattle.model.specs.Blocks.{Block}
+use Rattle.model.specs.Candidates.{Candidate, termsAlone, Prices, prices, Basis, priced, basis}
+use Rattle.model.specs.Commands.{atStart, begun, inPrices, inRows, inCandidates, queried, Kind, formOf, is, kindOf, isQueryKind, width, allowed}
+use Rattle.model.specs.Commands.{low, empty, basisOf, Context, operandNumber, Row, rowOfR, rowsOfB, blockOfF, problemAfter}
 use Rattle.model.specs.Answers.{Answer, bytesOf, termBytes, hasBytes, answer}
 use Rattle.model.specs.Rules.{engine, refusal}
 use Rattle.model.specs.Job.{Run, run, written}
@@ -67,16 +68,17 @@ abbrev pub rowsSet : Table → List Row → Table
 rowsSet p [] = p
 rowsSet p (w ∷ ws) = rowsSet (rowSet p w) ws
 
--- I, R and B set the table, W the prices; T and A add a candidate "at the end", P puts the primes in their place, D takes one out and "those above move down
+-- I, R and B set the table, W the prices; T, F and A add a candidate "at the end", P puts the primes in their place, D takes one out and "those above move down
 -- by one"; the others set nothing
 unfoldable pub setsTo : Command → Kind → Basis → Basis
 setsTo c Kind.I b = basis (noRowsYet (operandOf c 0) (operandOf c 1)) []
 setsTo c Kind.W b = priced (pricesIn c) (b .table) (b .cands)
 setsTo c Kind.R b = priced (b .prices) (rowSet (b .table) (rowOfR (c .operands))) (b .cands)
 setsTo c Kind.B b = priced (b .prices) (rowsSet (b .table) (rowsOfB (c .operands))) (b .cands)
-setsTo c Kind.T b = priced (b .prices) (b .table) (b .cands ++ (termOf c ∷ []))
-setsTo c Kind.P b = priced (b .prices) (b .table) (primes (b .table))
-setsTo c Kind.A b = priced (b .prices) (b .table) (b .cands ++ (termOf c ∷ []))
+setsTo c Kind.T b = priced (b .prices) (b .table) (b .cands ++ (Candidate.term (termOf c) ∷ []))
+setsTo c Kind.F b = priced (b .prices) (b .table) (b .cands ++ (Candidate.block (blockOfF (c .operands)) ∷ []))
+setsTo c Kind.P b = priced (b .prices) (b .table) (termsAlone (primes (b .table)))
+setsTo c Kind.A b = priced (b .prices) (b .table) (b .cands ++ (Candidate.term (termOf c) ∷ []))
 setsTo c Kind.D b = priced (b .prices) (b .table) (without (operandOf c 0) (b .cands))
 setsTo c Kind.L b = b
 setsTo c Kind.C b = b
@@ -98,10 +100,10 @@ abbrev pub FindsStanding : Type 0
 FindsStanding = (job : List ℕ) (room : ℕ) (before : List Context) (x : Context) → Behind (run job room) before x → basisOf (x .problem) ≡ standing (map commandOf before)
 
 -- what a D that is not refused leaves, entry by entry (law `taken-out`)
-pub record TakenOut (k : ℕ) (old new : List Term) : Type 0 where
+pub record TakenOut (k : ℕ) (old new : List Candidate) : Type 0 where
   pub fewer : suc (length new) ≡ length old
-  pub before : (i : ℕ) → i < k → getD new i (term 0 0 0) ≡ getD old i (term 0 0 0)
-  pub behind : (i : ℕ) → k ≤ i → getD new i (term 0 0 0) ≡ getD old (suc i) (term 0 0 0)
+  pub before : (i : ℕ) → i < k → getElem? new i ≡ getElem? old i
+  pub behind : (i : ℕ) → k ≤ i → getElem? new i ≡ getElem? old (suc i)
 
 abbrev pub TakesOut : Type 0
 TakesOut = (x : Context) → T (is (x .kind) Kind.D) → refusal x ≡ 0 → TakenOut (operandNumber x) (x .problem .cands) (problemAfter x (x .kind) .cands)
@@ -114,9 +116,10 @@ raises Kind.I = begun
 raises Kind.W = inPrices
 raises Kind.R = inRows
 raises Kind.B = inRows
-raises Kind.T = inTerms
+raises Kind.T = inCandidates
+raises Kind.F = inCandidates
 raises Kind.P = queried
-raises Kind.A = inTerms
+raises Kind.A = inCandidates
 raises Kind.D = begun
 raises Kind.L = queried
 raises Kind.C = queried
@@ -136,14 +139,15 @@ Placed = (job : List ℕ) (room : ℕ) (before : List Context) (x : Context) →
 abbrev pub noneCame : List Kind → List Context → Bool
 noneCame ks before = every (λ y. not (some (is (y .kind)) ks)) before
 
--- so, behind I: W stands where no W came and no R, B, T, A, P, L, C or N; R, B and P stand where no T, A, P, L, C or N came, T where no P, L, C or
--- N came (law `places`)
+-- so, behind I: W stands where no W came and no R, B, T, F, A, P, L, C or N; R, B and P stand where no T, F, A, P, L, C or N came, T and F where no
+-- P, L, C or N came (law `places`)
 pub record PlacesBehind (before : List Context) (place : ℕ) : Type 0 where
-  pub prices : T (allowed Kind.W place) ↔ T (noneCame (Kind.W ∷ Kind.R ∷ Kind.B ∷ Kind.T ∷ Kind.A ∷ Kind.P ∷ Kind.L ∷ Kind.C ∷ Kind.N ∷ []) before)
-  pub row : T (allowed Kind.R place) ↔ T (noneCame (Kind.T ∷ Kind.A ∷ Kind.P ∷ Kind.L ∷ Kind.C ∷ Kind.N ∷ []) before)
-  pub rows : T (allowed Kind.B place) ↔ T (noneCame (Kind.T ∷ Kind.A ∷ Kind.P ∷ Kind.L ∷ Kind.C ∷ Kind.N ∷ []) before)
-  pub primes : T (allowed Kind.P place) ↔ T (noneCame (Kind.T ∷ Kind.A ∷ Kind.P ∷ Kind.L ∷ Kind.C ∷ Kind.N ∷ []) before)
+  pub prices : T (allowed Kind.W place) ↔ T (noneCame (Kind.W ∷ Kind.R ∷ Kind.B ∷ Kind.T ∷ Kind.F ∷ Kind.A ∷ Kind.P ∷ Kind.L ∷ Kind.C ∷ Kind.N ∷ []) before)
+  pub row : T (allowed Kind.R place) ↔ T (noneCame (Kind.T ∷ Kind.F ∷ Kind.A ∷ Kind.P ∷ Kind.L ∷ Kind.C ∷ Kind.N ∷ []) before)
+  pub rows : T (allowed Kind.B place) ↔ T (noneCame (Kind.T ∷ Kind.F ∷ Kind.A ∷ Kind.P ∷ Kind.L ∷ Kind.C ∷ Kind.N ∷ []) before)
+  pub primes : T (allowed Kind.P place) ↔ T (noneCame (Kind.T ∷ Kind.F ∷ Kind.A ∷ Kind.P ∷ Kind.L ∷ Kind.C ∷ Kind.N ∷ []) before)
   pub term : T (allowed Kind.T place) ↔ T (noneCame (Kind.P ∷ Kind.L ∷ Kind.C ∷ Kind.N ∷ []) before)
+  pub block : T (allowed Kind.F place) ↔ T (noneCame (Kind.P ∷ Kind.L ∷ Kind.C ∷ Kind.N ∷ []) before)
 
 abbrev pub Places : Type 0
 Places = (job : List ℕ) (room : ℕ) (before : List Context) (x : Context) → Behind (run job room) before x → begun ≤ x .problem .place → PlacesBehind before (x .problem .place)
@@ -184,12 +188,21 @@ StandingDemand3 = (cs : List Command) (calls : List Call) → All Met calls → 
 abbrev pub setsUp : Kind → Bool
 setsUp k = is k Kind.I || (is k Kind.W || (is k Kind.R || is k Kind.B))
 
-abbrev pub termCommand : Term → List ℕ
-termCommand t = formOf Kind.T .code ∷ termBytes t
+-- F's operands
+abbrev pub blockBytes : Block → List ℕ
+blockBytes b = b .outputs ∷ (b .vertices ++ low 2 (b .weight))
 
--- I, the W, the R and the B as they came, a T for each standing candidate, the query and E
+-- the command that adds a candidate: a T, for a block an F
+abbrev pub addingCommand : Candidate → Command
+addingCommand (Candidate.term t) = record { kind = Kind.T; operands = termBytes t }
+addingCommand (Candidate.block b) = record { kind = Kind.F; operands = blockBytes b }
+
+abbrev pub addedAgain : List Candidate → List ℕ
+addedAgain cs = join (map (λ c. commandBytes (addingCommand c)) cs)
+
+-- I, the W, the R and the B as they came, a T or an F for each standing candidate, the query and E
 abbrev pub freshJob : List Command → Command → List ℕ
-freshJob cs query = join (map commandBytes (filter (λ c. setsUp (c .kind)) cs)) ++ (join (map termCommand (standing cs .cands)) ++ (commandBytes query ++ (formOf Kind.E .code ∷ [])))
+freshJob cs query = join (map commandBytes (filter (λ c. setsUp (c .kind)) cs)) ++ (addedAgain (standing cs .cands) ++ (commandBytes query ++ (formOf Kind.E .code ∷ [])))
 
 -- a job is accepted, and gives this answer, E's and no other
 pub record GivesAlone (a : Answer) (r : Run) : Type 0 where

@@ -1,68 +1,94 @@
 -- The engine's record goes on holding the problem of the definitions, command by command.
-use Prim.Native.Nat.{ℕ, zero, suc, _^_, _≤_, _<_, max}
+use Prim.Native.Nat.{ℕ, zero, suc, _+_, _-_, _^_, _≤_, _<_, max}
 use native.Mathlib.Omega.{arith}
 use native.Mathlib.Decide.{ℕ-discrete}
 use mathlib.Core.Path.{_≡_, refl, sym, ap, _∙_, subst, subst⁻¹}
 use mathlib.Core.Bool.{false}
-use mathlib.Core.List.{List, [], _∷_, _++_, map}
+use mathlib.Core.List.{List, [], _∷_, _++_, map, map-map, map-append}
 use borrow.Author.Tests.{eq-eqb, ne-eqb}
 use lib.Dec.{T, leb, ltb, eqb, nleb→lt}
-use lib.ListN.{getD, length, take, set, replicate, length-set, length-replicate}
+use lib.Bits.{bitOr}
+use lib.ListN.{getD, length, take, set, replicate, length-map, length-set, length-replicate}
 use lib.Pow.{pow-mono}
-use lib.Seq.{getD-set-same, getD-set-other}
-use Rattle.model.specs.Base.{some}
+use lib.Seq.{getD-set-same, getD-set-other, getD-take}
+use Rattle.model.specs.Base.{bit, some}
 use Rattle.model.specs.declared.Term.{Term}
+use Rattle.model.specs.declared.Block.{Block}
 use Rattle.model.specs.declared.Prices.{Prices}
 use Rattle.model.specs.Primes.{primes}
-use Rattle.model.specs.Candidates.{usual, termCost}
+use Rattle.model.specs.Sets.{rowOf}
+use Rattle.model.specs.Candidates.{Candidate, termsAlone, usual, termCost, candidateCost}
 use Rattle.model.specs.Commands as model
-use Rattle.model.specs.Commands.{Context, operand, operandNumber, operandPrices, Row, tableOf, isQueryKind, addRow, addRows, addTerm, problemAfter}
+use Rattle.model.specs.Commands.{Context, operand, operandNumber, operandPrices, Row, tableOf, isQueryKind, addRow, addRows, addCandidate, addTerm, addBlock, problemAfter}
 use Rattle.model.specs.Refusals.{rowRefusals, rowsRefusals}
 use Rattle.model.specs.Records.{Weighed}
 use Rattle.model.specs.Invariants.{Valid}
 use Rattle.model.proofs.Codes.{any-query}
-use Rattle.model.proofs.Lists.{zero-at, not-or-l}
+use Rattle.model.proofs.Lists.{zero-at, not-or-l, map-without}
 use Rattle.model.proofs.Runs.{NoneApplies}
 use Rattle.model.proofs.RowByRow.{rows-split}
 use Rattle.model.proofs.Valid.{valid-row}
 use Rattle.model.proofs.Records.{weighed-added, weighed-without}
+use Rattle.bits.specs.Bits.{removed}
 use Rattle.bits.specs.Lists.{Filled}
 use Rattle.bits.proofs.Lists.{filled-next, filled-without}
+use Rattle.incidence.specs.Stored.{entryOf, isBlock}
+use Rattle.incidence.proofs.Uses.{which-term, which-block, which-without, which-alone, entries-alone, bit-row}
 use Rattle.primes.specs.declared.prime_list.PrimeList.{PrimeList}
 use Rattle.problem.specs.declared.TableRows.{TableRows}
 use Rattle.problem.specs.declared.Candidates.{Candidates}
 use Rattle.problem.specs.declared.Problem.{Problem}
-use Rattle.problem.specs.Problems.{noRows, listed, startedWith, noProblem, atPlace, withPrices, withRows, withCandidates, rowPut, rowsPut, termPut, entriesWithout}
-use Rattle.problem.specs.Problems.{termTaken, WithPrimes, Sized, HoldsRows, HoldsCands, Holds, Reached}
+use Rattle.problem.specs.Problems.{noRows, listed, startedWith, noProblem, atPlace, withPrices, withRows, withCandidates, rowPut, rowsPut, entryPut, termPut, blockPut}
+use Rattle.problem.specs.Problems.{entriesWithout, candidateTaken, WithPrimes, Sized, HoldsRows, HoldsCands, Holds, Reached, ReachedWith}
 
 sized : (p : Problem) (q : model.Problem) → Holds p q → Valid q → Sized p
 sized p q h v = record {
   inputs = omega (arith, h .settings .inputs, v .sound .inputs);
   outputs = omega (arith, h .settings .outputs, v .sound .outputs);
-  few = omega (arith, h .cands .terms .counted, v .sound .few);
+  few = omega (arith, h .cands .entries .counted, length-map (q .cands) entryOf, v .sound .few);
 }
 
 pub reached-sized : (p : Problem) → Reached p → Sized p
 reached-sized p r = sized p (r .problem) (r .holds) (r .valid)
 
+pub reached-alone : {p : Problem} {held : List ℕ} → ReachedWith p held → Reached p
+reached-alone r = record { problem = r .problem; holds = r .holds; valid = r .valid }
+
 -- ---- the weights
 
--- candidates with their weights, where these are the cost rule's; and what a record holds is weighed so
-pub holds-cands : (w : Prices) {terms ts : List Term} {weights ws : List ℕ} {count : ℕ} → Filled 64 ts terms count → Filled 64 ws weights count
-    → ws ≡ map (termCost w) ts → HoldsCands w (listed terms weights count) ts ws
-holds-cands w f g e = record { terms = f; weights = g; weighed = g .same ∙ e ∙ ap (map (termCost w)) (sym (f .same)) }
-
+-- what a record holds is weighed by the cost rule
 pub held-weighed : (p : Problem) (q : model.Problem) → Holds p q → Weighed q
-held-weighed p q h =
-    rw (← h .settings .prices) (sym (h .cands .weights .same) ∙ h .cands .weighed ∙ ap (map (termCost (p .settings .prices))) (h .cands .terms .same))
+held-weighed p q h = rw (← h .settings .prices) (h .cands .weighed)
 
--- and so each by itself
-pub weight-at : (p : Prices) (n i : ℕ) (ws : List ℕ) (ts : List Term) (d : Term) → take n ws ≡ map (termCost p) (take n ts) → i < n → i < length ts → getD ws i 0 ≡ termCost p (getD ts i d)
-weight-at p zero i ws ts d e l m = absurd (omega arith)
-weight-at p (suc n) i ws [] d e l m = absurd (omega arith)
-weight-at p (suc n) i [] (t ∷ ts) d e l m = absurd (omega (arith, ap length e))
-weight-at p (suc n) zero (w ∷ ws) (t ∷ ts) d e l m = cc
-weight-at p (suc n) (suc i) (w ∷ ws) (t ∷ ts) d e l m = weight-at p n i ws ts d (cc) (omega arith) (omega arith)
+-- terms alone, with what they cost
+pub holds-alone : (w : Prices) {terms ts : List Term} {weights : List ℕ} {count : ℕ} → Filled 64 ts terms count → Filled 64 (map (termCost w) ts) weights count
+    → HoldsCands w (listed terms weights 0 count) (termsAlone ts) (map (candidateCost w) (termsAlone ts))
+holds-alone w {terms} {ts} {weights} {count} f g = record {
+  entries = subst⁻¹ (λ (us : List Term). Filled 64 us terms count) (entries-alone ts) f;
+  weights = subst⁻¹ (λ (ws : List ℕ). Filled 64 ws weights count) (map-map (candidateCost w) Candidate.term ts) g;
+  blocks = sym (which-alone ts);
+  weighed = refl;
+}
+
+-- and so each term by itself
+module _ (w : Prices) (cs : Candidates) (ks : List Candidate) (ws : List ℕ) (h : HoldsCands w cs ks ws) where
+  weights-of : take (cs .count) (cs .weights) ≡ map (candidateCost w) ks
+  weights-of = h .weights .same ∙ h .weighed
+
+  pub weight-at : (i : ℕ) (d : Term) → i < cs .count → bit i (cs .blocks) ≡ false → getD (cs .weights) i 0 ≡ termCost w (getD (cs .terms) i d)
+  weight-at i d l n =
+      sym (getD-take (cs .count) (cs .weights) i 0 l)
+      ∙ ap (λ (us : List ℕ). getD us i 0) weights-of
+      ∙ go ks i (omega (arith, h .entries .counted, length-map ks entryOf)) (sym (bit-row isBlock ks 0 i) ∙ ap (bit i) (sym (h .blocks)) ∙ n)
+      ∙ ap (λ (us : List Term). termCost w (getD us i d)) (sym (h .entries .same))
+      ∙ ap (termCost w) (getD-take (cs .count) (cs .terms) i d l)
+    where
+      go : (ks : List Candidate) (i : ℕ) → i < length ks → getD (map (λ k. isBlock k 0) ks) i false ≡ false
+          → getD (map (candidateCost w) ks) i 0 ≡ termCost w (getD (map entryOf ks) i d)
+      go [] i l n = absurd (omega arith)
+      go (Candidate.term t ∷ ks) zero l n = refl
+      go (Candidate.block b ∷ ks) zero l n = absurd (subst T n tt)
+      go (k ∷ ks) (suc i) l n = go ks i (omega arith) n
 
 -- ---- the start, and I
 
@@ -86,7 +112,7 @@ holds-started n m k place = record {
   place = refl;
   settings = record { inputs = refl; outputs = refl; prices = refl };
   rows = holds-none k;
-  cands = holds-cands usual (record { size = refl; counted = refl; same = refl }) (record { size = refl; counted = refl; same = refl }) refl;
+  cands = holds-alone usual {ts = []} (record { size = refl; counted = refl; same = refl }) (record { size = refl; counted = refl; same = refl });
 }
 
 pub holds-empty : Holds noProblem model.empty
@@ -105,7 +131,7 @@ after-W x p w h none e = record {
   place = refl;
   settings = record { inputs = h .settings .inputs; outputs = h .settings .outputs; prices = sym e };
   rows = h .rows;
-  cands = holds-cands w (h .cands .terms) (h .cands .weights) (held-weighed p (x .problem) h ∙ rw none refl);
+  cands = record { entries = h .cands .entries; weights = h .cands .weights; blocks = h .cands .blocks; weighed = held-weighed p (x .problem) h ∙ rw none refl };
 }
 
 -- ---- R and B
@@ -163,51 +189,78 @@ after-rows (w ∷ ws) p q h v o m a =
     let first = rows-split w ws q a in
     after-rows ws (withRow w p) (addRow q w) (after-row p q w h v o (row-within q w (first .0))) (valid-row q w o m (first .0) v) (omega arith) (omega arith) (first .1)
 
--- ---- other candidates: T and A, P, D
+-- ---- other candidates: T, F and A, P, D
 
-holds-candidates : (place : ℕ) (p : Problem) (q : model.Problem) (cs : Candidates) (ts : List Term) (ws : List ℕ) → Holds p q → HoldsCands (p .settings .prices) cs ts ws
-    → Holds (atPlace place (withCandidates cs p)) (model.atPlace place (model.withCands ts ws q))
-holds-candidates place p q cs ts ws h c = record { place = refl; settings = h .settings; rows = h .rows; cands = c }
+holds-candidates : (place : ℕ) (p : Problem) (q : model.Problem) (cs : Candidates) (ks : List Candidate) (ws : List ℕ) → Holds p q → HoldsCands (p .settings .prices) cs ks ws
+    → Holds (atPlace place (withCandidates cs p)) (model.atPlace place (model.withCands ks ws q))
+holds-candidates place p q cs ks ws h c = record { place = refl; settings = h .settings; rows = h .rows; cands = c }
+
+-- one candidate more, with its entry and its cost
+after-more : (p : Problem) (q : model.Problem) (c : Candidate) (blocks : ℕ) → Holds p q → p .candidates .count < 64 → blocks ≡ rowOf isBlock (q .cands ++ (c ∷ [])) 0
+    → Holds (atPlace (max (p .place) model.inCandidates) (withCandidates (entryPut (p .candidates) (entryOf c) (candidateCost (p .settings .prices) c) blocks) p)) (addCandidate q c)
+unfolding entryPut
+after-more p q c blocks h l e =
+    let w = p .settings .prices in
+    let cs = p .candidates in
+    let ks = q .cands ++ (c ∷ []) in
+    let place = max (q .place) model.inCandidates in
+    let new = entryPut cs (entryOf c) (candidateCost w c) blocks in
+    let beside : HoldsCands w new ks (q .weights ++ (candidateCost w c ∷ [])) = record {
+      entries = subst⁻¹ (λ (ts : List Term). Filled 64 ts (set (cs .terms) (cs .count) (entryOf c)) (cs .count + 1)) (map-append entryOf (q .cands) (c ∷ []))
+          (filled-next 64 (cs .terms) (cs .count) (map entryOf (q .cands)) (entryOf c) (h .cands .entries) l);
+      weights = filled-next 64 (cs .weights) (cs .count) (q .weights) (candidateCost w c) (h .cands .weights) l;
+      blocks = e;
+      weighed = subst⁻¹ (λ (v : Prices). q .weights ++ (candidateCost v c ∷ []) ≡ map (candidateCost v) ks) (h .settings .prices) (weighed-added q c (held-weighed p q h));
+    } in
+    rw (h .place)
+    (subst (λ (v : Prices). Holds (atPlace place (withCandidates new p)) (model.atPlace place (model.withCands ks (q .weights ++ (candidateCost v c ∷ [])) q)))
+    (h .settings .prices) (holds-candidates place p q new ks (q .weights ++ (candidateCost w c ∷ [])) h beside))
 
 pub after-term : (p : Problem) (q : model.Problem) (t : Term) → Holds p q → p .candidates .count < 64
-    → Holds (atPlace (max (p .place) model.inTerms) (withCandidates (termPut (p .settings .prices) (p .candidates) t) p)) (addTerm q t)
-unfolding termPut
-after-term p q t h l =
-    let w = p .settings .prices in
-    let c = termCost w t in
-    let ts = q .cands ++ (t ∷ []) in
-    let cs = termPut w (p .candidates) t in
-    let beside = holds-cands w (filled-next 64 (p .candidates .terms) (p .candidates .count) (q .cands) t (h .cands .terms) l)
-    (filled-next 64 (p .candidates .weights) (p .candidates .count) (q .weights) c (h .cands .weights) l)
-    (subst⁻¹ (λ (v : Prices). q .weights ++ (termCost v t ∷ []) ≡ map (termCost v) ts) (h .settings .prices) (weighed-added q t (held-weighed p q h))) in
-    rw (h .place)
-    (subst (λ (v : Prices). Holds (atPlace (max (q .place) model.inTerms) (withCandidates cs p))
-    (model.atPlace (max (q .place) model.inTerms) (model.withCands ts (q .weights ++ (termCost v t ∷ [])) q)))
-    (h .settings .prices) (holds-candidates (max (q .place) model.inTerms) p q cs ts (q .weights ++ (c ∷ [])) h beside))
+    → Holds (atPlace (max (p .place) model.inCandidates) (withCandidates (termPut (p .settings .prices) (p .candidates) t) p)) (addTerm q t)
+after-term p q t h l = after-more p q (Candidate.term t) (p .candidates .blocks) h l (h .cands .blocks ∙ sym (which-term (q .cands) t))
+
+-- how many candidates there are
+pub held-count : (p : Problem) (q : model.Problem) → Holds p q → p .candidates .count ≡ length (q .cands)
+held-count p q h = h .cands .entries .counted ∙ length-map (q .cands) entryOf
+
+pub after-block : (p : Problem) (q : model.Problem) (b : Block) → Holds p q → p .candidates .count < 64
+    → Holds (atPlace (max (p .place) model.inCandidates) (withCandidates (blockPut (p .candidates) b) p)) (addBlock q b)
+after-block p q b h l =
+    let k = p .candidates .count in
+    after-more p q (Candidate.block b) (bitOr (p .candidates .blocks) (2 ^ k)) h l
+    (ap (λ (s : ℕ). bitOr s (2 ^ k)) (h .cands .blocks) ∙ sym (which-block (q .cands) b k (sym (held-count p q h))))
 
 pub after-P : (x : Context) (p : Problem) (list : PrimeList) (r : Problem) → Holds p (x .problem) → Filled 64 (primes (tableOf (x .problem))) (list .terms) (list .count) → WithPrimes p list r
     → Holds r (problemAfter x model.Kind.P)
 unfolding problemAfter
 after-P x p list r h f w =
     let ts = primes (tableOf (x .problem)) in
+    let ks = termsAlone ts in
     let cost = termCost (p .settings .prices) in
-    let cs = listed (list .terms) (r .candidates .weights) (list .count) in
-    let beside = holds-cands (p .settings .prices) f (subst (λ (us : List Term). Filled 64 (map cost us) (r .candidates .weights) (list .count)) (f .same) (w .weights)) refl in
+    let cs = listed (list .terms) (r .candidates .weights) 0 (list .count) in
+    let beside = holds-alone (p .settings .prices) f (subst (λ (us : List Term). Filled 64 (map cost us) (r .candidates .weights) (list .count)) (f .same) (w .weights)) in
     subst⁻¹ (λ (y : Problem). Holds y (problemAfter x model.Kind.P)) (w .is)
-    (subst (λ (v : Prices). Holds (atPlace model.queried (withCandidates cs p)) (model.atPlace model.queried (model.withCands ts (map (termCost v) ts) (x .problem))))
-    (h .settings .prices) (holds-candidates model.queried p (x .problem) cs ts (map cost ts) h beside))
+    (subst (λ (v : Prices). Holds (atPlace model.queried (withCandidates cs p)) (model.atPlace model.queried (model.withCands ks (map (candidateCost v) ks) (x .problem))))
+    (h .settings .prices) (holds-candidates model.queried p (x .problem) cs ks (map (candidateCost (p .settings .prices)) ks) h beside))
 
 pub after-D : (x : Context) (p : Problem) (k : ℕ) → Holds p (x .problem) → operandNumber x ≡ k → k < p .candidates .count → p .candidates .count ≤ 64
-    → Holds (withCandidates (termTaken (p .candidates) k) p) (problemAfter x model.Kind.D)
+    → Holds (withCandidates (candidateTaken (p .candidates) k) p) (problemAfter x model.Kind.D)
 unfolding problemAfter entriesWithout
 after-D x p k h e l m =
     let q = x .problem in
+    let cs = p .candidates in
     rw e record {
       place = h .place;
       settings = h .settings;
       rows = h .rows;
-      cands = holds-cands (p .settings .prices) (filled-without 64 (p .candidates .terms) (p .candidates .count) (q .cands) k (h .cands .terms) l m)
-          (filled-without 64 (p .candidates .weights) (p .candidates .count) (q .weights) k (h .cands .weights) l m) (rw (h .settings .prices) (weighed-without q k (held-weighed p q h)));
+      cands = record {
+        entries = subst⁻¹ (λ (ts : List Term). Filled 64 ts (entriesWithout k (cs .count) (cs .terms)) (cs .count - 1)) (map-without entryOf k (q .cands))
+            (filled-without 64 (cs .terms) (cs .count) (map entryOf (q .cands)) k (h .cands .entries) l m);
+        weights = filled-without 64 (cs .weights) (cs .count) (q .weights) k (h .cands .weights) l m;
+        blocks = ap (removed k) (h .cands .blocks) ∙ sym (which-without k (q .cands) (omega (arith, held-count p q h)));
+        weighed = rw (h .settings .prices) (weighed-without q k (held-weighed p q h));
+      };
     }
 
 -- ---- queries

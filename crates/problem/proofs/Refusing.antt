@@ -11,8 +11,10 @@ use lib.Dec.{T, leb, ltb}
 use lib.ListN.{getD}
 use lib.Pow.{pow-mono}
 use Rattle.model.specs.declared.Term.{Term}
+use Rattle.model.specs.declared.Block.{Block}
 use Rattle.model.specs.declared.Prices.{Prices}
 use Rattle.model.specs.Table.{Table, formed, holdsNoOff}
+use Rattle.model.specs.Blocks.{blockFormed, blockHoldsNoOff}
 use Rattle.model.specs.Commands as model
 use Rattle.model.specs.Commands.{Context, Row, tableOf}
 use Rattle.model.specs.Refusals as model·refusals
@@ -21,10 +23,11 @@ use Rattle.model.specs.Invariants.{Valid}
 use Rattle.model.specs.Library.{badVertex}
 use Rattle.model.proofs.Cubes.{formed-e}
 use Rattle.table.specs.Cubes.{Allowed, TableBytes, MayOf, TellsFormed, TellsNoOff}
-use Rattle.table.proofs.Uses.{small-bytes}
+use Rattle.table.specs.Blocks.{TellsBlockFormed, TellsBlockNoOff}
+use Rattle.table.proofs.Uses.{small-bytes, formed-outputs}
 use Rattle.problem.specs.declared.Problem.{Problem}
 use Rattle.problem.specs.Problems.{Sized, Holds}
-use Rattle.problem.specs.Refusing.{isTaken, rowRefusals, termRefusals, TermRefusal}
+use Rattle.problem.specs.Refusing.{isTaken, rowRefusals, termRefusals, TermRefusal, blockRefusals, BlockRefusal}
 
 -- ---- sizes
 
@@ -136,24 +139,61 @@ held-rows p q z h g = record {
 pub held-bytes : (p : Problem) (q : model.Problem) → Sized p → Holds p q → Valid q → TableBytes (tableOf q) (p .settings .n) (p .rows .on) (p .rows .dc)
 held-bytes p q z h v = held-rows p q z h (λ w l. v .good w)
 
+-- of a term and of a block: `no` where it is not well formed, then 10
+module _ (no : ℕ) (well none-off : Table → Bool) (may : List ℕ) (n m : ℕ) where
+  abbrev Told : ℕ → Type 0
+  Told r = (p : Table) → Allowed p n may → p .m ≡ m → r ≡ firstOf (refuse no (not (well p)) ∷ refuse 10 (not (none-off p)) ∷ [])
+
+  abbrev Here : (Table → Bool) → Bool → Type 0
+  Here g f = (p : Table) → Allowed p n may → p .m ≡ m → f ≡ g p
+
+  not-formed : (f : Bool) → Here well f → f ≡ false → Told no
+  not-formed f w k p a o = rw (← w p a o, k)
+
+  off-or-not : (f : Bool) → Here well f → f ≡ true → (g : Bool) → Here none-off g → (g ≡ false → Told 10) × (g ≡ true → Told 0)
+  off-or-not f w k g h = (λ i p a o. rw (← w p a o, k, ← h p a o, i), λ i p a o. rw (← w p a o, k, ← h p a o, i))
+
 module _ (may : List ℕ) (n m : ℕ) (t : Term) (f : Bool) (formed-is : TellsFormed n m t f) where
   formed-here : (p : Table) → Allowed p n may → p .m ≡ m → f ≡ formed p t
   formed-here p a o = formed-is p (a .inputs) o
 
   pub term-malformed : f ≡ false → TermRefusal may n m t 9
-  term-malformed k p a o = rw (← formed-here p a o, k)
+  term-malformed = not-formed 9 (λ p. formed p t) (λ p. holdsNoOff p t) may n m f formed-here
 
   module _ (g : Bool) (no-off : TellsNoOff may n t g) (k : f ≡ true) where
-    no-off-here : (p : Table) → Allowed p n may → p .m ≡ m → g ≡ holdsNoOff p t
-    no-off-here p a o = no-off p a (formed-e p t (subst (λ (b : Bool). T b) (sym k ∙ formed-here p a o) tt) .outputs-lt)
+    term-told : (g ≡ false → TermRefusal may n m t 10) × (g ≡ true → TermRefusal may n m t 0)
+    term-told = off-or-not 9 (λ p. formed p t) (λ p. holdsNoOff p t) may n m f formed-here k g
+        (λ p a o. no-off p a (formed-e p t (subst (λ (b : Bool). T b) (sym k ∙ formed-here p a o) tt) .outputs-lt))
 
     pub term-off : g ≡ false → TermRefusal may n m t 10
-    term-off i p a o = rw (← formed-here p a o, k, ← no-off-here p a o, i)
+    term-off = term-told .0
 
     pub term-good : g ≡ true → TermRefusal may n m t 0
-    term-good i p a o = rw (← formed-here p a o, k, ← no-off-here p a o, i)
+    term-good = term-told .1
+
+module _ (may : List ℕ) (n m : ℕ) (b : Block) (f : Bool) (formed-is : TellsBlockFormed n m b f) where
+  block-formed-here : (p : Table) → Allowed p n may → p .m ≡ m → f ≡ blockFormed p b
+  block-formed-here p a o = formed-is p (a .inputs) o
+
+  pub block-malformed : f ≡ false → BlockRefusal may n m b 18
+  block-malformed = not-formed 18 (λ p. blockFormed p b) (λ p. blockHoldsNoOff p b) may n m f block-formed-here
+
+  module _ (g : Bool) (no-off : TellsBlockNoOff may n b g) (k : f ≡ true) where
+    block-told : (g ≡ false → BlockRefusal may n m b 10) × (g ≡ true → BlockRefusal may n m b 0)
+    block-told = off-or-not 18 (λ p. blockFormed p b) (λ p. blockHoldsNoOff p b) may n m f block-formed-here k g
+        (λ p a o. no-off p a (formed-outputs p b (subst (λ (c : Bool). T c) (sym k ∙ block-formed-here p a o) tt)))
+
+    pub block-off : g ≡ false → BlockRefusal may n m b 10
+    block-off = block-told .0
+
+    pub block-good : g ≡ true → BlockRefusal may n m b 0
+    block-good = block-told .1
 
 -- in the problem that p holds
 pub term-here : (p : Problem) (x : Context) (may : List ℕ) (t : Term) (r : ℕ) → Sized p → Holds p (x .problem) → Valid (x .problem) → MayOf (p .rows .on) (p .rows .dc) may
     → TermRefusal may (p .settings .n) (p .settings .m) t r → r ≡ firstOf (termRefusals (tableOf (x .problem)) t)
 term-here p x may t r z h v of f = f (tableOf (x .problem)) (of (tableOf (x .problem)) (p .settings .n) (z .inputs) (held-bytes p (x .problem) z h v)) (sym (h .settings .outputs))
+
+pub block-here : (p : Problem) (x : Context) (may : List ℕ) (b : Block) (r : ℕ) → Sized p → Holds p (x .problem) → Valid (x .problem) → MayOf (p .rows .on) (p .rows .dc) may
+    → BlockRefusal may (p .settings .n) (p .settings .m) b r → r ≡ firstOf (blockRefusals (tableOf (x .problem)) b)
+block-here p x may b r z h v of f = f (tableOf (x .problem)) (of (tableOf (x .problem)) (p .settings .n) (z .inputs) (held-bytes p (x .problem) z h v)) (sym (h .settings .outputs))

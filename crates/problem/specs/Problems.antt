@@ -1,18 +1,23 @@
 -- The engine's record of the problem so far, what a command makes of it, and which problem of the definitions it holds.
-use Prim.Native.Nat.{ℕ, _+_, _-_, _≤_, _<_}
+use Prim.Native.Nat.{ℕ, _+_, _-_, _^_, _≤_, _<_}
 use mathlib.Core.Path.{_≡_}
 use mathlib.Core.List.{List, [], _∷_, _++_, map}
+use lib.Bits.{bitOr}
 use lib.Dec.{ltb, eqb}
 use lib.ListN.{getD, length, take, drop, set, replicate}
 use Rattle.model.specs.Base.{some, without}
 use Rattle.model.specs.declared.Term.{Term}
+use Rattle.model.specs.declared.Block.{Block}
 use Rattle.model.specs.declared.Prices.{Prices}
 use Rattle.model.specs.Table.{term}
-use Rattle.model.specs.Candidates.{usual, termCost}
+use Rattle.model.specs.Sets.{rowOf}
+use Rattle.model.specs.Candidates.{Candidate, usual, termCost, candidateCost}
 use Rattle.model.specs.Commands as model
 use Rattle.model.specs.Commands.{Row}
 use Rattle.model.specs.Invariants.{Valid}
+use Rattle.bits.specs.Bits.{removed}
 use Rattle.bits.specs.Lists.{Filled}
+use Rattle.incidence.specs.Stored.{entryOf, isBlock, BlocksAt, Stored}
 use Rattle.primes.specs.declared.prime_list.PrimeList.{PrimeList}
 use Rattle.problem.specs.declared.Settings.{Settings}
 use Rattle.problem.specs.declared.TableRows.{TableRows}
@@ -24,12 +29,12 @@ use Rattle.problem.specs.declared.Problem.{Problem}
 abbrev pub noRows : TableRows
 noRows = record { on = replicate 256 0; dc = replicate 256 0; given = replicate 256 0 }
 
--- so many terms of an array, and weights beside them
-abbrev pub listed : List Term → List ℕ → ℕ → Candidates
-listed terms weights count = record { terms = terms; weights = weights; count = count }
+-- so many terms of an array, weights beside them, and which of them are blocks
+abbrev pub listed : List Term → List ℕ → ℕ → ℕ → Candidates
+listed terms weights blocks count = record { terms = terms; weights = weights; blocks = blocks; count = count }
 
 unfoldable pub startedWith : ℕ → ℕ → ℕ → Problem
-startedWith n m place = record { place = place; settings = record { n = n; m = m; prices = usual }; rows = noRows; candidates = listed (replicate 64 (term 0 0 0)) (replicate 64 0) 0 }
+startedWith n m place = record { place = place; settings = record { n = n; m = m; prices = usual }; rows = noRows; candidates = listed (replicate 64 (term 0 0 0)) (replicate 64 0) 0 0 }
 
 abbrev pub noProblem : Problem
 noProblem = startedWith 0 0 0
@@ -56,19 +61,27 @@ abbrev pub rowsPut : TableRows → List Row → TableRows
 rowsPut rows [] = rows
 rowsPut rows (w ∷ ws) = rowsPut (rowPut rows (w .vertex) (w .on) (w .dc)) ws
 
-unfoldable pub termPut : Prices → Candidates → Term → Candidates
-termPut w cs t = listed (set (cs .terms) (cs .count) t) (set (cs .weights) (cs .count) (termCost w t)) (cs .count + 1)
+-- one entry more, with its weight
+unfoldable pub entryPut : Candidates → Term → ℕ → ℕ → Candidates
+entryPut cs t weight blocks = listed (set (cs .terms) (cs .count) t) (set (cs .weights) (cs .count) weight) blocks (cs .count + 1)
+
+abbrev pub termPut : Prices → Candidates → Term → Candidates
+termPut w cs t = entryPut cs t (termCost w t) (cs .blocks)
+
+-- the entry of a block has its outputs alone
+abbrev pub blockPut : Candidates → Block → Candidates
+blockPut cs b = entryPut cs (term 0 0 (b .outputs)) (b .weight) (bitOr (cs .blocks) (2 ^ cs .count))
 
 -- the first count entries without entry k, which leaves one fewer; the rest of the array stays
 unfoldable pub entriesWithout : {A : Type 0} → ℕ → ℕ → List A → List A
 entriesWithout k count xs = without k (take count xs) ++ drop (count - 1) xs
 
-abbrev pub termTaken : Candidates → ℕ → Candidates
-termTaken cs k = listed (entriesWithout k (cs .count) (cs .terms)) (entriesWithout k (cs .count) (cs .weights)) (cs .count - 1)
+abbrev pub candidateTaken : Candidates → ℕ → Candidates
+candidateTaken cs k = listed (entriesWithout k (cs .count) (cs .terms)) (entriesWithout k (cs .count) (cs .weights)) (removed k (cs .blocks)) (cs .count - 1)
 
 -- r is p behind a P: the primes of the list are its candidates, and their weights stand beside them
 pub record WithPrimes (p : Problem) (list : PrimeList) (r : Problem) : Type 0 where
-  pub is : r ≡ atPlace model.queried (withCandidates (listed (list .terms) (r .candidates .weights) (list .count)) p)
+  pub is : r ≡ atPlace model.queried (withCandidates (listed (list .terms) (r .candidates .weights) 0 (list .count)) p)
   pub weights : Filled 64 (map (termCost (p .settings .prices)) (take (list .count) (list .terms))) (r .candidates .weights) (list .count)
 
 -- ---- what it holds
@@ -93,21 +106,35 @@ pub record HoldsRows (r : TableRows) (t : model.TableRows) : Type 0 where
   pub dc-bytes : (v : ℕ) → v < 256 → getD (r .dc) v 0 ≡ getD (t .dc) v 0
   pub given : (v : ℕ) → v < 256 → ltb 0 (getD (r .given) v 0) ≡ some (eqb v) (t .given)
 
--- the candidates, and the weights beside them. K5: "each weight equals the cost rule for its term", at these prices
-pub record HoldsCands (w : Prices) (cs : Candidates) (ts : List Term) (ws : List ℕ) : Type 0 where
-  pub terms : Filled 64 ts (cs .terms) (cs .count)
+-- the candidates ks, but for the vertices of blocks, and the weights beside them. K5: "each weight equals the cost rule for its term", at these
+-- prices, and that of a block is its own
+pub record HoldsCands (w : Prices) (cs : Candidates) (ks : List Candidate) (ws : List ℕ) : Type 0 where
+  pub entries : Filled 64 (map entryOf ks) (cs .terms) (cs .count)
   pub weights : Filled 64 ws (cs .weights) (cs .count)
-  pub weighed : take (cs .count) (cs .weights) ≡ map (termCost w) (take (cs .count) (cs .terms))
+  pub blocks : cs .blocks ≡ rowOf isBlock ks 0
+  pub weighed : ws ≡ map (candidateCost w) ks
 
--- p holds the problem q of the definitions
+-- p holds the problem q of the definitions, but for the vertices of its blocks: those stand in sets lent beside p (`BlocksAt`)
 pub record Holds (p : Problem) (q : model.Problem) : Type 0 where
   pub place : p .place ≡ q .place
   pub settings : HoldsSettings (p .settings) (q .settings)
   pub rows : HoldsRows (p .rows) (q .rows)
   pub cands : HoldsCands (p .settings .prices) (p .candidates) (q .cands) (q .weights)
 
+-- some candidates stand in p and in the sets lent beside it
+pub record Stocked (p : Problem) (held : List ℕ) : Type 0 where
+  pub cands : List Candidate
+  pub stored : Stored cands (take (p .candidates .count) (p .candidates .terms)) (p .candidates .blocks) held
+
 -- p holds a problem that a job can come to
 pub record Reached (p : Problem) : Type 0 where
   pub problem : model.Problem
   pub holds : Holds p problem
+  pub valid : Valid problem
+
+-- and held has the vertices of its blocks
+pub record ReachedWith (p : Problem) (held : List ℕ) : Type 0 where
+  pub problem : model.Problem
+  pub holds : Holds p problem
+  pub blocks : BlocksAt (problem .cands) held
   pub valid : Valid problem

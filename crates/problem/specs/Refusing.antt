@@ -6,7 +6,9 @@ use mathlib.Core.List.{List, [], _∷_}
 use lib.Dec.{leb, ltb}
 use lib.ListN.{getD}
 use Rattle.model.specs.declared.Term.{Term}
+use Rattle.model.specs.declared.Block.{Block}
 use Rattle.model.specs.Table.{Table, formed, holdsNoOff}
+use Rattle.model.specs.Blocks.{blockFormed, blockHoldsNoOff}
 use Rattle.model.specs.Refusals.{Refusal, refuse, firstOf, badRow}
 use Rattle.table.specs.Cubes.{Allowed}
 
@@ -25,3 +27,10 @@ termRefusals p t = refuse 9 (not (formed p t)) ∷ refuse 10 (not (holdsNoOff p 
 -- r is the first of them, in every table of n inputs and m outputs that may comes from
 abbrev pub TermRefusal : List ℕ → ℕ → ℕ → Term → ℕ → Type 0
 TermRefusal may n m t r = (p : Table) → Allowed p n may → p .m ≡ m → r ≡ firstOf (termRefusals p t)
+
+-- 18 and 10 of a block, and the first of them
+abbrev pub blockRefusals : Table → Block → List Refusal
+blockRefusals p b = refuse 18 (not (blockFormed p b)) ∷ refuse 10 (not (blockHoldsNoOff p b)) ∷ []
+
+abbrev pub BlockRefusal : List ℕ → ℕ → ℕ → Block → ℕ → Type 0
+BlockRefusal may n m b r = (p : Table) → Allowed p n may → p .m ≡ m → r ≡ firstOf (blockRefusals p b)

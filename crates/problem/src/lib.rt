@@ -1,4 +1,5 @@
-// The problem so far: one record by value with its settings, its rows and its candidates.
+// The problem so far: one record by value with its settings, its rows and its candidates. The vertices of its blocks stand beside it, in sets
+// that are lent and not copied with it (`held`, crate `incidence`).
 //
 // `refusals` has the refusals that operands can meet in it, `weights` what stands beside a candidate, `cells` the rows of its cells, `matrix`
 // its covering matrix, `products` the multiplication of its cells.
@@ -7,7 +8,9 @@ ghost use mathlib.Core.Path.{_≡_};
 ghost use Prim.Native.Nat.{_≤_, _<_, max};
 ghost use Rattle.model.specs.Candidates.{usual};
 ghost use Rattle.model.specs.Commands as model;
-ghost use Rattle.problem.specs.Problems.{noProblem, startedWith, atPlace, withPrices, withRows, withCandidates, listed, termPut, termTaken, WithPrimes};
+ghost use Rattle.problem.specs.Problems.{noProblem, startedWith, atPlace, withPrices, withRows, withCandidates, listed, entryPut, termPut, blockPut, candidateTaken, WithPrimes};
+use bits::set;
+use model::Block;
 use model::Prices;
 use model::Term;
 use primes::prime_list::PrimeList;
@@ -32,10 +35,12 @@ pub struct TableRows {
     pub given: [u8; 256],
 }
 
-// The candidates: the first `count` terms, and beside each its weight.
+// The candidates: the first `count` terms, beside each its weight, and the set of those that are blocks. The term of a block has its outputs
+// alone.
 pub struct Candidates {
     pub terms: [Term; 64],
     pub weights: [u16; 64],
+    pub blocks: u64,
     pub count: usize,
 }
 
@@ -88,6 +93,7 @@ pub fn started(n: u8, m: u8, place: u8) -> Problem
                 outputs: 0,
             }; 64],
             weights: [0; 64],
+            blocks: 0,
             count: 0,
         },
     }
@@ -122,9 +128,9 @@ pub fn with_rows(p: Problem, rows: TableRows) -> Problem
     }
 }
 
-// The place of a term, or the later one that the job is at.
-fn term_place(place: u8) -> u8
-    ensures { λ r. ⌜ r ≡ max place model.inTerms ⌝ }
+// The place of a candidate, or the later one that the job is at.
+fn candidate_place(place: u8) -> u8
+    ensures { λ r. ⌜ r ≡ max place model.inCandidates ⌝ }
 {
     if place < 4 {
         return 4;
@@ -132,10 +138,11 @@ fn term_place(place: u8) -> u8
     place
 }
 
-// With one candidate more and its weight, behind the others: what T and A leave.
+// With one candidate more, a term and what it costs: what T and A leave. (The same lines as in `with_block`: a function for both copies the
+// candidates once more.)
 pub fn with_term(p: Problem, t: Term) -> Problem
     requires { ⌜ p .candidates .count < 64 ⌝ }
-    ensures { λ r. ⌜ r ≡ atPlace (max (p .place) model.inTerms) (withCandidates (termPut (p .settings .prices) (p .candidates) t) p) ⌝ }
+    ensures { λ r. ⌜ r ≡ atPlace (max (p .place) model.inCandidates) (withCandidates (termPut (p .settings .prices) (p .candidates) t) p) ⌝ }
 {
     let prices = p.settings.prices;
     let mut candidates = p.candidates;
@@ -143,7 +150,30 @@ pub fn with_term(p: Problem, t: Term) -> Problem
     candidates.terms[i] = t;
     candidates.weights[i] = weights::weight(prices, t);
     candidates.count = i + 1;
-    let place = term_place(p.place);
+    let place = candidate_place(p.place);
+    let mut q = p;
+    q.candidates = candidates;
+    q.place = place;
+    q
+}
+
+// With one candidate more, a block and its own weight: what F leaves.
+pub fn with_block(p: Problem, b: Block) -> Problem
+    requires { ⌜ p .candidates .count < 64 ⌝ }
+    ensures { λ r. ⌜ r ≡ atPlace (max (p .place) model.inCandidates) (withCandidates (blockPut (p .candidates) b) p) ⌝ }
+{
+    let entry = Term {
+        care: 0,
+        value: 0,
+        outputs: b.outputs,
+    };
+    let mut candidates = p.candidates;
+    let i = candidates.count;
+    candidates.terms[i] = entry;
+    candidates.weights[i] = b.weight;
+    candidates.blocks = candidates.blocks | set::power(i as u64);
+    candidates.count = i + 1;
+    let place = candidate_place(p.place);
     let mut q = p;
     q.candidates = candidates;
     q.place = place;
@@ -151,9 +181,15 @@ pub fn with_term(p: Problem, t: Term) -> Problem
 }
 
 // `count` candidates without candidate k: those above it move down by one, each with its weight.
-fn moved_down(terms: [Term; 64], weights: [u16; 64], count: usize, k: usize) -> Candidates
+fn moved_down(
+    terms: [Term; 64],
+    weights: [u16; 64],
+    blocks: u64,
+    count: usize,
+    k: usize,
+) -> Candidates
     requires { ⌜ (k < count) × (count ≤ 64) ⌝ }
-    ensures { λ r. ⌜ r ≡ termTaken (listed terms weights count) k ⌝ }
+    ensures { λ r. ⌜ r ≡ candidateTaken (listed terms weights blocks count) k ⌝ }
 {
     let mut ts = terms;
     let mut ws = weights;
@@ -166,18 +202,19 @@ fn moved_down(terms: [Term; 64], weights: [u16; 64], count: usize, k: usize) -> 
     Candidates {
         terms: ts,
         weights: ws,
+        blocks: set::removed(blocks, k as u64),
         count: count - 1,
     }
 }
 
 // Without candidate k: what D leaves.
-pub fn without_term(p: Problem, k: usize) -> Problem
+pub fn without_candidate(p: Problem, k: usize) -> Problem
     requires { ⌜ (k < p .candidates .count) × (p .candidates .count ≤ 64) ⌝ }
-    ensures { λ r. ⌜ r ≡ withCandidates (termTaken (p .candidates) k) p ⌝ }
+    ensures { λ r. ⌜ r ≡ withCandidates (candidateTaken (p .candidates) k) p ⌝ }
 {
     let terms = p.candidates.terms;
     let weights = p.candidates.weights;
-    let candidates = moved_down(terms, weights, p.candidates.count, k);
+    let candidates = moved_down(terms, weights, p.candidates.blocks, p.candidates.count, k);
     let mut q = p;
     q.candidates = candidates;
     q
@@ -200,6 +237,7 @@ pub fn with_primes(p: Problem, primes: PrimeList) -> Problem
         candidates: Candidates {
             terms: terms,
             weights: weights,
+            blocks: 0,
             count: count,
         },
     }

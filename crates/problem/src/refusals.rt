@@ -4,11 +4,13 @@ ghost use Prim.Native.Nat.{_≤_};
 ghost use Rattle.model.specs.Refusals.{badRow, dear, firstOf, refuse, size};
 ghost use mathlib.Core.Bool.{not, _&&_};
 ghost use mathlib.Core.List.{[], _∷_};
-ghost use Rattle.problem.specs.Refusing.{isTaken, rowRefusals, TermRefusal};
+ghost use Rattle.problem.specs.Refusing.{isTaken, rowRefusals, TermRefusal, BlockRefusal};
 use crate::Settings;
 use bits::byte;
+use model::Block;
 use model::Prices;
 use model::Term;
+use table::blocks;
 use table::terms;
 
 // Whether k is 1 to 8.
@@ -102,4 +104,18 @@ pub fn term_refusal(may: &[u8; 256], n: u8, m: u8, t: Term) -> u8
         return 10;
     }
     9
+}
+
+// A block of F: 18, 10. `may` has what each vertex may drive.
+pub fn block_refusal(may: &[u8; 256], n: u8, m: u8, b: Block) -> u8
+    requires { ⌜ (n ≤ 8) × (m ≤ 8) ⌝ }
+    ensures { λ r. ⌜ BlockRefusal (now (may .entry)) n m b r ⌝ }
+{
+    if blocks::formed(n, m, b) {
+        if blocks::holds_no_off(may, n, b) {
+            return 0;
+        }
+        return 10;
+    }
+    18
 }

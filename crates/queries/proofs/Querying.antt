@@ -13,7 +13,7 @@ use Rattle.model.specs.Sets.{Covering, members, Best, cover, coverable, cheapes
 use Rattle.model.specs.Products.{products, tooMany}
 use Rattle.model.specs.Pages.{page, atOrAbove}
 use Rattle.model.specs.declared.Prices.{Prices}
-use Rattle.model.specs.Candidates.{termCost, weigh}
+use Rattle.model.specs.Candidates.{candidateCost, weigh}
 use Rattle.model.specs.Commands as model
 use Rattle.model.specs.Commands.{Context, isQueryKind, basisOf, coveringOf, start, count, problemAfter}
 use Rattle.model.specs.Answers.{Answer, bytesOf, answerFor}
@@ -28,6 +28,7 @@ use Rattle.lister.specs.declared.cursor.PageFill.{PageFill}
 use Rattle.rows.specs.Covers.{rowCovers}
 use Rattle.lister.specs.Lister.{Paged}
 use Rattle.cheapest.specs.Optimum.{Optimal}
+use Rattle.incidence.specs.Stored.{BlocksAt}
 use Rattle.answers.specs.declared.writers.Reply.{Reply}
 use Rattle.answers.specs.declared.writers.Reply.the-variants.{Written, TooLong}
 use Rattle.answers.specs.Writers.{Replied}
@@ -126,8 +127,8 @@ module _ (p : Problem) (rows : List ℕ) (b : Bool) (s k : ℕ) where
 module _ (p : Problem) (rows costs : List ℕ) (b : Bool) (weights-are : costs ≡ take (p .candidates .count) (p .candidates .weights)) where
   costs-here : (x : Context) → Found p x → costs ≡ map (weigh (basisOf (x .problem))) (x .problem .cands)
   costs-here x f =
-      weights-are ∙ f .holds .cands .weighed ∙ ap (map (termCost (p .settings .prices))) (f .holds .cands .terms .same)
-      ∙ ap (λ (w : Prices). map (termCost w) (x .problem .cands)) (f .holds .settings .prices)
+      weights-are ∙ f .holds .cands .weights .same ∙ f .holds .cands .weighed
+      ∙ ap (λ (w : Prices). map (candidateCost w) (x .problem .cands)) (f .holds .settings .prices)
 
   -- where each on cell is held there is a cover
   pub cheapest-none : (old : List ℕ) (o : Optimum) (e : Effect) → b ≡ true → o ≡ Nothing → Optimal rows costs o → HandlesC p rows b old old e
@@ -166,38 +167,38 @@ cheapest-uncovered p rows b old e z q x f d l = query-uncovered p b x model.Kind
 
 -- ---- N
 
-pub products-uncovered : (p : Problem) (b : Bool) (old : List ℕ) (e : Effect) → b ≡ false → e ≡ refusedAs p 12 → HandlesN p b old old e
-products-uncovered p b old e z q x f d l = query-uncovered p b x model.Kind.N tt f d old e z q
+pub products-uncovered : (p : Problem) (held : List ℕ) (b : Bool) (old : List ℕ) (e : Effect) → b ≡ false → e ≡ refusedAs p 12 → HandlesN p held b old old e
+products-uncovered p held b old e z q x f h d l = query-uncovered p b x model.Kind.N tt f d old e z q
 
-module _ {p : Problem} {first second row : RefT (List ℕ)} {number count : ℕ} (m : Multiplies p first second row number count) (b : Bool) (z : b ≡ true) where
+module _ {p : Problem} {held : List ℕ} {first second row : RefT (List ℕ)} {number count : ℕ} (m : Multiplies p held first second row number count) (b : Bool) (z : b ≡ true) where
   -- the number told is 17 where 17 applies, else 0
-  told-many : (x : Context) → Found p x → (number ≡ 0 → ⊥) → (tooMany (coveringOf x) ≡ true) × (number ≡ 17)
-  told-many x f d = go (tooMany (coveringOf x)) refl
+  told-many : (x : Context) → Found p x → BlocksAt (x .problem .cands) held → (number ≡ 0 → ⊥) → (tooMany (coveringOf x) ≡ true) × (number ≡ 17)
+  told-many x f h d = go (tooMany (coveringOf x)) refl
     where
       told : number ≡ cond (tooMany (coveringOf x)) 17 0
-      told = m (x .problem) (f .holds) .told
+      told = m (x .problem) (f .holds) h .told
 
       go : (t : Bool) → tooMany (coveringOf x) ≡ t → (tooMany (coveringOf x) ≡ true) × (number ≡ 17)
       go true e = (e, told ∙ rw e)
       go false e = absurd (d (told ∙ rw e))
 
-  told-few : (x : Context) → Found p x → number ≡ 0 → tooMany (coveringOf x) ≡ false
-  told-few x f n = go (tooMany (coveringOf x)) refl
+  told-few : (x : Context) → Found p x → BlocksAt (x .problem .cands) held → number ≡ 0 → tooMany (coveringOf x) ≡ false
+  told-few x f h n = go (tooMany (coveringOf x)) refl
     where
       go : (t : Bool) → tooMany (coveringOf x) ≡ t → tooMany (coveringOf x) ≡ false
-      go true e = let u : number ≡ 17 = m (x .problem) (f .holds) .told ∙ rw e in absurd (omega (arith, u))
+      go true e = let u : number ≡ 17 = m (x .problem) (f .holds) h .told ∙ rw e in absurd (omega (arith, u))
       go false e = e
 
-  pub products-refused : (old : List ℕ) (e : Effect) → (number ≡ 0 → ⊥) → e ≡ refusedAs p number → HandlesN p b old old e
-  products-refused old e d q x f c l =
-      let t = told-many x f d in
+  pub products-refused : (old : List ℕ) (e : Effect) → (number ≡ 0 → ⊥) → e ≡ refusedAs p number → HandlesN p held b old old e
+  products-refused old e d q x f h c l =
+      let t = told-many x f h d in
       query-many p b x model.Kind.N tt f c old e z (t .0) (q ∙ ap (refusedAs p) (t .1))
 
   pub products-answered : (old new : List ℕ) (r : Reply) (e : Effect) → number ≡ 0 → Replied (bytesOf (Answer.productsAre (take count (now row)))) old new r → e ≡ repliedAs p r
-      → HandlesN p b old new e
+      → HandlesN p held b old new e
   unfolding answerFor
-  products-answered old new r e n w q x f c l =
-      let few = told-few x f n in
-      let sets : take count (now row) ≡ products (coveringOf x) = m (x .problem) (f .holds) .sets ∙ rw few in
+  products-answered old new r e n w q x f h c l =
+      let few = told-few x f h n in
+      let sets : take count (now row) ≡ products (coveringOf x) = m (x .problem) (f .holds) h .sets ∙ rw few in
       handled-reply x model.Kind.N p old new r (subst (λ (ss : List ℕ). Replied (bytesOf (Answer.productsAre ss)) old new r) sets w) l
       (query-covered p b x model.Kind.N tt f c z few) (f .holds) (after-query x p model.Kind.N tt (f .holds)) e q

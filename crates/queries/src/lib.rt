@@ -4,7 +4,7 @@ ghost use Prim.Native.Nat.{_≤_};
 ghost use lib.ListN.{length};
 ghost use Rattle.rows.specs.Covers.{rowCovers};
 ghost use Rattle.answers.specs.Writers.{Replied};
-ghost use Rattle.problem.specs.Problems.{Reached};
+ghost use Rattle.problem.specs.Problems.{Reached, ReachedWith};
 ghost use Rattle.commands.specs.Effects.{repliedAs, pageBytes, HandlesL, HandlesC, HandlesN};
 use answers::writers;
 use answers::writers::Reply;
@@ -79,10 +79,11 @@ pub fn least_cost(p: Problem, rows: &[u64], covered: bool, free: &mut [u8]) -> E
     }
 }
 
-// N: all irredundant covers in one go. `covered` is that of the covering matrix; its rows are not those of the cells.
-pub fn multiply(p: Problem, covered: bool, free: &mut [u8]) -> Effect
-    requires { ⌜ Reached p ⌝ }
-    ensures { λ r. ⌜ HandlesN p covered (now (free .entry)) (now (free .exit)) r ⌝ }
+// N: all irredundant covers in one go. `held` has the sets of the blocks; `covered` is that of the covering matrix, whose rows are not those of
+// the cells.
+pub fn multiply(p: Problem, held: &[u64; 256], covered: bool, free: &mut [u8]) -> Effect
+    requires { ⌜ ReachedWith p (now held) ⌝ }
+    ensures { λ r. ⌜ HandlesN p (now (held .entry)) covered (now (free .entry)) (now (free .exit)) r ⌝ }
 {
     if !covered {
         return refused(p, 12);
@@ -91,7 +92,7 @@ pub fn multiply(p: Problem, covered: bool, free: &mut [u8]) -> Effect
     let mut second = [0u64; 1024];
     let mut number: u8 = 0;
     let mut count: usize = 0;
-    let row = products::multiply(p, &mut first, &mut second, &mut number, &mut count);
+    let row = products::multiply(p, held, &mut first, &mut second, &mut number, &mut count);
     if number != 0 {
         return refused(p, number);
     }

@@ -98,7 +98,7 @@ agree-same n care v w all lv lw a = bits-ext v w (λ i. bool-ext (bit i v) (bit 
     (λ t. subst⁻¹ (λ (x : Bool). T x) (a i (all i (bit-lt i n w t lw))) t))
 
 -- the outputs that are not off at a vertex
-may-bit : (p : Table) (n : ℕ) (may : List ℕ) → Allowed p n may → (v j : ℕ) → v < 2 ^ n → bit j (getD may v 0) ≡ not (isOff p (cell v j))
+pub may-bit : (p : Table) (n : ℕ) (may : List ℕ) → Allowed p n may → (v j : ℕ) → v < 2 ^ n → bit j (getD may v 0) ≡ not (isOff p (cell v j))
 unfolding isOff isOn isDc
 may-bit p n may a v j l = ap (bit j) (a .on-or-dc v l) ∙ bit-or j (getD (p .on) v 0) (getD (p .dc) v 0) ∙ twice (bit j (getD (p .on) v 0) || bit j (getD (p .dc) v 0))
   where

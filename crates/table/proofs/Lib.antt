@@ -1,3 +1,4 @@
 pub mod Halves
 pub mod Legality
+pub mod Vertices
 pub mod Uses

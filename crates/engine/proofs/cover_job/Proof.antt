@@ -1,11 +1,13 @@
 -- `engine::cover_job` meets its contract.
+use mathlib.Core.List.{[]}
+use Rattle.incidence.proofs.Uses.{blocks-alone}
 use Rattle.engine.proofs.Running.{tells-small, tells-packed}
 use borrow.Author.Needs.{needs}
 use Rattle.engine.proofs.cover_job.Statement.{statement}
 use Rattle.engine.proofs.cover_job.Tie as tie
 
 run-job-requires : tie.Need-run-job-requires
-run-job-requires c κs = search needs
+run-job-requires c κs = blocks-alone []
 
 pack-requires : tie.Need-pack-requires
 pack-requires c κs = tells-small (c .before .before .run-job .ensures)

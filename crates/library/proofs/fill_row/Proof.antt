@@ -29,7 +29,7 @@ returns c = let c5 = c .before .before .before .before .before in
     row-filled (c5 .before .before .prepare .ensures) (c5 .if1 .taken) refl refl (c .before .before .fill .ensures)
 
 returns-2 : tie.Need-returns-2
-returns-2 c = row-refused (c .before .before .prepare .ensures) (c .before .before .before .before .before .args .start) (c .if1 .left)
+returns-2 c = row-refused (c .before .before .prepare .ensures) (c .before .before .before .before .before .before .args .start) (c .if1 .left)
 
 pub fill-row-spec : {M : Type 1} → statement M
 fill-row-spec = tie.close (tie.spec slice-aggregate-prepare prepare-requires array-share-prefix-rows slice-aggregate-fill fill-requires same-length

@@ -32,7 +32,7 @@ slice-aggregate-cheapest-2 c = sym (length-take-le _ _ (array-share-prefix-weigh
 
 cheapest-requires : tie.Need-cheapest-requires
 cheapest-requires c κs = let c2 = c .before .before in
-    (omega (arith, slice-aggregate-cheapest (c .before), array-share-prefix-all c2), omega (arith, slice-aggregate-cheapest-2 c, c2 .before .before .before .before .before .before .pre))
+    (omega (arith, slice-aggregate-cheapest (c .before), array-share-prefix-all c2), omega (arith, slice-aggregate-cheapest-2 c, c2 .before .before .before .before .before .before .before .pre))
 
 enum-known-set : tie.Need-enum-known-set
 enum-known-set c = search needs

@@ -6,16 +6,17 @@ use mathlib.Core.List.{List}
 use lib.ListN.{length}
 use Rattle.model.specs.declared.Term.{Term}
 use Rattle.model.specs.Table.{term}
+use Rattle.bits.specs.Bits.{removed}
 use Rattle.problem.specs.Problems.{listed}
 use Rattle.problem.proofs.Moving.{MovedDown, moved-none, moved-next, moved-all}
 use Rattle.problem.proofs.moved_down.Statement.{statement}
 use Rattle.problem.proofs.moved_down.Tie as tie
 
 abbrev Inv-loop : tie.InvT-loop
-Inv-loop count k ts₀ ws₀ i₀ ts ws i = MovedDown ts₀ count k i ts × MovedDown ws₀ count k i ws
+Inv-loop blocks count k ts₀ ws₀ i₀ ts ws i = MovedDown ts₀ count k i ts × MovedDown ws₀ count k i ws
 
 abbrev μ-loop : tie.MeasureT-loop
-μ-loop count k ts₀ ws₀ i₀ ts ws i = count - i
+μ-loop blocks count k ts₀ ws₀ i₀ ts ws i = count - i
 
 -- the arrays are as long as the candidates, or longer
 long : (c : tie.Start Inv-loop μ-loop) → (c .args .count ≤ length (c .args .terms)) × (c .args .count ≤ length (c .args .weights))
@@ -69,14 +70,18 @@ loop-again c = let c1 = c .before in let c2 = c1 .before in let c3 = c2 .before 
   moved-next _ _ _ (c3 .pre .0) (long c3 .1) _ _ 0 _ (c2 .loop .inv .1) (c1 .loop-test .taken) refl,
 )
 
-sub-t24 : tie.Need-sub-t24 Inv-loop μ-loop
-sub-t24 c = omega (arith, c .before .loop .inv .0 .within)
+removed-requires : tie.Need-removed-requires Inv-loop μ-loop
+removed-requires c κs = omega (arith, c .before .before .pre)
+
+sub-t27 : tie.Need-sub-t27 Inv-loop μ-loop
+sub-t27 c = omega (arith, c .before .before .loop .inv .0 .within)
 
 returns : tie.Need-returns Inv-loop μ-loop
-returns c = let c1 = c .before in let c2 = c1 .before in
-    ap₂ (λ (ts : List Term) (ws : List ℕ). listed ts ws (c2 .args .count - 1))
-    (moved-all _ _ _ (c2 .pre .0) (long c2 .0) _ _ (c1 .loop .inv .0) (c .loop-test .left)) (moved-all _ _ _ (c2 .pre .0) (long c2 .1) _ _ (c1 .loop .inv .1) (c .loop-test .left))
+returns c = let c1 = c .before in let c2 = c1 .before in let c3 = c2 .before in
+    rw (c .removed .ensures)
+    (ap₂ (λ (ts : List Term) (ws : List ℕ). listed ts ws (removed (c3 .args .k) (c3 .args .blocks)) (c3 .args .count - 1))
+    (moved-all _ _ _ (c3 .pre .0) (long c3 .0) _ _ (c2 .loop .inv .0) (c1 .loop-test .left)) (moved-all _ _ _ (c3 .pre .0) (long c3 .1) _ _ (c2 .loop .inv .1) (c1 .loop-test .left)))
 
 pub moved-down-spec : {M : Type 1} → statement M
 moved-down-spec = tie.close (tie.spec Inv-loop μ-loop loop-holds add-loop add-ts mul-ts array-copy-out-ts mul-ts-2 array-set-from-ts add-ws mul-ws
-    array-read-ws mul-ws-2 array-write-ws add-i loop-less loop-again sub-t24 returns)
+    array-read-ws mul-ws-2 array-write-ws add-i loop-less loop-again removed-requires sub-t27 returns)

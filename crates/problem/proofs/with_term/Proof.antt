@@ -1,5 +1,5 @@
 -- `problem::with_term` meets its contract.
-use Rattle.problem.specs.Problems.{termPut}
+use Rattle.problem.specs.Problems.{entryPut}
 use borrow.Author.Needs.{needs}
 use Rattle.problem.proofs.with_term.Statement.{statement}
 use Rattle.problem.proofs.with_term.Tie as tie
@@ -22,13 +22,13 @@ element-write-candidates c = search needs
 add-candidates : tie.Need-add-candidates
 add-candidates c = search needs
 
-term-place-requires : tie.Need-term-place-requires
-term-place-requires c κs = search needs
+candidate-place-requires : tie.Need-candidate-place-requires
+candidate-place-requires c κs = search needs
 
 returns : tie.Need-returns
-unfolding termPut
-returns c = rw (c .term-place .ensures, c .before .weight .ensures)
+unfolding entryPut
+returns c = rw (c .candidate-place .ensures, c .before .weight .ensures)
 
 pub with-term-spec : {M : Type 1} → statement M
 with-term-spec = tie.close (tie.spec mul-t element-set-from-t weight-requires mul-candidates element-write-candidates add-candidates
-    term-place-requires returns)
+    candidate-place-requires returns)

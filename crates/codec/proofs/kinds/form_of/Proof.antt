@@ -82,6 +82,12 @@ enum-told-13 c = search needs
 described-requires-13 : tie.Need-described-requires-13
 described-requires-13 c κs = search needs
 
+enum-told-14 : tie.Need-enum-told-14
+enum-told-14 c = search needs
+
+described-requires-14 : tie.Need-described-requires-14
+described-requires-14 c κs = search needs
+
 returns : tie.Need-returns
 returns c = described-as _ _ _ (c .before .enum-told .given .1) (c .described .ensures)
 
@@ -121,9 +127,12 @@ returns-12 c = described-as _ _ _ (c .before .enum-told12 .given .1) (c .describ
 returns-13 : tie.Need-returns-13
 returns-13 c = described-as _ _ _ (c .before .enum-told13 .given .1) (c .described13 .ensures)
 
+returns-14 : tie.Need-returns-14
+returns-14 c = described-as _ _ _ (c .before .enum-told14 .given .1) (c .described14 .ensures)
+
 pub form-of-spec : {M : Type 1} → statement M
 form-of-spec = tie.close (tie.spec enum-told described-requires enum-told-2 described-requires-2 enum-told-3 described-requires-3 enum-told-4
     described-requires-4 enum-told-5 described-requires-5 enum-told-6 described-requires-6 enum-told-7 described-requires-7 enum-told-8
     described-requires-8 enum-told-9 described-requires-9 enum-told-10 described-requires-10 enum-told-11 described-requires-11 enum-told-12
-    described-requires-12 enum-told-13 described-requires-13 returns returns-2 returns-3 returns-4 returns-5 returns-6 returns-7 returns-8 returns-9 returns-10
-    returns-11 returns-12 returns-13)
+    described-requires-12 enum-told-13 described-requires-13 enum-told-14 described-requires-14 returns returns-2 returns-3 returns-4 returns-5 returns-6 returns-7 returns-8 returns-9 returns-10
+    returns-11 returns-12 returns-13 returns-14)

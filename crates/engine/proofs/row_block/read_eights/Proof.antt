@@ -7,8 +7,8 @@ use denote.Ref.{now}
 use lib.Dec.{T}
 use lib.ListN.{length}
 use Rattle.eight_rows.specs.Rows.{EightAt, rowsOf}
-use Rattle.engine.specs.Blocks.{ReadsInto}
-use Rattle.engine.proofs.Blocks.{reads-none, reads-eight}
+use Rattle.engine.specs.RowBlocks.{ReadsInto}
+use Rattle.engine.proofs.RowBlocks.{reads-none, reads-eight}
 use borrow.Author.Needs.{needs}
 use Rattle.engine.proofs.row_block.read_eights.Statement.{statement}
 use Rattle.engine.proofs.row_block.read_eights.Tie as tie

@@ -8,8 +8,8 @@ use lib.Dec.{T}
 use lib.ListN.{length}
 use Rattle.problem.specs.Problems.{rowPut}
 use Rattle.eight_rows.specs.Rows.{rowsOf}
-use Rattle.engine.specs.Blocks.{RowAt, ReadsInto}
-use Rattle.engine.proofs.Blocks.{reads-none, reads-one}
+use Rattle.engine.specs.RowBlocks.{RowAt, ReadsInto}
+use Rattle.engine.proofs.RowBlocks.{reads-none, reads-one}
 use borrow.Author.Needs.{needs}
 use Rattle.engine.proofs.row_block.read_ones.Statement.{statement}
 use Rattle.engine.proofs.row_block.read_ones.Tie as tie

@@ -4,8 +4,8 @@ use native.Mathlib.Omega.{arith}
 use lib.ListN.{length}
 use Rattle.problem.proofs.Keeping.{reached-sized}
 use Rattle.eight_rows.specs.Rows.{rowsOf}
-use Rattle.engine.specs.Blocks.{ReadsInto}
-use Rattle.engine.proofs.Blocks.{reads-none, reads-then, reads-record}
+use Rattle.engine.specs.RowBlocks.{ReadsInto}
+use Rattle.engine.proofs.RowBlocks.{reads-none, reads-then, reads-record}
 use borrow.Author.Needs.{needs}
 use Rattle.engine.proofs.row_block.read_rows.Statement.{statement}
 use Rattle.engine.proofs.row_block.read_rows.Tie as tie

@@ -6,7 +6,10 @@ use denote.Ref.{now}
 use lib.ListN.{length}
 use Rattle.model.specs.Commands.{width}
 use Rattle.codec.specs.Kinds.{kindIs}
-use Rattle.engine.proofs.Dispatching.{Read, operands-there, term-there, rows-may-come, step-early, step-I, step-W, step-R, step-B, step-term, step-P, step-D, step-L, step-C, step-N, step-E, step-none}
+use Rattle.problem.specs.Problems.{Sized}
+use Rattle.problem.proofs.Keeping.{reached-sized, reached-alone}
+use Rattle.engine.proofs.Dispatching.{Read, operands-there, term-there, rows-may-come, step-early, step-I, step-W, step-R, step-B, step-term}
+use Rattle.engine.proofs.Dispatching.{step-F, step-P, step-D, step-L, step-C, step-N, step-E, step-none}
 use borrow.Author.Needs.{needs}
 use Rattle.engine.proofs.step.step.Statement.{statement}
 use Rattle.engine.proofs.step.step.Tie as tie
@@ -20,6 +23,9 @@ read c = record { here = c .before .before .before .before .before .before .pre 
 room : (c : tie.Else1) → let a = c .before .before .before .before .before .before .before .args in
     a .at + 1 + width (kindIs (c .before .before .kind-of .result)) ≤ length (now (a .job))
 room c = operands-there (read (c .before)) (c .if1 .left)
+
+sized : (c : tie.Else1) → Sized (c .before .before .before .before .before .before .before .args .p)
+sized c = reached-sized _ (reached-alone (c .before .before .before .before .before .before .before .pre .0))
 
 shared-slice-read-kind-of : tie.Need-shared-slice-read-kind-of
 shared-slice-read-kind-of c = search needs
@@ -97,7 +103,7 @@ shared-slice-read-row-2 : tie.Need-shared-slice-read-row-2
 shared-slice-read-row-2 c = omega (arith, room (c .before .before .before .before .before .before), ap width (ap kindIs (c .before .before .before .before .enum-told3 .given .1)))
 
 row-requires : tie.Need-row-requires
-row-requires c κs = search needs
+row-requires c κs = sized (c .before .before .before .before .before .before)
 
 enum-told-4 : tie.Need-enum-told-4
 enum-told-4 c = search needs
@@ -108,7 +114,7 @@ add-eight-rows c = search needs
 eight-rows-requires : tie.Need-eight-rows-requires
 eight-rows-requires c κs = let c2 = c .before .before in
     let b = ap kindIs (c .enum-told4 .given .1) in
-    (c2 .before .before .before .before .before .before .before .pre .0, (rows-may-come (read (c2 .before)) (c2 .if1 .left) b, omega (arith, room c2, ap width b)))
+    (reached-alone (c2 .before .before .before .before .before .before .before .pre .0), (rows-may-come (read (c2 .before)) (c2 .if1 .left) b, omega (arith, room c2, ap width b)))
 
 add-term-at : tie.Need-add-term-at
 add-term-at c = search needs
@@ -117,64 +123,76 @@ term-at-requires : tie.Need-term-at-requires
 term-at-requires c κs = term-there (read (c .before .before)) (c .before .if1 .left) (c .match .keys5)
 
 term-requires : tie.Need-term-requires
-term-requires c κs = search needs
+term-requires c κs = sized (c .before .before)
 
 enum-told-5 : tie.Need-enum-told-5
 enum-told-5 c = search needs
 
-primes-requires : tie.Need-primes-requires
-primes-requires c κs = search needs
+add-block-at : tie.Need-add-block-at
+add-block-at c = search needs
+
+block-at-requires : tie.Need-block-at-requires
+block-at-requires c κs = omega (arith, room (c .before .before .before), ap width (ap kindIs (c .before .enum-told5 .given .1)))
+
+block-requires : tie.Need-block-requires
+block-requires c κs = sized (c .before .before .before .before)
 
 enum-told-6 : tie.Need-enum-told-6
 enum-told-6 c = search needs
+
+primes-requires : tie.Need-primes-requires
+primes-requires c κs = search needs
+
+enum-told-7 : tie.Need-enum-told-7
+enum-told-7 c = search needs
 
 add-remove : tie.Need-add-remove
 add-remove c = search needs
 
 shared-slice-read-remove : tie.Need-shared-slice-read-remove
-shared-slice-read-remove c = omega (arith, room (c .before .before .before), ap width (ap kindIs (c .before .enum-told6 .given .1)))
+shared-slice-read-remove c = omega (arith, room (c .before .before .before .before), ap width (ap kindIs (c .before .before .enum-told7 .given .1)))
 
 remove-requires : tie.Need-remove-requires
-remove-requires c κs = search needs
+remove-requires c κs = sized (c .before .before .before .before)
 
-enum-told-7 : tie.Need-enum-told-7
-enum-told-7 c = search needs
+enum-told-8 : tie.Need-enum-told-8
+enum-told-8 c = search needs
 
 add-number-at : tie.Need-add-number-at
 add-number-at c = search needs
 
 number-at-requires : tie.Need-number-at-requires
-number-at-requires c κs = omega (arith, room (c .before .before), ap width (ap kindIs (c .enum-told7 .given .1)))
+number-at-requires c κs = omega (arith, room (c .before .before), ap width (ap kindIs (c .enum-told8 .given .1)))
 
 add-list : tie.Need-add-list
 add-list c = search needs
 
 shared-slice-read-list : tie.Need-shared-slice-read-list
-shared-slice-read-list c = omega (arith, room (c .before .before .before .before), ap width (ap kindIs (c .before .before .enum-told7 .given .1)))
+shared-slice-read-list c = omega (arith, room (c .before .before .before .before), ap width (ap kindIs (c .before .before .enum-told8 .given .1)))
 
 list-requires : tie.Need-list-requires
 list-requires c κs = search needs
 
-enum-told-8 : tie.Need-enum-told-8
-enum-told-8 c = search needs
+enum-told-9 : tie.Need-enum-told-9
+enum-told-9 c = search needs
 
 least-cost-requires : tie.Need-least-cost-requires
 least-cost-requires c κs = search needs
 
-enum-told-9 : tie.Need-enum-told-9
-enum-told-9 c = search needs
+enum-told-10 : tie.Need-enum-told-10
+enum-told-10 c = search needs
 
 multiply-requires : tie.Need-multiply-requires
 multiply-requires c κs = search needs
 
-enum-told-10 : tie.Need-enum-told-10
-enum-told-10 c = search needs
+enum-told-11 : tie.Need-enum-told-11
+enum-told-11 c = search needs
 
 end-requires : tie.Need-end-requires
 end-requires c κs = search needs
 
-enum-told-11 : tie.Need-enum-told-11
-enum-told-11 c = search needs
+enum-told-12 : tie.Need-enum-told-12
+enum-told-12 c = search needs
 
 refused-requires-2 : tie.Need-refused-requires-2
 refused-requires-2 c κs = search needs
@@ -199,53 +217,58 @@ returns-6 : tie.Need-returns-6
 returns-6 c = let c3 = c .before .before .before in
     step-term (read (c3 .before)) (c3 .if1 .left) (c .before .before .match .keys5) (c .before .term-at .ensures) (c .term .ensures)
 
+returns-7 : tie.Need-returns-7
+returns-7 c = let c3 = c .before .before .before in let c5 = c3 .before .before in
+    step-F (read (c5 .before)) (c5 .if1 .left) (ap kindIs (c3 .enum-told5 .given .1)) (c .before .block-at .ensures) (c .block .ensures)
+
 same-length : tie.Need-same-length
 same-length c = search needs
 
-returns-7 : tie.Need-returns-7
-returns-7 c = let c4 = c .before .before .before .before in let c6 = c4 .before .before in
-    step-P (read (c6 .before)) (c6 .if1 .left) (ap kindIs (c4 .enum-told5 .given .1)) (c .before .before .primes .ensures)
-
 returns-8 : tie.Need-returns-8
-returns-8 c = let c4 = c .before .before .before .before in
-    step-D (read (c4 .before)) (c4 .if1 .left) (ap kindIs (c .before .before .enum-told6 .given .1)) (c .remove .ensures)
+returns-8 c = let c4 = c .before .before .before .before in let c6 = c4 .before .before in
+    step-P (read (c6 .before)) (c6 .if1 .left) (ap kindIs (c4 .enum-told6 .given .1)) (c .before .before .primes .ensures)
+
+returns-9 : tie.Need-returns-9
+returns-9 c = let c3 = c .before .before .before in let c5 = c3 .before .before in
+    step-D (read (c5 .before)) (c5 .if1 .left) (ap kindIs (c3 .enum-told7 .given .1)) (c .remove .ensures)
 
 same-length-2 : tie.Need-same-length-2
 same-length-2 c = search needs
 
-returns-9 : tie.Need-returns-9
-returns-9 c = let c5 = c .before .before .before .before .before in let c8 = c5 .before .before .before in
-    step-L (read (c8 .before)) (c8 .if1 .left) (ap kindIs (c5 .before .enum-told7 .given .1)) (c5 .number-at .ensures) refl (c .before .before .list .ensures)
+returns-10 : tie.Need-returns-10
+returns-10 c = let c5 = c .before .before .before .before .before in let c8 = c5 .before .before .before in
+    step-L (read (c8 .before)) (c8 .if1 .left) (ap kindIs (c5 .before .enum-told8 .given .1)) (c5 .number-at .ensures) refl (c .before .before .list .ensures)
 
 same-length-3 : tie.Need-same-length-3
 same-length-3 c = search needs
 
-returns-10 : tie.Need-returns-10
-returns-10 c = let c4 = c .before .before .before .before in let c6 = c4 .before .before in
-    step-C (read (c6 .before)) (c6 .if1 .left) (ap kindIs (c4 .enum-told8 .given .1)) (c .before .before .least-cost .ensures)
+returns-11 : tie.Need-returns-11
+returns-11 c = let c4 = c .before .before .before .before in let c6 = c4 .before .before in
+    step-C (read (c6 .before)) (c6 .if1 .left) (ap kindIs (c4 .enum-told9 .given .1)) (c .before .before .least-cost .ensures)
 
 same-length-4 : tie.Need-same-length-4
 same-length-4 c = search needs
 
-returns-11 : tie.Need-returns-11
-returns-11 c = let c4 = c .before .before .before .before in let c6 = c4 .before .before in
-    step-N (read (c6 .before)) (c6 .if1 .left) (ap kindIs (c4 .enum-told9 .given .1)) (c .before .before .multiply .ensures)
+returns-12 : tie.Need-returns-12
+returns-12 c = let c5 = c .before .before .before .before .before in let c7 = c5 .before .before in
+    step-N (read (c7 .before)) (c7 .if1 .left) (ap kindIs (c5 .enum-told10 .given .1)) (c .before .before .multiply .ensures)
 
 same-length-5 : tie.Need-same-length-5
 same-length-5 c = search needs
 
-returns-12 : tie.Need-returns-12
-returns-12 c = let c4 = c .before .before .before .before in let c6 = c4 .before .before in
-    step-E (read (c6 .before)) (c6 .if1 .left) (ap kindIs (c4 .enum-told10 .given .1)) (c .before .before .end .ensures)
-
 returns-13 : tie.Need-returns-13
-returns-13 c = step-none (read (c .before .before .before .before)) (c .before .before .before .if1 .left) (ap kindIs (c .before .enum-told11 .given .1))
+returns-13 c = let c4 = c .before .before .before .before in let c6 = c4 .before .before in
+    step-E (read (c6 .before)) (c6 .if1 .left) (ap kindIs (c4 .enum-told11 .given .1)) (c .before .before .end .ensures)
+
+returns-14 : tie.Need-returns-14
+returns-14 c = step-none (read (c .before .before .before .before)) (c .before .before .before .if1 .left) (ap kindIs (c .before .enum-told12 .given .1))
 
 pub step-spec : {M : Type 1} → statement M
 step-spec = tie.close (tie.spec shared-slice-read-kind-of kind-of-requires sub-rest sub-rest-2 early-refusal-requires refused-requires returns
     enum-told add-init shared-slice-read-init add-init-2 shared-slice-read-init-2 init-requires enum-told-2 add-prices-at prices-at-requires
     prices-requires enum-told-3 add-wide shared-slice-read-wide wide-requires add-row shared-slice-read-row add-row-2 shared-slice-read-row-2
-    row-requires enum-told-4 add-eight-rows eight-rows-requires add-term-at term-at-requires term-requires enum-told-5 primes-requires enum-told-6
-    add-remove shared-slice-read-remove remove-requires enum-told-7 add-number-at number-at-requires add-list shared-slice-read-list list-requires
-    enum-told-8 least-cost-requires enum-told-9 multiply-requires enum-told-10 end-requires enum-told-11 refused-requires-2 returns-2 returns-3 returns-4 returns-5 returns-6
-    same-length returns-7 returns-8 same-length-2 returns-9 same-length-3 returns-10 same-length-4 returns-11 same-length-5 returns-12 returns-13)
+    row-requires enum-told-4 add-eight-rows eight-rows-requires add-term-at term-at-requires term-requires enum-told-5 add-block-at block-at-requires
+    block-requires enum-told-6 primes-requires enum-told-7
+    add-remove shared-slice-read-remove remove-requires enum-told-8 add-number-at number-at-requires add-list shared-slice-read-list list-requires
+    enum-told-9 least-cost-requires enum-told-10 multiply-requires enum-told-11 end-requires enum-told-12 refused-requires-2 returns-2 returns-3 returns-4 returns-5 returns-6
+    returns-7 same-length returns-8 returns-9 same-length-2 returns-10 same-length-3 returns-11 same-length-4 returns-12 same-length-5 returns-13 returns-14)

@@ -13,7 +13,7 @@ same-length c = search needs
 
 returns : tie.Need-returns
 returns c = let c8 = c .before .before .before .before .before .before .before .before in
-    cells-put (c8 .args .p) (c8 .pre .0) _ _ _ (c .before .before .rows .ensures) (same-length c ∙ c8 .pre .1)
+    cells-put (c8 .args .p) _ (c8 .pre .0) _ _ _ (c .before .before .rows .ensures) (same-length c ∙ c8 .pre .1)
 
 pub put-rows-spec : {M : Type 1} → statement M
 put-rows-spec = tie.close (tie.spec rows-requires same-length returns)

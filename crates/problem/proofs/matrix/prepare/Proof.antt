@@ -14,7 +14,7 @@ same-length : tie.Need-same-length
 same-length c = search needs
 
 returns : tie.Need-returns
-returns c = prepared-all _ _ _ (c .before .before .put-rows .ensures) (c .before .before .before .before .is-covered .ensures)
+returns c = prepared-all _ _ _ _ (c .before .before .put-rows .ensures) (c .before .before .before .before .is-covered .ensures)
 
 pub prepare-spec : {M : Type 1} → statement M
 prepare-spec = tie.close (tie.spec is-covered-requires put-rows-requires same-length returns)

@@ -10,7 +10,7 @@ slice-aggregate-put-rows : tie.Need-slice-aggregate-put-rows
 slice-aggregate-put-rows c = search needs
 
 put-rows-requires : tie.Need-put-rows-requires
-put-rows-requires c κs = search needs
+put-rows-requires c κs = (c .before .before .before .pre .0, refl)
 
 array-share-prefix-rows : tie.Need-array-share-prefix-rows
 array-share-prefix-rows c = search needs
@@ -20,7 +20,7 @@ slice-aggregate-multiply-rows c = sym (length-take-le _ _ (array-share-prefix-ro
 
 multiply-rows-requires : tie.Need-multiply-rows-requires
 multiply-rows-requires c κs = let c4 = c .before .before .before .before in let pre = c4 .before .before .before .before .pre in
-    ((pre .0 .few, pre .1 .0, pre .1 .1), cells-below (c4 .put-rows .ensures))
+    ((pre .0 .few, pre .1 .1 .0, pre .1 .1 .1), cells-below (c4 .put-rows .ensures) (pre .1 .0))
 
 returns : tie.Need-returns
 returns c = let c5 = c .before .before .before .before .before in

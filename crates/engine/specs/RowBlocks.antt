@@ -29,13 +29,15 @@ pub record RowAt (s : Settings) (given job : List ℕ) (at : ℕ) : Type 0 where
 abbrev pub restOf : List ℕ → ℕ → model.Problem → ℕ → ℕ → Run
 restOf job most q free at = commands engine most q (drop at job) free at
 
--- the rest of a run from q on is that from a later place on, where p holds the problem: the commands between are answered and write nothing
+-- the rest of a run from q on is that from a later place on, where p holds the problem: the commands between are answered, write nothing and leave
+-- the candidates
 pub record GoesOn (job : List ℕ) (q : model.Problem) (r : Run) (free : ℕ) (p : Problem) (at : ℕ) : Type 0 where
   pub problem : model.Problem
   pub most : ℕ
   pub enough : length job < at + most
   pub holds : Holds p problem
   pub valid : Valid problem
+  pub cands : problem .cands ≡ q .cands
   pub number : r .number ≡ restOf job most problem free at .number
   pub offset : r .offset ≡ restOf job most problem free at .offset
   pub written : written r ≡ written (restOf job most problem free at)

@@ -9,7 +9,9 @@ use borrow.Author.Tests.{lt-ltb, le-ltb}
 use lib.ListN.{getD, length, drop}
 use Rattle.model.specs.Commands as model
 use Rattle.model.specs.Commands.{rowsOfB}
+use Rattle.model.specs.Candidates.{Candidate}
 use Rattle.model.specs.Job.{written}
+use Rattle.incidence.specs.Stored.{BlocksAt}
 use Rattle.problem.specs.declared.Settings.{Settings}
 use Rattle.problem.specs.declared.TableRows.{TableRows}
 use Rattle.problem.specs.declared.Candidates.{Candidates}
@@ -17,7 +19,7 @@ use Rattle.problem.specs.declared.Problem.{Problem}
 use Rattle.problem.specs.declared.matrix.Matrix.{Matrix}
 use Rattle.problem.specs.Problems.{rowPut, rowsPut, Reached}
 use Rattle.eight_rows.specs.Rows.{EightAt}
-use Rattle.engine.specs.Blocks.{RowAt, ReadsRows, Reading, placeBehind, recordOf, ReadsInto}
+use Rattle.engine.specs.RowBlocks.{RowAt, ReadsRows, Reading, placeBehind, recordOf, ReadsInto}
 use Rattle.engine.proofs.Running.{x, Going, not-ready}
 use Rattle.engine.proofs.RowCommands.{Sets, row-sets, eight-sets, rows-go}
 
@@ -28,7 +30,7 @@ reading-none {p} {job} {at} b m l = record {
   reads = record {
     forward = omega arith;
     within = l;
-    in-problem = λ q h v most free e. record { problem = q; most = most; enough = e; holds = h; valid = v; number = refl; offset = refl; written = refl; left = refl };
+    in-problem = λ q h v most free e. record { problem = q; most = most; enough = e; holds = h; valid = v; cands = refl; number = refl; offset = refl; written = refl; left = refl };
   };
   behind-I = b;
   in-rows = m;
@@ -55,6 +57,7 @@ reading-then {job = job} b d = record {
           enough = f .enough;
           holds = f .holds;
           valid = f .valid;
+          cands = f .cands ∙ g .cands;
           number = g .number ∙ f .number;
           offset = g .offset ∙ f .offset;
           written = g .written ∙ f .written;
@@ -141,9 +144,9 @@ reads-record {p} {job} {at} {end} {after} {place} r b m d e =
 
 -- ---- the job's loop behind the block
 
-pub going-behind : {job old answers : List ℕ} {p next : Problem} {rows : List ℕ} {m : Matrix} {ready : Bool} {at behind done : ℕ}
-    → Going job old answers p rows m ready at done → ReadsRows p job at next behind → Going job old answers next rows m false behind done
-going-behind {old = old} w b =
+pub going-behind : {job old answers held : List ℕ} {p next : Problem} {rows : List ℕ} {m : Matrix} {ready : Bool} {at behind done : ℕ}
+    → Going job old answers held p rows m ready at done → ReadsRows p job at next behind → Going job old answers held next rows m false behind done
+going-behind {old = old} {held = held} w b =
     let g = b .in-problem (w .problem) (w .holds) (w .valid) (w .fuel) (length old - length (w .out)) (w .enough) in
     record {
       fuel = g .most;
@@ -152,6 +155,7 @@ going-behind {old = old} w b =
       enough = g .enough;
       within = b .within;
       holds = g .holds;
+      blocks = subst⁻¹ (λ (cs : List Candidate). BlocksAt cs held) (g .cands) (w .blocks);
       valid = g .valid;
       counted = w .counted;
       bytes = w .bytes;
