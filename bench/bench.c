@@ -15,11 +15,12 @@
  * Then the stack that a call of cover_job uses, over all jobs, and the times of jobs of 32,768 bytes that ask L all
  * along, or A, L and D in turn (long_job.h). -m prints the jobs as a markdown table, -c writes the times to a file as
  * CSV. The last line sums up. -a runs every job once in both engines, compares the answers and measures nothing; so it
- * does for the jobs at other prices, by W, and with N in the place of their queries, and for drawn ones with W
- * (priced_job.h), with P (prime_job.h) and with N (product_job.h).
+ * does for the jobs at other prices, by W, with N in the place of their queries, and with F in the place of their T,
+ * which must leave the same bytes; and for drawn ones with W (priced_job.h), with P (prime_job.h), with N
+ * (product_job.h) and with F (ready_job.h).
  *
  * A job with a command that the other engine does not know (the plain C engine: one that is not of paper 01, K2, K3,
- * K6 or K8) is newer than that engine, and is left out.
+ * K6, K8 or K10) is newer than that engine, and is left out.
  *
  * The exit status is 1 where answers differ or the stack use reaches 256 KiB (with -a also where a job did not end), 2
  * where nothing was run.
@@ -45,6 +46,7 @@
 #include "priced_job.h"
 #include "prime_job.h"
 #include "product_job.h"
+#include "ready_job.h"
 
 enum { MOST_JOBS = 4096, MOST_QUERIES = 64 };
 enum { DRAWN = 400 }; /* drawn jobs with W that are compared */
@@ -98,8 +100,8 @@ static bool starts_with(const char *s, const char *head) { return strncmp(s, hea
 /* Whether a job's table is a natural one, not made to be hard. */
 static bool natural(const char *name)
 {
-    static const char *const made[] = {"adv",   "cheaphard", "listhard", "cyc64",  "dup",
-                                       "edges", "ring64",    "sub64",    "dupcyc", "products"};
+    static const char *const made[] = {"adv",    "cheaphard", "listhard", "cyc64",    "dup",  "edges",
+                                       "ring64", "sub64",     "dupcyc",   "products", "ready"};
     for (size_t i = 0; i < sizeof made / sizeof *made; i++)
         if (starts_with(name, made[i]))
             return false;
@@ -515,15 +517,46 @@ static void run_answers(Job *job, const char *name)
         printf("%s: %s\n", name, p.differ ? "the answers differ" : "it did not end");
 }
 
-/* The same job at other prices: all costs 0, multiples of 50, of 17, any. Where C takes long, at the first alone. */
+/* Both ended, with the same number and the same answers. The offsets are left, since F has more bytes than T. */
+static bool answer_alike(const Run *a, const Run *b)
+{
+    return a->ended && b->ended && cover_number(a->outcome) == cover_number(b->outcome) &&
+           cover_written(a->outcome) == cover_written(b->outcome) && memcmp(a->answers, b->answers, LONGEST) == 0;
+}
+
+/* The job, and the same with F for those of its T, which must leave the same answers. */
+static void run_with_blocks(Job *job, const char *name, const uint64_t *which, int count)
+{
+    static Job ready;
+    static Run known;
+    run_answers(job, name);
+    known = *shared[0];
+    for (int k = 0; k < count && put_as_blocks(&ready, job, which[k]); k++) {
+        int before = same;
+        run_answers(&ready, name);
+        if (answer_alike(shared[0], &known))
+            continue;
+        printf("%s: F does not answer as T\n", name);
+        same = before;
+    }
+}
+
+static const uint64_t all_and_some[] = {UINT64_MAX, 0x5555555555555555}; /* every T, every other T */
+
+/* Where C takes long, with F at prices of 0 alone. */
+static bool is_long(const char *name) { return starts_with(name, "cheaphard"); }
+
+static void run_stored_answers(Job *job, const char *name) { run_with_blocks(job, name, all_and_some, !is_long(name)); }
+
+/* The same job at other prices: all costs 0, multiples of 50, of 17, any. Where C takes long, at 0 alone. */
 static void run_priced_answers(Job *job, const char *name)
 {
     static const Prices lists[] = {{0, 0, 0}, {0, 0, 50}, {34, 17, 0}, {37, 23, 11}};
     static Job priced;
-    size_t most = starts_with(name, "cheaphard") ? 1 : sizeof lists / sizeof *lists;
+    size_t most = is_long(name) ? 1 : sizeof lists / sizeof *lists;
     for (size_t k = 0; k < most && can_have_prices(job); k++) {
         set_prices(&priced, job, &lists[k]);
-        run_answers(&priced, name);
+        run_with_blocks(&priced, name, all_and_some, 1);
     }
 }
 
@@ -533,7 +566,7 @@ static void run_product_answers(Job *job, const char *name)
     static Job multiplied;
     for (int pages = 0; pages < 2; pages++) {
         put_products(&multiplied, job, pages);
-        run_answers(&multiplied, name);
+        run_with_blocks(&multiplied, name, all_and_some, !pages);
     }
 }
 
@@ -551,6 +584,10 @@ static void run_drawn_answers(void)
     for (uint64_t seed = 1; seed <= PRODUCT_JOBS; seed++) {
         product_job(&job, seed);
         run_answers(&job, "a drawn job with N");
+    }
+    for (uint64_t seed = 1; seed <= READY_JOBS; seed++) {
+        ready_job(&job, seed);
+        run_with_blocks(&job, "a drawn job with F", all_and_some, 2);
     }
 }
 
@@ -733,7 +770,7 @@ static void run_folder(const char *folder, void (*run)(Job *, const char *))
 static int compare_all(const char *folder)
 {
     most_runs = 1;
-    run_folder(folder, run_answers);
+    run_folder(folder, run_stored_answers);
     run_folder(folder, run_priced_answers);
     run_folder(folder, run_product_answers);
     run_drawn_answers();

@@ -31,18 +31,20 @@ static inline uint64_t counted_nodes(void) { return 0; }
 #define OTHER "plain C"
 #define other_job baseline_job
 
-/* The commands of paper 01, of K2, of K3, of K6 and of K8. */
-static inline bool must_know(uint8_t command) { return command != 0 && strchr("IRTPLCEADBWN", command) != NULL; }
+/* The commands of paper 01, of K2, of K3, of K6, of K8 and of K10. */
+static inline bool must_know(uint8_t command) { return command != 0 && strchr("IRTPLCEADBWNF", command) != NULL; }
 static inline void clear_nodes(void) { baseline_nodes = (BaselineNodes){0, 0}; }
 static inline uint64_t counted_nodes(void) { return baseline_nodes.pages + baseline_nodes.cheapest; }
 
 #endif
 
-/* The other engine stopped at a command that it need not know, and the engine did not. */
+/* The other engine stopped at a command that it need not know, and the engine did not. A byte that is no command was no
+   place to stop at: the other engine has lost its way. */
 static inline bool is_newer(const uint8_t *job, uint64_t outcome, uint64_t other)
 {
     bool stopped = cover_number(other) == COVER_NO_COMMAND && cover_number(outcome) != COVER_NO_COMMAND;
-    return stopped && !must_know(job[cover_offset(other)]);
+    uint8_t command = stopped ? job[cover_offset(other)] : 0;
+    return cover_command_bytes(command) > 0 && !must_know(command);
 }
 
 #endif

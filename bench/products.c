@@ -103,7 +103,7 @@ static bool count_cells(Sample *s)
     for (size_t at = 0; at < job->len; at = behind(job->bytes, job->len, at)) {
         uint8_t command = job->bytes[at];
         s->cells += wanted_in(job->bytes + at);
-        s->candidates += command == COVER_TERM || command == COVER_ADD;
+        s->candidates += command == COVER_TERM || command == COVER_BLOCK || command == COVER_ADD;
         s->candidates -= command == COVER_REMOVE;
     }
     return cover_number(outcome) == COVER_NO_END;

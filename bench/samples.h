@@ -6,8 +6,8 @@
 #include "job.h"
 
 /* What a job has between I and E: nothing; a row for each vertex, by R; the same by B; R and a T for each candidate;
-   the same by A; and this with as many D of the first candidate, so that all others move. */
-enum kind { CALL, ROW, ROWS, TERM, ADD, REMOVE, KINDS };
+   the same by F and by A; and these two with as many D of the first candidate, so that all others move. */
+enum kind { CALL, ROW, ROWS, TERM, BLOCK, ADD, REMOVE, REMOVE_BLOCK, KINDS };
 
 /* How a table of 256 rows is set; in turn: eight R, then a B. */
 enum table { R_IN_ORDER, B_IN_ORDER, R_SHUFFLED, B_SHUFFLED, IN_TURN, TABLES };
@@ -44,13 +44,28 @@ static void put_eight(Job *job, const Rows *rows, unsigned v)
     job->len += cover_put_rows(job->bytes + job->len, v, rows->on + v, rows->dc + v);
 }
 
+/* Blocks of the lowest output; each vertex is drawn, and so is the weight. */
+static void put_blocks(Job *job, unsigned n, unsigned count)
+{
+    uint64_t state = 88172645463325252u;
+    for (; count > 0; count--) {
+        uint8_t vertices[COVER_VERTEX_BYTES] = {0};
+        for (unsigned v = 0; v < 1u << n; v++)
+            vertices[v / 8] |= (uint8_t)(drawn_below(&state, 2) << v % 8);
+        job->len += cover_put_block(job->bytes + job->len, 1, vertices, drawn_below(&state, COVER_MOST_WEIGHT + 1));
+    }
+}
+
 static void put_candidates(Job *job, enum kind kind, unsigned n, unsigned count)
 {
     unsigned all = (1u << n) - 1;
-    for (unsigned v = 0; v < count; v++)
+    bool blocks = kind == BLOCK || kind == REMOVE_BLOCK;
+    if (blocks)
+        put_blocks(job, n, count);
+    for (unsigned v = 0; !blocks && v < count; v++)
         job->len += kind == TERM ? cover_put_term(job->bytes + job->len, all, v, 1)
                                  : cover_put_add(job->bytes + job->len, all, v, 1);
-    for (unsigned v = 0; kind == REMOVE && v < count; v++)
+    for (unsigned v = 0; (kind == REMOVE || kind == REMOVE_BLOCK) && v < count; v++)
         job->len += cover_put_remove(job->bytes + job->len, 0);
 }
 
@@ -67,7 +82,7 @@ static void make_sample(Sample *s, unsigned n, enum kind kind)
         put_eight(job, &rows, v);
     for (unsigned v = 0; kind != ROWS && kind != CALL && v < vertices; v++)
         put_row(job, &rows, v);
-    if (kind == TERM || kind == ADD || kind == REMOVE)
+    if (kind > ROWS)
         put_candidates(job, kind, n, most);
     put_end(job);
 }

@@ -5,7 +5,7 @@
  * answer buffer, and one number tells how it ended.
  *
  * What is promised
- *   - Every job ends: it is accepted, or it is refused with one of the numbers 1 to 17.
+ *   - Every job ends: it is accepted, or it is refused with one of the numbers 1 to 18.
  *   - Accepted: the number is 0, the offset is the job's length, and each command with an
  *     answer has put it into the answer buffer, in the order of the commands.
  *   - Refused: the offset is that of the first byte of the command that was refused, and
@@ -31,12 +31,15 @@
  *   COVER_PRICES    term, literal,         the price of a term, of a literal and of an output
  *                   connection             connection, each 0 to 50; without it 1, 1 and 0; once,
  *                                          right behind sizes and before everything else
- *   COVER_ROW       vertex, on, dc         before any term, add, primes or query
+ *   COVER_ROW       vertex, on, dc         before any term, block, add, primes or query
  *   COVER_ROWS      vertex, 8 x (on, dc)   the rows of this vertex and of the seven above it, in
  *                                          rising order; where a row may stand
  *   COVER_TERM      care, value, outputs   adds a candidate at the end; not after primes or a query
- *   COVER_PRIMES                           the primes become the candidates; once, no term or add
- *                                          before it, not after a query
+ *   COVER_BLOCK     outputs,               adds a ready-made block as a candidate at the end;
+ *                   vertices (32 bytes),   where a term may stand. Bit v % 8 of byte v / 8 is
+ *                   weight (2)             vertex v; the weight is 0 to 850
+ *   COVER_PRIMES                           the primes become the candidates; once, no term, block
+ *                                          or add before it, not after a query
  *   COVER_ADD       care, value, outputs   adds a candidate at the end; anywhere, also after
  *                                          primes or a query
  *   COVER_REMOVE    number                 takes this candidate out, and those above it move down
@@ -47,8 +50,9 @@
  *   COVER_END                              last
  * List, cheapest and multiply are the queries. An operand is one byte unless its width is given.
  * Where nothing else is said, a command may stand anywhere behind COVER_SIZES and before COVER_END.
- * For the places of row, rows and primes an add counts even if its candidate has been taken out
- * again. A term may follow an add or a remove as long as no primes or query came.
+ * For the places of row, rows and primes a term, block or add counts even if its candidate has
+ * been taken out again. A term or block may follow an add or a remove as long as no primes or query
+ * came.
  *
  * COVER_ROWS equals eight COVER_ROW commands, one by one; both kinds may stand in one job, in any
  * order of the vertices. A vertex above 255 counts as one of 2^n or more and does not wrap, so the
@@ -57,7 +61,10 @@
  * (number 1).
  *
  * The candidates have the numbers from 0 on, in the order in which they came; at most 64 stand at
- * a time, and equal ones are allowed.
+ * a time, and equal ones are allowed. A candidate is a product term or a block. A block holds cell
+ * (v, j) when its bits of vertex v and of output j are set; it may hold no cell at all, and then it
+ * is in no irredundant cover. Everything on sets goes by what the candidates hold and cost, so
+ * that list, cheapest and multiply take blocks and terms alike; primes are terms.
  *
  * The answers, numbers low byte first; the other commands have none:
  *   COVER_PRIMES    0x70, count (1 byte), then care, value and outputs of each prime
@@ -68,16 +75,17 @@
  *   COVER_CHEAPEST  0x63, cost (2 bytes), set (8 bytes): the irredundant cover of least cost, the
  *                   smallest number among equals. A term costs the price of a term, plus the price
  *                   of a literal for each of its literals (the ones in care) where it has two or
- *                   more, plus the price of a connection for each of its outputs; a set costs the
- *                   sum over its members. A term costs 850 at most and a set 64 x 850 = 54,400, so
- *                   that the cost fits its two bytes.
+ *                   more, plus the price of a connection for each of its outputs; a block costs
+ *                   its weight, whatever the prices; a set costs the sum over its members. A
+ *                   candidate costs 850 at most and a set 64 x 850 = 54,400, so that the cost fits
+ *                   its two bytes.
  *   COVER_MULTIPLY  0x6E, sets k (2 bytes), then k times 8 bytes: all irredundant covers, rising;
  *                   1,024 at most, so that the answer has at most 8,195 bytes
  *   COVER_END       0x65
- * Bit i of a set stands for candidate i of those that stand at the command, as the terms, primes,
- * adds and removes before it leave them. The queries answer as in a fresh job that has the same
- * prices and rows, and these candidates, in this order, as its terms. The prices are for the
- * cheapest alone: primes, list and multiply answer the same bytes at any prices.
+ * Bit i of a set stands for candidate i of those that stand at the command, as the terms, blocks,
+ * primes, adds and removes before it leave them. The queries answer as in a fresh job that has the
+ * same prices and rows, and these candidates, in this order, as its terms and blocks. The prices are
+ * for the cheapest alone: primes, list and multiply answer the same bytes at any prices.
  *
  * COVER_MULTIPLY is for tables with few wanted cells: its sets are those of the pages joined until
  * no more is reported, in one answer. It takes the wanted cells by vertex, then output, and behind
@@ -123,6 +131,8 @@ extern "C" {
 #define COVER_MOST_SETS 255u      /* on one page */
 #define COVER_MOST_PRODUCTS 1024u /* by one multiply */
 #define COVER_MOST_PRICE 50u
+#define COVER_MOST_WEIGHT 850u     /* of a block */
+#define COVER_VERTEX_BYTES 32u     /* of a block */
 
 /* The first byte of each command. */
 enum cover_command {
@@ -131,6 +141,7 @@ enum cover_command {
     COVER_ROW = 0x52,      /* R */
     COVER_ROWS = 0x42,     /* B */
     COVER_TERM = 0x54,     /* T */
+    COVER_BLOCK = 0x46,    /* F */
     COVER_PRIMES = 0x50,   /* P */
     COVER_ADD = 0x41,      /* A */
     COVER_REMOVE = 0x44,   /* D */
@@ -146,6 +157,7 @@ enum cover_command {
 #define COVER_ROW_BYTES 4u
 #define COVER_ROWS_BYTES 18u
 #define COVER_TERM_BYTES 4u
+#define COVER_BLOCK_BYTES 36u
 #define COVER_PRIMES_BYTES 1u
 #define COVER_ADD_BYTES 4u
 #define COVER_REMOVE_BYTES 2u
@@ -172,9 +184,9 @@ enum cover_answer {
 
 /*
  * How a job ended. At each command the refusals are tried in the order in which they stand here,
- * 15 right after 5, 16 right after 6 and 17 right after 12, and the first that applies is given. At
- * COVER_ROWS 7 and 8 are tried row by row: 8 of a row comes before 7 of a later one. The offset is
- * that of the command, whichever row it was.
+ * 15 right after 5, 16 right after 6, 18 right after 9 and 17 right after 12, and the first that
+ * applies is given. At COVER_ROWS 7 and 8 are tried row by row: 8 of a row comes before 7 of a
+ * later one. The offset is that of the command, whichever row it was.
  */
 enum cover_refusal {
     COVER_ACCEPTED = 0,
@@ -190,7 +202,9 @@ enum cover_refusal {
     COVER_WRONG_ROW = 8,          /* on and dc share a bit, or one has bit m or above */
     COVER_MALFORMED_TERM = 9,     /* a care bit n or above, a value bit outside care, outputs 0,
                                      or an output bit m or above */
-    COVER_OFF_CELL = 10,          /* the term holds an off cell */
+    COVER_MALFORMED_BLOCK = 18,   /* outputs 0, an output bit m or above, a vertex bit 2^n or
+                                     above, or a weight above 850 */
+    COVER_OFF_CELL = 10,          /* the term or block holds an off cell */
     COVER_TOO_MANY = 11,          /* a 65th standing candidate, or more than 64 primes */
     COVER_UNHELD_CELL = 12,       /* a wanted cell is held by no candidate */
     COVER_TOO_MANY_PRODUCTS = 17, /* at a multiply more than 1,024 products remain at some cell */
@@ -198,7 +212,7 @@ enum cover_refusal {
     COVER_NO_ROOM = 14            /* the answer is longer than the free part of the buffer */
 };
 
-#define COVER_LAST_REFUSAL 17u /* the largest number */
+#define COVER_LAST_REFUSAL 18u /* the largest number */
 
 /* Runs a job. Gives number * 2^32 + offset * 2^16 + written. */
 uint64_t cover_job(const uint8_t *job, size_t job_len, uint8_t *answers, size_t answers_len);
@@ -295,6 +309,18 @@ static inline size_t cover_put_term(uint8_t *at, unsigned care, unsigned value, 
     return COVER_TERM_BYTES;
 }
 
+/* A block: vertices[v / 8] has bit v % 8 for vertex v. */
+static inline size_t cover_put_block(uint8_t *at, unsigned outputs,
+                                     const uint8_t vertices[COVER_VERTEX_BYTES], unsigned weight)
+{
+    at[0] = COVER_BLOCK;
+    at[1] = (uint8_t)outputs;
+    for (size_t i = 0; i < COVER_VERTEX_BYTES; i++)
+        at[2 + i] = vertices[i];
+    cover_put_number(at + 34, 2, weight);
+    return COVER_BLOCK_BYTES;
+}
+
 static inline size_t cover_put_add(uint8_t *at, unsigned care, unsigned value, unsigned outputs)
 {
     at[0] = COVER_ADD;
@@ -328,6 +354,7 @@ static inline size_t cover_command_bytes(uint8_t byte)
     case COVER_ROW: return COVER_ROW_BYTES;
     case COVER_ROWS: return COVER_ROWS_BYTES;
     case COVER_TERM: return COVER_TERM_BYTES;
+    case COVER_BLOCK: return COVER_BLOCK_BYTES;
     case COVER_PRIMES: return COVER_PRIMES_BYTES;
     case COVER_ADD: return COVER_ADD_BYTES;
     case COVER_REMOVE: return COVER_REMOVE_BYTES;

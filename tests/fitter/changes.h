@@ -188,7 +188,7 @@ static void test_emptied(void)
 
 /*
  * Places: one letter for each command. Behind I and the wanted row of vertex 0, R is that of vertex 1, B
- * has those of 2 to 9, T and A have the term of vertex 0, and D takes out the first. All are allowed but,
+ * has those of 2 to 9, T, F and A have the cell of vertex 0, and D takes out the first. All are allowed but,
  * where it is told, the last.
  */
 struct place {
@@ -215,12 +215,13 @@ static const struct place places[] = {
 
 static void add_letter(struct job *job, char letter)
 {
-    static const uint8_t on[8] = {0}, dc[8] = {1, 1, 1, 1, 1, 1, 1, 1};
+    static const uint8_t on[8] = {0}, dc[8] = {1, 1, 1, 1, 1, 1, 1, 1}, vertices[COVER_VERTEX_BYTES] = {1};
     switch (letter) {
     case 'I': cover_put_sizes(next_command(job, COVER_SIZES_BYTES), 4, 1); break;
     case 'R': add_row(job, 1, 0, 1); break;
     case 'B': add_rows(job, 2, on, dc); break;
     case 'T': add_term(job, 15, 0, 1); break;
+    case 'F': add_ready(job, 1, vertices, 7); break;
     case 'A': add_late(job, 15, 0, 1); break;
     case 'D': add_remove(job, 0); break;
     case 'L': add_list(job, 0, 1); break;

@@ -1,8 +1,8 @@
 /*
  * Links the engine as the fitter does and asks it for lists that are known: pages over several
  * jobs and buffers, joined, against the whole list; the marked cases; candidates that come and go;
- * eight rows in a command; prices; the whole list in one answer; every refusal once. Every call lies
- * between guard bytes, and the bytes behind `written` are held to be unchanged.
+ * eight rows in a command; prices; the whole list in one answer; ready-made blocks; every refusal once.
+ * Every call lies between guard bytes, and the bytes behind `written` are held to be unchanged.
  */
 #include "changes.h"
 #include "lists.h"
@@ -10,6 +10,8 @@
 #include "problems.h"
 #include "product_stand_ins.h"
 #include "products.h"
+#include "ready.h"
+#include "ready_stand_ins.h"
 #include "stand_ins.h"
 #include "tables.h"
 
@@ -55,13 +57,14 @@ static void test_putting(void)
 /* Each put function gives the bytes of its command, which its first byte tells too. */
 static void test_widths(void)
 {
-    uint8_t at[COVER_ROWS_BYTES];
-    static const uint8_t eight[8] = {0};
+    uint8_t at[COVER_BLOCK_BYTES];
+    static const uint8_t eight[8] = {0}, vertices[COVER_VERTEX_BYTES] = {0};
     CHECK(cover_put_sizes(at, 1, 1) == 3 && cover_command_bytes(at[0]) == 3);
     CHECK(cover_put_prices(at, 1, 1, 0) == 4 && cover_command_bytes(at[0]) == 4);
     CHECK(cover_put_row(at, 0, 1, 0) == 4 && cover_command_bytes(at[0]) == 4);
     CHECK(cover_put_rows(at, 0, eight, eight) == 18 && cover_command_bytes(at[0]) == 18);
     CHECK(cover_put_term(at, 0, 0, 1) == 4 && cover_command_bytes(at[0]) == 4);
+    CHECK(cover_put_block(at, 1, vertices, 0) == 36 && cover_command_bytes(at[0]) == 36);
     CHECK(cover_put_command(at, COVER_PRIMES) == 1 && cover_command_bytes(at[0]) == 1);
     CHECK(cover_put_add(at, 0, 0, 1) == 4 && cover_command_bytes(at[0]) == 4);
     CHECK(cover_put_remove(at, 0) == 2 && cover_command_bytes(at[0]) == 2);
@@ -491,6 +494,8 @@ int main(void)
     test_stand_ins();
     test_products();
     test_product_stand_ins();
+    test_ready();
+    test_ready_stand_ins();
     test_fresh();
     test_lengths();
     test_turns();

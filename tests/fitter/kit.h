@@ -76,6 +76,12 @@ static void add_term(struct job *job, unsigned care, unsigned value, unsigned ou
     cover_put_term(next_command(job, COVER_TERM_BYTES), care, value, outputs);
 }
 
+/* A ready-made block by COVER_BLOCK. */
+static void add_ready(struct job *job, unsigned outputs, const uint8_t *vertices, unsigned weight)
+{
+    cover_put_block(next_command(job, COVER_BLOCK_BYTES), outputs, vertices, weight);
+}
+
 /* A candidate that comes by COVER_ADD, and one that goes. */
 static void add_late(struct job *job, unsigned care, unsigned value, unsigned outputs)
 {

@@ -449,7 +449,7 @@ static void test_price_operands(void)
 
 /*
  * Places: one letter for each command, and the number that the last one meets. R is the wanted row of vertex 0, whose
- * term T and A have.
+ * cell T, F and A have.
  */
 struct price_place {
     const char *commands;

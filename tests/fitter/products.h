@@ -490,7 +490,7 @@ static void test_header_of_products(void)
     uint8_t at[COVER_MULTIPLY_BYTES];
     CHECK(cover_put_command(at, COVER_MULTIPLY) == 1 && at[0] == 0x4E && cover_command_bytes(0x4E) == 1);
     CHECK(COVER_MULTIPLY_ANSWER == 0x6E && COVER_MOST_PRODUCTS == 1024 && COVER_MULTIPLY_ANSWER_BYTES(1024) == 8195);
-    CHECK(COVER_TOO_MANY_PRODUCTS == 17 && COVER_LAST_REFUSAL == 17);
+    CHECK(COVER_TOO_MANY_PRODUCTS == 17);
     static const uint8_t two[] = {0x6E, 2, 0, 1, 0, 0, 0, 0, 0, 0, 0, 8, 7, 6, 5, 4, 3, 2, 129};
     CHECK(cover_answer_bytes(two) == sizeof two && cover_multiply_sets(two) == 2 && cover_multiply_set(two, 0) == 1);
     CHECK(cover_multiply_set(two, 1) == UINT64_C(0x8102030405060708));

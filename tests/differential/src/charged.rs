@@ -1,13 +1,14 @@
-//! What K6 says of each C, asked of its answer: the cost is what the prices charge for the members.
+//! What K6 says of each C, asked of its answer: the cost is what the prices charge for the members,
+//! and by K10 the weight of those that are blocks.
 //! Over few candidates no other irredundant cover costs less, nor as much with a smaller number.
-//! The reference's costs are left aside; K6 is read here a second time.
+//! The reference's costs are left aside; K6 and K10 are read here a second time.
 
 mod wrong;
 
-pub use wrong::{Charge, WRONG};
+pub use wrong::{Way, WRONG, WRONG_BLOCKS};
 
 use crate::format::number;
-use crate::reference::{self, Outcome, Presence, Term};
+use crate::reference::{self, Block, Candidate, Outcome, Presence, Term};
 use crate::walk::{walk, Standing};
 
 /// Up to this many candidates every set is tried.
@@ -35,10 +36,25 @@ pub fn charge(prices: [u8; 3], t: &Term) -> u64 {
     cost
 }
 
+/// A block has its cost with it.
+pub fn charge_block(_: [u8; 3], b: &Block) -> u64 {
+    u64::from(b.weight)
+}
+
+/// As K6 charges terms and K10 blocks.
+pub const RIGHT: Way = Way {
+    term: charge,
+    block: charge_block,
+};
+
 /// The sum over the members, each charged in this way.
-pub fn charge_set(way: Charge, prices: [u8; 3], candidates: &[Term], set: u64) -> u64 {
+pub fn charge_set(way: Way, prices: [u8; 3], candidates: &[Candidate], set: u64) -> u64 {
     let members = (0..candidates.len()).filter(|i| set >> i & 1 == 1);
-    members.map(|i| way(prices, &candidates[i])).sum()
+    let cost = |i: usize| match &candidates[i] {
+        Candidate::Term(t) => (way.term)(prices, t),
+        Candidate::Block(b) => (way.block)(prices, b),
+    };
+    members.map(cost).sum()
 }
 
 /// Holds the answers of a job to K6. The engine's outcome is this one by now.
@@ -48,7 +64,7 @@ pub fn check(job: &[u8], outcome: &Outcome) -> Result<Held, String> {
     for standing in &list {
         let answers = cheapest_in(standing);
         for &(cost, set) in &answers {
-            let due = charge_set(charge, standing.prices, &standing.candidates, set);
+            let due = charge_set(RIGHT, standing.prices, &standing.candidates, set);
             if cost != due {
                 return Err(format!("set {set} is told to cost {cost} and costs {due}"));
             }
@@ -78,7 +94,7 @@ fn of_all_covers(
 ) -> Result<(), String> {
     let presence = Presence::new(&standing.table, &standing.candidates);
     let covers = reference::prime_implicants(&presence.of_every_set(Presence::presence));
-    let cost = |set: u64| charge_set(charge, standing.prices, &standing.candidates, set);
+    let cost = |set: u64| charge_set(RIGHT, standing.prices, &standing.candidates, set);
     let by_cost: Vec<(u64, u64)> = covers.iter().map(|&set| (cost(set), set)).collect();
     let least = by_cost.iter().min().ok_or("C is answered over no cover")?;
     let as_much = by_cost.iter().filter(|(cost, _)| *cost == least.0).count();

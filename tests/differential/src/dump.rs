@@ -1,10 +1,12 @@
 //! The record that a job leaves, asked of the program `dump`: its text is the reference's, byte for
 //! byte. What K5 says is asked of the text alone, too: each weight is what K6 charges by the text's
-//! own prices for the care and the outputs beside it.
+//! own prices for the care and the outputs beside it. A block has its own weight, up to 850.
 
 use crate::charged::charge;
 use crate::generate::{self, Case};
-use crate::reference::{self, Outcome, Term, HIGHEST, LONGEST};
+use crate::reference::{
+    self, Block, Candidate, Outcome, Term, HEAVIEST, HIGHEST, LONGEST, VERTEX_BYTES,
+};
 use crate::report::{hex, shrink};
 use crate::rng::Rng;
 use crate::stored;
@@ -34,7 +36,7 @@ pub struct Weights {
 
 #[derive(Clone, PartialEq, Eq, Debug)]
 pub struct Weighed {
-    pub term: Term,
+    pub candidate: Candidate,
     pub weight: u64,
 }
 
@@ -142,19 +144,41 @@ fn prices(text: &str) -> Option<[u8; 3]> {
 
 fn weighed(line: &str, prices: [u8; 3]) -> Option<Weighed> {
     let words: Vec<&str> = line.split(' ').collect();
-    let ["candidate", _, "care", care, "value", value, "outputs", outputs, "weight", weight] =
-        words[..]
-    else {
-        return None;
+    let (candidate, weight, right) = match words[..] {
+        ["candidate", _, "care", care, "value", value, "outputs", outputs, "weight", weight] => {
+            let (term, weight) = (term([care, value, outputs])?, weight.parse().ok()?);
+            let right = weight == charge(prices, &term);
+            (Candidate::Term(term), weight, right)
+        }
+        ["candidate", _, "block", "outputs", outputs, "vertices", vertices, "weight", weight] => {
+            let weight = weight.parse().ok()?;
+            let block = block(outputs, vertices, weight)?;
+            (Candidate::Block(block), weight.into(), weight <= HEAVIEST)
+        }
+        _ => return None,
     };
-    let byte = |word: &str| u8::from_str_radix(word, 16).ok();
-    let term = Term {
+    right.then_some(Weighed { candidate, weight })
+}
+
+fn byte(word: &str) -> Option<u8> {
+    u8::from_str_radix(word, 16).ok()
+}
+
+fn term([care, value, outputs]: [&str; 3]) -> Option<Term> {
+    Some(Term {
         care: byte(care)?,
         value: byte(value)?,
         outputs: byte(outputs)?,
-    };
-    let weight = weight.parse().ok()?;
-    (weight == charge(prices, &term)).then_some(Weighed { term, weight })
+    })
+}
+
+fn block(outputs: &str, vertices: &str, weight: u16) -> Option<Block> {
+    let mut block = Block::new(byte(outputs)?, [], weight);
+    let whole = vertices.is_ascii() && vertices.len() == 2 * VERTEX_BYTES;
+    for (i, place) in block.vertices.iter_mut().enumerate().filter(|_| whole) {
+        *place = byte(&vertices[2 * i..2 * i + 2])?;
+    }
+    whole.then_some(block)
 }
 
 /// What is wrong with the record of a job, and the same of the job shrunk.

@@ -5,15 +5,15 @@
 //! 1. here: an entry in `COMMANDS`, with a kind of operand of its own where none fits, and
 //!    `LAST_NUMBER` where it brings a number;
 //! 2. `reference/job.rs`: where it may stand (`allowed`), what refuses it and what it does
-//!    (`command`), from the paper's text. The table stands still from the first T, A, P, L, C or N
-//!    on; the candidates do not, and a command that changes them forgets the covers found so far;
+//!    (`command`), from the paper's text. The table stands still from the first T, A, F, P, L, C or
+//!    N on; the candidates do not, and a command that changes them forgets the covers found so far;
 //! 3. `generate/sound.rs` (settings, candidates), `generate/tables.rs` (rows),
 //!    `generate/changes.rs` (candidates that come and go) or `generate/queries.rs`: where a sound
 //!    job has it;
 //! 4. `generate/purpose.rs` (`purpose_changes.rs` for A and D, `purpose_blocks.rs` for B,
-//!    `purpose_prices.rs` for W, `purpose_cubes.rs` for P and `purpose_products.rs` for N): its
-//!    borders, in every run; `purpose_order.rs`: jobs whose T commands change places; `selftest.rs`:
-//!    the paper's cases;
+//!    `purpose_prices.rs` for W, `purpose_cubes.rs` for P, `purpose_products.rs` for N and
+//!    `purpose_ready.rs` for F): its borders, in every run; `purpose_order.rs`: jobs whose T
+//!    commands change places; `selftest.rs`: the paper's cases;
 //! 5. `fresh.rs`: whether a fresh job with the same table has it, and which pages go on behind it;
 //! 6. `expanded.rs`: what it is written out as, where it stands for other commands as B does;
 //! 7. `walk.rs`: what it makes of prices, table and candidates, and how long its answer is;
@@ -21,19 +21,20 @@
 //! 9. `charged.rs` and `listing.rs`: what it makes of costs, and that the pages leave that aside;
 //! 10. `implicants.rs` and `products.rs`: what its answer is by document 000, and by other commands;
 //! 11. `reordered.rs`: whether it keeps its place where T commands change theirs, what comes of its
-//!     answer there, and which refusal a mere reordering may bring.
+//!     answer there, and which refusal a mere reordering may bring;
+//! 12. `ready.rs`: whether it stays where a block stands in for a term.
 //!
 //! A stored job that has it needs `stored.rs` too. Every command at every place, damage, cuts and
 //! moved or doubled commands go by the table, and a run fails where a command was never accepted
 //! or never met one of the refusals that its entry names (`tally.rs`).
 
-use Operand::{Candidate, Inputs, Number, Outputs, Price, Size};
+use Operand::{Candidate, Inputs, Number, Outputs, Price, Size, Vertices, Weight};
 
 /// The rows of a B.
 pub const BLOCK: usize = 8;
 
 /// The largest number of a refusal. Each from 0 on must come in every run.
-pub const LAST_NUMBER: u64 = 17;
+pub const LAST_NUMBER: u64 = 18;
 
 /// What an operand is: how many bytes it has, and what damage puts there (`generate/damage.rs`).
 #[derive(Clone, Copy)]
@@ -48,6 +49,10 @@ pub enum Operand {
     Candidate,
     /// A price, 0 to 50.
     Price,
+    /// A bit for each vertex, 32 bytes.
+    Vertices,
+    /// The weight of a block, two bytes, 0 to 850.
+    Weight,
     /// A number of so many bytes that takes any value.
     Number(usize),
 }
@@ -56,6 +61,8 @@ impl Operand {
     pub fn bytes(self) -> usize {
         match self {
             Operand::Number(bytes) => bytes,
+            Operand::Vertices => 32,
+            Operand::Weight => 2,
             _ => 1,
         }
     }
@@ -73,7 +80,7 @@ pub enum Part {
 pub struct Command {
     pub byte: u8,
     /// Operand bytes that are good over four inputs and one output: R's row is wanted and held by
-    /// the term, B's rows stand elsewhere and are free.
+    /// the term and by the block, B's rows stand elsewhere and are free.
     pub good: &'static [u8],
     pub operands: &'static [Operand],
     pub part: Part,
@@ -81,7 +88,7 @@ pub struct Command {
     pub refusals: &'static [u64],
 }
 
-/// The seven commands of paper 01, A and D of K2, B of K3, W of K6, and N of K8.
+/// The seven commands of paper 01, A and D of K2, B of K3, W of K6, N of K8, and F of K10.
 pub const COMMANDS: &[Command] = &[
     Command {
         byte: b'I',
@@ -117,6 +124,13 @@ pub const COMMANDS: &[Command] = &[
         operands: &[Inputs, Inputs, Outputs],
         part: Part::Candidates,
         refusals: &[9, 10, 11],
+    },
+    Command {
+        byte: b'F',
+        good: &FIRST_VERTEX,
+        operands: &[Outputs, Vertices, Weight],
+        part: Part::Candidates,
+        refusals: &[18, 10, 11],
     },
     Command {
         byte: b'A',
@@ -174,6 +188,15 @@ const FIRST_AND_PAIRS: [Operand; 1 + 2 * BLOCK] = {
     let mut list = [Outputs; 1 + 2 * BLOCK];
     list[0] = Inputs;
     list
+};
+
+/// F's good operands: one output, vertex 0, weight 3.
+const FIRST_VERTEX: [u8; 35] = {
+    let mut bytes = [0; 35];
+    bytes[0] = 1;
+    bytes[1] = 1;
+    bytes[33] = 3;
+    bytes
 };
 
 /// The command that begins with this byte, None when the byte is no command.

@@ -5,8 +5,8 @@
 use crate::engine;
 use crate::expanded::expand;
 use crate::format::{self, cut, sets};
-use crate::generate::{page, term, Case};
-use crate::reference::{self, Asked, Covers, Query, Term, LONGEST};
+use crate::generate::{page, put, Case};
+use crate::reference::{self, Asked, Covers, Query, LONGEST};
 use crate::report::{hex, matches};
 
 /// The most bytes that P, one page and E answer with.
@@ -18,6 +18,8 @@ const PRIMES_PAGE_END: usize = (2 + 3 * 64) + (3 + 8 * 255) + 1;
 pub struct Held {
     pub queries: usize,
     pub lists: usize,
+    /// Of the queries, those with a block among the standing candidates.
+    pub with_blocks: usize,
 }
 
 /// Holds an accepted job whose candidates come and go to the promise. Its answers are the
@@ -31,6 +33,7 @@ pub fn check(job: &[u8], asked: &Asked) -> Result<Held, String> {
     for query in &asked.queries {
         as_in_a_fresh_job(&head, query)?;
         held.queries += 1;
+        held.with_blocks += usize::from(query.candidates.iter().any(|c| c.block().is_some()));
     }
     let written: usize = asked.queries.iter().map(|query| query.answer.len()).sum();
     if written + PRIMES_PAGE_END > LONGEST {
@@ -51,13 +54,12 @@ pub fn kept(job: &[u8], keep: impl Fn(u8) -> bool) -> Vec<u8> {
     commands.concat()
 }
 
-/// The prices and the table, a T for each standing candidate, the query and E.
+/// The prices and the table, a T or, for a block, an F for each standing candidate, the query and E.
 fn as_in_a_fresh_job(head: &[u8], query: &Query) -> Result<(), String> {
-    let by_term = |t: &Term| term(t.care, t.value, t.outputs);
-    let terms: Vec<u8> = query.candidates.iter().flat_map(by_term).collect();
+    let candidates: Vec<u8> = query.candidates.iter().flat_map(put).collect();
     let answers = [query.answer.as_slice(), &[0x65]].concat();
     let case = Case {
-        job: [head, &terms, &query.command, b"E"].concat(),
+        job: [head, &candidates, &query.command, b"E"].concat(),
         behind: Vec::new(),
         room: answers.len(),
     };

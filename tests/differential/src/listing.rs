@@ -1,5 +1,6 @@
 //! What K6 says of listing, asked of the engine: whatever the prices are, and without W too, a job
-//! comes out the same but for the costs and sets that C answers.
+//! comes out the same but for the costs and sets that C answers. By K10 these stay, too, where all
+//! candidates are blocks.
 
 use crate::engine::{self, Seen};
 use crate::format;
@@ -9,8 +10,8 @@ use crate::report::{hex, matches};
 use crate::rng::Rng;
 use crate::walk;
 
-/// Where a W that is accepted stands: right behind I, as R to N may not stand before it and D has
-/// nothing to take out there.
+/// Where a W that is accepted stands: right behind I, as R to N and F may not stand before it and D
+/// has nothing to take out there.
 const PLACE: usize = 3;
 const BEHIND: usize = 7;
 
@@ -23,6 +24,8 @@ pub struct Held {
     pub products: usize,
     /// Whether a C answers otherwise there.
     pub other_cheapest: bool,
+    /// The C commands that are answered where all candidates are blocks: with the same bytes.
+    pub of_blocks: usize,
 }
 
 /// Holds the engine to it where the job's W is accepted. The engine's outcome of the job itself is
@@ -54,7 +57,8 @@ pub fn check_of(
             ..wanted.clone()
         };
         let same = without_cheapest(&case.job, expected) == without_cheapest(&case.job, &back);
-        if !same {
+        let untouched = held.of_blocks == 0 || wanted.buffer == expected.buffer;
+        if !same || !untouched {
             return Err(wrong("reference"));
         }
         if !matches(&wanted, &call(&other, before)) {
@@ -121,5 +125,16 @@ fn lists(job: &[u8], outcome: &Outcome) -> Option<Held> {
         with_sets: of(b'L').filter(|(_, answer)| answer[1] > 0).count(),
         products: of(b'N').count(),
         other_cheapest: false,
+        of_blocks: if blocks_alone(job, outcome) {
+            of(b'C').count()
+        } else {
+            0
+        },
     })
+}
+
+/// Blocks have come, and nothing else that costs.
+fn blocks_alone(job: &[u8], outcome: &Outcome) -> bool {
+    let read = &job[..outcome.offset];
+    format::has(read, b"F") && !format::has(read, b"TAP")
 }

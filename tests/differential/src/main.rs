@@ -15,6 +15,7 @@ mod generate;
 mod implicants;
 mod listing;
 mod products;
+mod ready;
 mod reference;
 mod reordered;
 mod report;
@@ -34,7 +35,7 @@ use std::time::{Duration, Instant};
 use tally::Tally;
 
 const SEED: u64 = 20_240_229;
-const COUNT: usize = 41_700;
+const COUNT: usize = 51_700;
 /// Each case of this stride is asked twice and, with no more room than this, kept for the threads.
 const STRIDE: usize = 50;
 const MOST_ROOM_KEPT: usize = 1_000;
@@ -219,6 +220,7 @@ fn one(run: &mut Run, case: &Case, turn: usize) -> bool {
     }
     run.passed += 1;
     run.tally.add(&case.job, &expected);
+    run.tally.add_blocks_met(&case.job, &expected);
     if !as_promised(run, case, &before, &expected) {
         return false;
     }
@@ -237,7 +239,7 @@ fn one(run: &mut Run, case: &Case, turn: usize) -> bool {
     true
 }
 
-/// What K3, document 000, K6 to K9 say of an outcome on which engine and reference agree.
+/// What K3, document 000, K6 to K10 say of an outcome on which engine and reference agree.
 fn as_promised(run: &mut Run, case: &Case, before: &[u8], expected: &Outcome) -> bool {
     as_by_rows(run, case, before, expected)
         && as_by_points(run, case, before, expected)
@@ -246,6 +248,7 @@ fn as_promised(run: &mut Run, case: &Case, before: &[u8], expected: &Outcome) ->
         && as_by_cubes(run, case, before, expected)
         && as_by_pages(run, case, before, expected)
         && as_in_another_order(run, case, before, expected)
+        && as_by_blocks(run, case, before, expected)
 }
 
 /// False when the engine does not keep what K3 promises of a job with B.
@@ -351,6 +354,21 @@ fn as_in_another_order(run: &mut Run, case: &Case, before: &[u8], expected: &Out
             println!("MISMATCH: {wrong}");
             report_wrong(case, before, |case, outcome| {
                 outcome.number == 0 && reordered::check(case).is_err()
+            });
+            return false;
+        }
+    }
+    true
+}
+
+/// False when a job does not come out as K10 says with blocks for its terms.
+fn as_by_blocks(run: &mut Run, case: &Case, before: &[u8], expected: &Outcome) -> bool {
+    match ready::check(case, before, expected) {
+        Ok(held) => held.iter().for_each(|held| run.tally.add_ready(held)),
+        Err(wrong) => {
+            println!("MISMATCH: {wrong}");
+            report_wrong(case, before, |case, outcome| {
+                ready::check(case, before, outcome).is_err()
             });
             return false;
         }

@@ -1,8 +1,8 @@
 //! What K9 promises of an accepted job without D, asked of the engine: with its T commands in another
 //! order, and each candidate renumbered by its new position, the job has the same irredundant covers
-//! at each L, C and N, its cheapest costs as much, and N answers with the same sets. An A keeps its
-//! place. The lists are those of the reference (here) and the engine's own pages joined (`pages.rs`);
-//! the answers are held to each other in `answers.rs`.
+//! at each L, C and N, its cheapest costs as much, and N answers with the same sets. An A or F keeps
+//! its place. The lists are those of the reference (here) and the engine's own pages joined
+//! (`pages.rs`); the answers are held to each other in `answers.rs`.
 
 pub mod answers;
 mod held;
@@ -28,6 +28,9 @@ pub struct Pair {
     pub numbers: Vec<usize>,
 }
 
+/// The commands that put in a candidate.
+const COME: &[u8] = b"TAF";
+
 /// The places of the commands that begin with one of these bytes.
 fn places(commands: &[&[u8]], bytes: &[u8]) -> Vec<usize> {
     let all = 0..commands.len();
@@ -39,7 +42,7 @@ impl Pair {
     pub fn new(job: &[u8], order: &[usize]) -> Pair {
         let commands = cut(job).expect("an accepted job is a list of commands");
         let terms = places(&commands, b"T");
-        let candidates = places(&commands, b"TA");
+        let candidates = places(&commands, COME);
         let mut moved = commands.clone();
         let mut to: Vec<usize> = (0..commands.len()).collect();
         for (term, &place) in terms.iter().zip(order) {
@@ -54,15 +57,15 @@ impl Pair {
         }
     }
 
-    /// Whether the jobs differ in the order of their T commands alone and each candidate, whether by T
-    /// or by A, stands under its new number.
+    /// Whether the jobs differ in the order of their T commands alone and each candidate, whether by T,
+    /// A or F, stands under its new number.
     pub fn is_sound(&self) -> bool {
         let [Some(first), Some(second)] = [0, 1].map(|i| cut(&self.jobs[i])) else {
             return false;
         };
         let mut both = first.iter().zip(&second);
         let in_place = both.all(|(one, other)| one == other || [one[0], other[0]] == *b"TT");
-        let [old, new] = [&first, &second].map(|commands| places(commands, b"TA"));
+        let [old, new] = [&first, &second].map(|commands| places(commands, COME));
         let moved = |(i, &number): (usize, &usize)| {
             new.get(number)
                 .is_some_and(|&at| second[at] == first[old[i]])

@@ -37,7 +37,7 @@ fn agreed(case: &Case, before: &[u8]) -> Option<Outcome> {
 /// Takes bytes out of the job, large pieces first, as long as it is still wrong.
 pub fn shrink(case: &Case, wrong: impl Fn(&Case) -> bool) -> Case {
     let mut small = case.clone();
-    for piece in [4_096, 512, 64, 10, 4, 1] {
+    for piece in [4_096, 512, 64, 36, 10, 4, 1] {
         let mut at = 0;
         while at + piece <= small.job.len() {
             let mut tried = small.clone();
@@ -75,7 +75,7 @@ pub fn report_blocks(case: &Case, before: &[u8]) {
     }
 }
 
-/// An outcome on which both agree is not what document 000 or K6 to K9 say: the job, also shrunk.
+/// An outcome on which both agree is not what document 000 or K6 to K10 say: the job, also shrunk.
 pub fn report_wrong(case: &Case, before: &[u8], wrong: impl Fn(&Case, &Outcome) -> bool) {
     describe("MISMATCH", case, before);
     let still = |case: &Case| agreed(case, before).is_some_and(|outcome| wrong(case, &outcome));

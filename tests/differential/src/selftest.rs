@@ -8,6 +8,7 @@ mod order;
 mod presence;
 mod prices;
 mod products;
+mod ready;
 mod records;
 
 pub use blocks::{mixed, ring};
@@ -17,7 +18,7 @@ pub use products::multiplied;
 
 use crate::format::COMMANDS;
 use crate::generate::{draft, page, row, term, Draft};
-use crate::reference::{self, Prices, Query, Term, LONGEST};
+use crate::reference::{self, of_terms, Prices, Query, Term, LONGEST};
 use crate::rng::Rng;
 
 pub const EXAMPLE: &str = "49 02 02 52 00 00 01 52 01 01 02 52 02 03 00 52 03 02 00 54 01 00 01 \
@@ -179,6 +180,7 @@ pub fn run(rng: &mut Rng) -> Checks {
     prices::run(&mut checks, rng);
     cubes::run(&mut checks, rng);
     products::run(&mut checks, rng);
+    ready::run(&mut checks, rng);
     order::run(&mut checks, rng);
     drawn::run(&mut checks, rng);
     checks
@@ -225,6 +227,7 @@ fn marked_cases(checks: &mut Checks) {
             outputs: t[2],
         })
         .collect();
+    let list = of_terms(&list);
     let cost = |&set: &u64| reference::cost(Prices::USUAL, &list, set);
     let costs: Vec<u64> = a.iter().map(cost).collect();
     checks.check("case b", costs == [5, 7, 7, 3, 5, 5]);

@@ -19,7 +19,7 @@ use crate::exact::{GivenUp, Search};
 use crate::format::{self, number, sets};
 use crate::generate::page;
 use crate::implicants;
-use crate::reference::{self, Outcome, Prices, Products, Table, Term, LONGEST};
+use crate::reference::{self, Block, Candidate, Outcome, Prices, Products, Table, Term, LONGEST};
 use crate::threads;
 use heads::{by_blocks, by_rows, turned};
 use prices::{at_prices, Cheapest, PRICES};
@@ -71,7 +71,7 @@ struct Problem {
     table: Table,
     /// The commands of the head that set the candidates.
     setting: Vec<u8>,
-    candidates: Vec<Term>,
+    candidates: Vec<Candidate>,
     sums: Vec<u64>,
     costs: Vec<u64>,
 }
@@ -241,12 +241,13 @@ fn problem(head: &[&[u8]]) -> Result<Problem, String> {
         match **command {
             [b'W', ref ops @ ..] => prices = Prices::of(ops),
             [b'R' | b'B', first, ref rows @ ..] => set_rows(&mut table, first, rows)?,
-            [b'T' | b'A', care, value, outputs] => candidates.push(Term {
+            [b'T' | b'A', care, value, outputs] => candidates.push(Candidate::Term(Term {
                 care,
                 value,
                 outputs,
-            }),
-            [b'P'] => candidates = table.primes(),
+            })),
+            [b'F', ref ops @ ..] => candidates.push(Candidate::Block(Block::of(ops))),
+            [b'P'] => candidates = reference::of_terms(&table.primes()),
             [b'D', k] if usize::from(k) < candidates.len() => {
                 candidates.remove(usize::from(k));
             }
@@ -262,7 +263,7 @@ fn problem(head: &[&[u8]]) -> Result<Problem, String> {
         pricing: of_head(&|byte| byte == b'W'),
         setting: of_head(&|byte| !b"IWRB".contains(&byte)),
         sums: reference::sums(&table, &candidates),
-        costs: candidates.iter().map(|t| prices.cost(t)).collect(),
+        costs: candidates.iter().map(|c| prices.cost_of(c)).collect(),
         candidates,
         prices,
         table,

@@ -1,9 +1,9 @@
 //! What a run has met: how often each number came, what became of each command, what was held to
-//! the promises of K2, K3, K6 to K9 and to document 000, what the records showed, and, at each C
+//! the promises of K2, K3, K6 to K10 and to document 000, what the records showed, and, at each C
 //! of the drawn jobs, how often K1 and the prices changed cost or set of the cheapest and how often
 //! the cost was held to the rival's. A run fails where one of these never came. The jobs made on
 //! purpose do not count for L and C, nor for the rows of B and for W: the marked cases and each row
-//! are among them, so that no count could stay at 0. For P and N they are counted apart.
+//! are among them, so that no count could stay at 0. For P, N and F they are counted apart.
 
 mod blocks;
 mod cubes;
@@ -11,6 +11,7 @@ mod order;
 mod presence;
 mod prices;
 mod products;
+mod ready;
 mod records;
 
 use crate::charged;
@@ -22,7 +23,8 @@ use crate::fresh::Held;
 use crate::implicants;
 use crate::listing;
 use crate::products::Held as HeldProducts;
-use crate::reference::{self, Asked, Covers, Outcome, Prices, Query, Term};
+use crate::ready::Held as HeldBlocks;
+use crate::reference::{self, Asked, Candidate, Covers, Outcome, Prices, Query};
 use crate::reordered;
 use crate::report::hex;
 use blocks::Blocks;
@@ -31,6 +33,7 @@ use order::Orders;
 use presence::Presences;
 use prices::Priced;
 use products::Multiplied;
+use ready::Ready;
 use records::Records;
 use std::collections::BTreeMap;
 
@@ -49,6 +52,7 @@ pub struct Tally {
     priced: Priced,
     multiplied: Multiplied,
     orders: Orders,
+    ready: Ready,
 }
 
 /// The accepted drawn jobs whose candidates come and go.
@@ -90,6 +94,7 @@ impl Tally {
             priced: Priced::default(),
             multiplied: Multiplied::default(),
             orders: Orders::default(),
+            ready: Ready::default(),
         }
     }
 
@@ -136,6 +141,7 @@ impl Tally {
             if format::has(job, b"W") {
                 self.priced.add(asked, query, &covers);
             }
+            self.ready.add_cheapest(asked, query, &covers);
         }
     }
 
@@ -146,14 +152,26 @@ impl Tally {
         }
     }
 
+    /// A job on whose outcome engine and reference agree: what it meets of F.
+    pub fn add_blocks_met(&mut self, job: &[u8], outcome: &Outcome) {
+        self.ready.add(job, outcome, self.drawn);
+    }
+
+    /// A job that was held to the one with blocks for terms.
+    pub fn add_ready(&mut self, held: &HeldBlocks) {
+        self.ready.add_held(held, self.drawn);
+    }
+
     /// A job with W that was held to those with other prices.
     pub fn add_listing(&mut self, held: &listing::Held, number: u64) {
+        self.ready.add_listing(held, self.drawn);
         if self.drawn {
             self.priced.add_listing(held, number);
         }
     }
 
     pub fn add_held(&mut self, held: &Held) {
+        self.ready.add_fresh(held, self.drawn);
         if self.drawn {
             self.changes.held.queries += held.queries;
             self.changes.held.lists += held.lists;
@@ -199,6 +217,7 @@ impl Tally {
     /// A job whose record was compared.
     pub fn add_record(&mut self, job: &[u8], held: &dump::Held, drawn: bool) {
         self.records.add(held);
+        self.ready.add_record(job, held, drawn);
         if drawn {
             self.records.add_drawn(job, held);
         }
@@ -222,6 +241,7 @@ impl Tally {
         self.priced.print();
         self.multiplied.print();
         self.orders.print();
+        self.ready.print();
     }
 
     /// What should have come and did not, and what came that the table of commands does not name.
@@ -253,6 +273,7 @@ impl Tally {
         list.extend(self.priced.complaints());
         list.extend(self.multiplied.complaints());
         list.extend(self.orders.complaints());
+        list.extend(self.ready.complaints());
         list
     }
 }
@@ -342,11 +363,14 @@ impl Cheapest {
 }
 
 /// Cost and set of the cheapest before K1, when every term cost 1 plus its literals.
-fn cheapest_before(candidates: &[Term], covers: &[u64]) -> (u64, u64) {
-    let literals = |i: usize| u64::from(candidates[i].care.count_ones());
+fn cheapest_before(candidates: &[Candidate], covers: &[u64]) -> (u64, u64) {
+    let cost_before = |i: usize| match &candidates[i] {
+        Candidate::Term(t) => 1 + u64::from(t.care.count_ones()),
+        Candidate::Block(b) => b.weight.into(),
+    };
     let cost = |set: u64| {
         let members = (0..candidates.len()).filter(|i| set >> i & 1 == 1);
-        members.map(|i| 1 + literals(i)).sum()
+        members.map(cost_before).sum()
     };
     let with_cost = covers.iter().map(|&set| (cost(set), set));
     with_cost.min().expect("C was answered")

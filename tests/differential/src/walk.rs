@@ -3,7 +3,7 @@
 //! refused, and leaves the reference aside.
 
 use crate::format::{self, number};
-use crate::reference::{Outcome, Table, Term};
+use crate::reference::{Block, Candidate, Outcome, Table, Term, VERTEX_BYTES};
 
 /// An L, C or N with its answer or the number of its refusal.
 pub struct Query<'a> {
@@ -16,7 +16,7 @@ pub struct Standing<'a> {
     /// W's operands, or what stands for them where there is no W.
     pub prices: [u8; 3],
     pub table: Table,
-    pub candidates: Vec<Term>,
+    pub candidates: Vec<Candidate>,
     pub queries: Vec<Query<'a>>,
 }
 
@@ -80,12 +80,20 @@ pub fn width(byte: u8, answers: &[u8]) -> Option<usize> {
     }
 }
 
-fn term(bytes: &[u8]) -> Term {
-    Term {
+fn term(bytes: &[u8]) -> Candidate {
+    Candidate::Term(Term {
         care: bytes[0],
         value: bytes[1],
         outputs: bytes[2],
-    }
+    })
+}
+
+/// Outputs, the bytes of the vertices and the weight.
+fn block(bytes: &[u8]) -> Candidate {
+    let (vertices, weight) = bytes[1..].split_at(VERTEX_BYTES);
+    let mut block = Block::new(bytes[0], [], number(weight) as u16);
+    block.vertices.copy_from_slice(vertices);
+    Candidate::Block(block)
 }
 
 impl<'a> Standing<'a> {
@@ -118,6 +126,7 @@ impl<'a> Standing<'a> {
             b'W' => self.prices = [ops[0], ops[1], ops[2]],
             b'R' | b'B' => self.set_rows(ops),
             b'T' | b'A' => self.candidates.push(term(ops)),
+            b'F' => self.candidates.push(block(ops)),
             b'D' => {
                 self.candidates.remove(usize::from(ops[0]));
             }

@@ -1,18 +1,22 @@
-//! Candidates that come and go: terms by T or A, primes by P, and what A and D make of them.
+//! Candidates that come and go: terms by T or A, blocks by F, primes by P, and what A and D make of
+//! them.
 
-use super::draft::{come, go, term};
+use super::draft::{come, go, put};
+use super::ready::any_block;
 use super::tables::{cells_to_hold, grow, MOST_TERMS};
-use crate::reference::{Table, Term, MOST_CANDIDATES};
+use crate::reference::{of_terms, Candidate, Table, MOST_CANDIDATES};
 use crate::rng::Rng;
 
 /// The candidates that stand behind the commands so far.
 pub struct Candidates<'a> {
     table: &'a Table,
-    pub standing: Vec<Term>,
+    pub standing: Vec<Candidate>,
     /// What D has taken out.
-    gone: Vec<Term>,
-    /// Whether a T may still come.
+    gone: Vec<Candidate>,
+    /// Whether a T or F may still come.
     open: bool,
+    /// Whether blocks come at all.
+    blocks: bool,
     commands: Vec<Vec<u8>>,
 }
 
@@ -23,24 +27,25 @@ impl<'a> Candidates<'a> {
             standing: Vec::new(),
             gone: Vec::new(),
             open: true,
+            blocks: false,
             commands: Vec::new(),
         }
     }
 
-    /// By T alone.
-    pub fn of_terms(table: &'a Table, list: &[Term]) -> Candidates<'a> {
+    /// By T and F alone.
+    pub fn of_list(table: &'a Table, list: &[Candidate]) -> Candidates<'a> {
         let mut candidates = Candidates::none(table);
-        let by_term = |t: &Term| term(t.care, t.value, t.outputs);
-        candidates.commands = list.iter().map(by_term).collect();
+        candidates.commands = list.iter().map(put).collect();
         candidates.standing = list.to_vec();
         candidates
     }
 
-    /// By T and A, with other changes between.
-    pub fn of_changes(rng: &mut Rng, table: &'a Table, list: &[Term]) -> Candidates<'a> {
+    /// By T, A and F, with other changes between.
+    pub fn of_changes(rng: &mut Rng, table: &'a Table, list: &[Candidate]) -> Candidates<'a> {
         let mut candidates = Candidates::none(table);
-        for &t in list {
-            candidates.put_in(rng, t);
+        candidates.blocks = list.iter().any(|c| c.block().is_some());
+        for &c in list {
+            candidates.put_in(rng, c);
             if rng.chance(1, 8) {
                 candidates.one_change(rng);
             }
@@ -54,14 +59,15 @@ impl<'a> Candidates<'a> {
         let mut candidates = Candidates::none(table);
         let primes = table.primes();
         if primes.len() <= MOST_CANDIDATES {
-            candidates.standing = primes;
+            candidates.standing = of_terms(&primes);
         }
         candidates.open = false;
         candidates.commands.push(vec![b'P']);
         candidates
     }
 
-    /// The commands since this was called last. A query follows them, so that no T comes any more.
+    /// The commands since this was called last. A query follows them, so that no T or F comes any
+    /// more.
     pub fn commands(&mut self) -> Vec<Vec<u8>> {
         self.open = false;
         std::mem::take(&mut self.commands)
@@ -93,28 +99,32 @@ impl<'a> Candidates<'a> {
             }
             // Taken out and put in again, now behind the others.
             3 => {
-                if let Some(t) = self.take_out_any(rng) {
-                    self.put_in(rng, t);
+                if let Some(c) = self.take_out_any(rng) {
+                    self.put_in(rng, c);
                 }
             }
             // A second copy.
             _ => {
                 if !self.standing.is_empty() && self.has_room(rng) {
-                    let t = rng.pick(&self.standing);
-                    self.put_in(rng, t);
+                    let c = rng.pick(&self.standing);
+                    self.put_in(rng, c);
                 }
             }
         }
     }
 
-    fn put_in(&mut self, rng: &mut Rng, t: Term) {
-        let command = if self.open && rng.chance(1, 2) {
-            term
-        } else {
-            come
+    /// Whether it comes: a block has no command any more where none may stand before it.
+    fn put_in(&mut self, rng: &mut Rng, candidate: Candidate) -> bool {
+        let command = match candidate {
+            Candidate::Block(_) if !self.open => return false,
+            Candidate::Term(t) if !self.open || rng.chance(1, 2) => {
+                come(t.care, t.value, t.outputs)
+            }
+            _ => put(&candidate),
         };
-        self.commands.push(command(t.care, t.value, t.outputs));
-        self.standing.push(t);
+        self.commands.push(command);
+        self.standing.push(candidate);
+        true
     }
 
     /// Above `MOST_TERMS` the covers soon are too many, so few terms come there.
@@ -127,42 +137,52 @@ impl<'a> Candidates<'a> {
         self.standing.len() < most
     }
 
-    /// A legal term, if there is one and it has room.
+    /// A legal term, if there is one, or block, if it has room.
     fn put_in_any(&mut self, rng: &mut Rng) -> bool {
+        if self.blocks && self.open && rng.chance(1, 2) && self.has_room(rng) {
+            let block = any_block(rng, self.table);
+            return self.put_in(rng, Candidate::Block(block));
+        }
         let cells = cells_to_hold(self.table);
         let comes = !cells.is_empty() && self.has_room(rng);
         if comes {
             let (v, j) = rng.pick(&cells);
-            let t = grow(rng, self.table, v, j);
-            self.put_in(rng, t);
+            self.put_in_grown(rng, v, j);
         }
         comes
     }
 
-    fn take_out(&mut self, number: usize) -> Term {
-        let t = self.standing.remove(number);
+    fn put_in_grown(&mut self, rng: &mut Rng, v: usize, j: usize) {
+        let t = grow(rng, self.table, v, j);
+        self.put_in(rng, Candidate::Term(t));
+    }
+
+    fn take_out(&mut self, number: usize) -> Candidate {
+        let candidate = self.standing.remove(number);
         self.commands.push(go(number as u8));
-        self.gone.push(t);
-        t
+        self.gone.push(candidate);
+        candidate
     }
 
     /// The first, the last or any, if one stands.
-    fn take_out_any(&mut self, rng: &mut Rng) -> Option<Term> {
+    fn take_out_any(&mut self, rng: &mut Rng) -> Option<Candidate> {
         let last = self.standing.len().checked_sub(1)?;
         let any = rng.between(0, last);
         let number = rng.pick(&[0, last, any, any]);
         Some(self.take_out(number))
     }
 
-    /// What has gone comes back where it is missed.
+    /// What has gone comes back where it is missed; for a block that can't a term comes.
     fn hold_wanted(&mut self, rng: &mut Rng) {
         for (v, j) in self.table.wanted_cells() {
-            let holds = |t: &&Term| t.holds(v, j);
-            if self.standing.iter().any(|t| holds(&t)) {
+            let holds = |c: &&Candidate| c.holds(v, j);
+            if self.standing.iter().any(|c| holds(&c)) {
                 continue;
             }
-            if let Some(&t) = self.gone.iter().find(holds) {
-                self.put_in(rng, t);
+            if let Some(&c) = self.gone.iter().find(holds) {
+                if !self.put_in(rng, c) {
+                    self.put_in_grown(rng, v, j);
+                }
             }
         }
     }

@@ -1,5 +1,5 @@
-//! Damaged jobs: commands moved, doubled, dropped or spoilt, vertices taken before their row, bytes
-//! changed, put in or cut off.
+//! Damaged jobs: commands moved, doubled, dropped or spoilt, vertices taken before their row, blocks
+//! spoilt in one operand, bytes changed, put in or cut off.
 
 use super::bytes::{full, likely_byte, likely_bytes};
 use super::draft::{case, plain_case, row, Draft};
@@ -7,6 +7,7 @@ use super::sound::sound;
 use super::tables::{sizes, MOST_TERMS};
 use super::Case;
 use crate::format::{find, Command, Operand, Part, BLOCK, COMMANDS};
+use crate::reference::Block;
 use crate::rng::Rng;
 
 /// Bytes for an operand: mostly in range, so that the later refusals are reached too.
@@ -26,7 +27,30 @@ fn wild_operand(rng: &mut Rng, operand: Operand, (n, m): (usize, usize)) -> Vec<
         Operand::Candidate => likely_bytes(rng, 1),
         Operand::Price if rng.chance(1, 4) => vec![rng.pick(&[51, 52, 101, 128, 178, 255])],
         Operand::Price => vec![rng.below(51) as u8],
+        Operand::Vertices => wild_vertices(rng, n),
+        Operand::Weight => wild_weight(rng).to_le_bytes().to_vec(),
         Operand::Number(bytes) => likely_bytes(rng, bytes),
+    }
+}
+
+/// Mostly few vertices, as each may have an off cell; now and then one of 2^n or more.
+fn wild_vertices(rng: &mut Rng, n: usize) -> Vec<u8> {
+    let end = 1 << n;
+    let mut vertices: Vec<usize> = (0..rng.below(4)).map(|_| rng.below(end)).collect();
+    match rng.below(8) {
+        0 => vertices.push(rng.below(256)),
+        1 => vertices.push(rng.pick(&[end, 255]).min(255)),
+        2 => vertices.extend(0..end),
+        _ => {}
+    }
+    Block::new(0, vertices, 0).vertices.to_vec()
+}
+
+fn wild_weight(rng: &mut Rng) -> u16 {
+    match rng.below(5) {
+        0 => rng.pick(&[850, 851, 852, 0x0352, 0x0401, 0x5203, 0x8000, 0xffff]),
+        1 => rng.next() as u16,
+        _ => rng.below(851) as u16,
     }
 }
 
@@ -116,6 +140,29 @@ fn damage_settings(rng: &mut Rng, draft: &mut Draft) {
     }
 }
 
+/// An F is spoilt in one operand: no output, one of m or above, a vertex more, a weight above 850.
+fn damage_block(rng: &mut Rng, draft: &mut Draft) {
+    let mut places = draft.places(Part::Candidates);
+    places.retain(|&place| draft.commands[place][0] == b'F');
+    if places.is_empty() {
+        return;
+    }
+    let (n, m) = draft.sizes();
+    let place = rng.pick(&places);
+    let ops = &mut draft.commands[place][1..];
+    match rng.below(6) {
+        0 => ops[0] = 0,
+        1 => ops[0] |= rng.pick(&[full(8) & !full(m), 0x80]),
+        // Each vertex may have an off cell.
+        2 | 3 => {
+            let v = rng.below(1 << n);
+            ops[1 + v / 8] |= 1 << (v % 8);
+        }
+        4 => ops[1..33].copy_from_slice(&wild_vertices(rng, n)),
+        _ => ops[33..].copy_from_slice(&wild_weight(rng).to_le_bytes()),
+    }
+}
+
 /// One change in the list of commands.
 fn damage_commands(rng: &mut Rng, draft: &mut Draft) {
     let count = draft.commands.len();
@@ -123,7 +170,7 @@ fn damage_commands(rng: &mut Rng, draft: &mut Draft) {
         return;
     }
     let place = rng.below(count);
-    match rng.below(11) {
+    match rng.below(13) {
         0 => {
             draft.commands.remove(place);
         }
@@ -145,6 +192,7 @@ fn damage_commands(rng: &mut Rng, draft: &mut Draft) {
         7 => spoil(rng, draft, Part::Other),
         8 => take_vertex(rng, draft),
         9 => damage_settings(rng, draft),
+        10 | 11 => damage_block(rng, draft),
         _ => rng.shuffle(&mut draft.commands),
     }
 }

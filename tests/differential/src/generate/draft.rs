@@ -3,7 +3,7 @@
 use super::bytes::likely_bytes;
 use super::Case;
 use crate::format::{find, Part, BLOCK};
-use crate::reference::{self, LONGEST};
+use crate::reference::{self, Block, Candidate, LONGEST};
 use crate::rng::Rng;
 
 /// A job as a list of commands, so that commands can be moved as a whole.
@@ -61,6 +61,22 @@ pub fn block(first: u8, pairs: Pairs) -> Vec<u8> {
 
 pub fn term(care: u8, value: u8, outputs: u8) -> Vec<u8> {
     vec![b'T', care, value, outputs]
+}
+
+/// F: a ready-made block.
+pub fn ready(b: &Block) -> Vec<u8> {
+    let mut command = vec![b'F', b.outputs];
+    command.extend(b.vertices);
+    command.extend(b.weight.to_le_bytes());
+    command
+}
+
+/// T or, for a block, F.
+pub fn put(candidate: &Candidate) -> Vec<u8> {
+    match candidate {
+        Candidate::Term(t) => term(t.care, t.value, t.outputs),
+        Candidate::Block(b) => ready(b),
+    }
 }
 
 /// A: the term comes in behind the standing candidates.

@@ -3,11 +3,14 @@
 //! holders have choices.
 
 use super::bytes::full;
-use super::draft::{come, draft, go, plain_case, term, Draft};
+use super::draft::{come, draft, go, plain_case, put, term, Draft};
 use super::queries::queries;
+use super::ready::for_terms;
 use super::tables::rows;
 use super::Case;
-use crate::reference::{irredundant_covers, Covers, Table, Term, MOST_CANDIDATES};
+use crate::reference::{
+    irredundant_covers, of_terms, Candidate, Covers, Table, Term, MOST_CANDIDATES,
+};
 use crate::rng::Rng;
 
 type Commands = Vec<Vec<u8>>;
@@ -155,6 +158,12 @@ impl Plan {
         self.with_terms(terms)
     }
 
+    /// These terms with blocks for some of them, which hold the same wanted cells.
+    pub fn with_blocks(&self, rng: &mut Rng, terms: &[Term]) -> Vec<Candidate> {
+        let vertices = |i: usize| self.held[i].iter().map(|&(v, _)| v.into()).collect();
+        for_terms(rng, self.n, terms, vertices)
+    }
+
     fn around(&self, held: &[At]) -> Term {
         let (v, _) = held[0];
         let differ = held.iter().fold(0, |bits, at| bits | (at.0 ^ v));
@@ -213,6 +222,12 @@ pub fn job_of(rng: &mut Rng, table: &Table, terms: &[Term], asked: Commands) -> 
     draft(table.n as u8, table.m as u8, parts)
 }
 
+/// The same with candidates by T and F.
+pub fn job_with(rng: &mut Rng, table: &Table, list: &[Candidate], asked: Commands) -> Draft {
+    let parts = [rows(rng, table), list.iter().map(put).collect(), asked];
+    draft(table.n as u8, table.m as u8, parts)
+}
+
 /// Factors up to about so many products, now and then with a candidate that holds every cell, with
 /// cells that leave no choice or change nothing, and with candidates that hold nothing wanted.
 pub fn drawn_plan(rng: &mut Rng) -> Plan {
@@ -247,21 +262,26 @@ pub fn drawn_plan(rng: &mut Rng) -> Plan {
     plan
 }
 
-/// A drawn plan, asked by N and pages; a candidate goes and comes again between two N.
+/// A drawn plan, every second one with blocks, asked by N and pages; a term goes and comes again
+/// between two N.
 pub fn case(rng: &mut Rng) -> Case {
     let plan = drawn_plan(rng);
     let (table, terms) = plan.widened(rng);
-    let mut asked = match irredundant_covers(&table, &terms) {
-        Covers::All(covers) => queries(rng, &covers, terms.len()),
+    let list = if rng.chance(1, 2) {
+        plan.with_blocks(rng, &terms)
+    } else {
+        of_terms(&terms)
+    };
+    let mut asked = match irredundant_covers(&table, &list) {
+        Covers::All(covers) => queries(rng, &covers, list.len()),
         _ => Vec::new(),
     };
     asked.insert(rng.below(asked.len() + 1), vec![b'N']);
-    if rng.chance(1, 2) {
-        let number = rng.below(terms.len());
-        let t = terms[number];
+    let number = rng.below(list.len());
+    if let (true, Candidate::Term(t)) = (rng.chance(1, 2), list[number]) {
         let back = come(t.care, t.value, t.outputs);
         asked.extend([go(number as u8), back, vec![b'N']]);
     }
-    let job = job_of(rng, &table, &terms, asked);
+    let job = job_with(rng, &table, &list, asked);
     plain_case(rng, &job)
 }

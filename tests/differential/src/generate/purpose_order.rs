@@ -4,15 +4,16 @@
 
 mod many;
 
-use super::draft::{come, draft, page, plain_case, prices, term, Draft};
+use super::draft::{come, draft, page, plain_case, prices, put, term, Draft};
 use super::order::{self, terms_of, Order};
 use super::prices::drawn_prices;
 use super::queries::queries;
+use super::ready::{any_block, around};
 use super::tables::{
     cells_to_hold, grow, random_table, random_term, rows, table_around, terms_for,
 };
 use super::Case;
-use crate::reference::{irredundant_covers, Covers, Table, Term, LONGEST};
+use crate::reference::{irredundant_covers, of_terms, Candidate, Covers, Table, Term, LONGEST};
 use crate::rng::Rng;
 use crate::selftest::{ask_all, marked};
 
@@ -103,16 +104,19 @@ pub fn case(rng: &mut Rng) -> Case {
 }
 
 /// Some of the terms come by A, before, between and behind the T commands, and further ones between
-/// the queries.
+/// the queries; every third job has blocks among them.
 fn drawn(rng: &mut Rng, most: usize) -> Draft {
     let (n, m) = (rng.between(1, 4), rng.between(1, 3));
     let (table, terms) = table_and_terms(rng, n, m, most);
-    let mut standing = terms;
-    let mut commands = by_both(rng, &standing);
+    let mut standing = of_terms(&terms);
+    if rng.chance(1, 3) {
+        put_in_blocks(rng, &table, &mut standing, most);
+    }
+    let mut commands = by_each(rng, &standing);
     commands.extend(asked(rng, &table, &standing));
     for _ in 0..rng.below(3) {
-        let t = further(rng, &table, &standing);
-        standing.push(t);
+        let t = further(rng, &table, &terms);
+        standing.push(Candidate::Term(t));
         commands.push(come(t.care, t.value, t.outputs));
         commands.extend(asked(rng, &table, &standing));
     }
@@ -129,7 +133,7 @@ fn table_and_terms(rng: &mut Rng, n: usize, m: usize, most: usize) -> (Table, Ve
     if rng.chance(1, 3) {
         let other = random_table(rng, n, m);
         let terms = terms_for(rng, &other, most - 1);
-        let held = !matches!(irredundant_covers(&other, &terms), Covers::None);
+        let held = !matches!(irredundant_covers(&other, &of_terms(&terms)), Covers::None);
         if held && !terms.is_empty() {
             (table, list) = (other, terms);
         }
@@ -141,33 +145,51 @@ fn table_and_terms(rng: &mut Rng, n: usize, m: usize, most: usize) -> (Table, Ve
     (table, list)
 }
 
-/// By T and, one out of four, by A. Two T commands stand among them.
-fn by_both(rng: &mut Rng, terms: &[Term]) -> Commands {
-    let mut by_term = vec![true; terms.len()];
+/// A block for some of the terms but two, and one more as long as there are few candidates.
+fn put_in_blocks(rng: &mut Rng, table: &Table, list: &mut Vec<Candidate>, most: usize) {
+    let kept = rng.below(list.len() - 1);
+    for (i, candidate) in list.iter_mut().enumerate() {
+        if let (false, Candidate::Term(t)) = ((kept..kept + 2).contains(&i), *candidate) {
+            if rng.chance(1, 2) {
+                *candidate = Candidate::Block(around(rng, table, t));
+            }
+        }
+    }
+    if list.len() < most {
+        let block = Candidate::Block(any_block(rng, table));
+        list.insert(rng.below(list.len() + 1), block);
+    }
+}
+
+/// Blocks by F, terms by T and, one out of four, by A. Two T commands stand among them.
+fn by_each(rng: &mut Rng, list: &[Candidate]) -> Commands {
+    let terms = list.iter().filter(|c| c.term().is_some()).count();
+    let mut by_term = vec![true; terms];
     for by_term in by_term.iter_mut().skip(2) {
         *by_term = rng.chance(3, 4);
     }
     rng.shuffle(&mut by_term);
-    let commands = terms.iter().zip(by_term);
-    commands
-        .map(|(t, by_term)| if by_term { term } else { come }(t.care, t.value, t.outputs))
-        .collect()
+    let mut command = |candidate: &Candidate| match candidate {
+        Candidate::Term(t) if by_term.pop() == Some(false) => come(t.care, t.value, t.outputs),
+        _ => put(candidate),
+    };
+    list.iter().map(&mut command).collect()
 }
 
-/// A copy of one that stands, or any legal one.
-fn further(rng: &mut Rng, table: &Table, standing: &[Term]) -> Term {
+/// A copy of a term, or any legal one.
+fn further(rng: &mut Rng, table: &Table, terms: &[Term]) -> Term {
     let cells = cells_to_hold(table);
     if cells.is_empty() || rng.chance(1, 2) {
-        return rng.pick(standing);
+        return rng.pick(terms);
     }
     let (v, j) = rng.pick(&cells);
     grow(rng, table, v, j)
 }
 
 /// Pages from 0 on and from other starts, C and N in any order; at least one.
-fn asked(rng: &mut Rng, table: &Table, standing: &[Term]) -> Commands {
+fn asked(rng: &mut Rng, table: &Table, standing: &[Candidate]) -> Commands {
     let Covers::All(covers) = irredundant_covers(table, standing) else {
-        unreachable!("few terms, which hold each wanted cell");
+        unreachable!("few candidates, which hold each wanted cell");
     };
     let mut list = queries(rng, &covers, standing.len());
     list.push(

@@ -1,14 +1,14 @@
-//! Jobs for the records that they leave: made on purpose for the weights of K5, the prices of K6 and
-//! N of K8, some of the others made on purpose, and drawn ones.
+//! Jobs for the records that they leave: made on purpose for the weights of K5, the prices of K6, N of
+//! K8 and the blocks of K10, some of the others made on purpose, and drawn ones.
 
 use super::bytes::full;
 use super::damage::{damaged, wild};
-use super::draft::{block, come, draft, go, prices, row, term, Draft};
+use super::draft::{block, come, draft, go, prices, ready, row, term, Draft};
 use super::purpose::{on_purpose, primes};
 use super::purpose_products::counted;
 use super::sound::sound;
 use crate::format::BLOCK;
-use crate::reference::LONGEST;
+use crate::reference::{Block, LONGEST};
 use crate::rng::Rng;
 use crate::selftest::{
     bytes, dearest, first_term_gone, marked, multiplied, odd_parity, priced, prime_gone,
@@ -30,6 +30,7 @@ pub fn records_on_purpose(rng: &mut Rng) -> Jobs {
     of_primes(&mut list);
     of_prices(&mut list);
     of_products(rng, &mut list);
+    of_ready(&mut list);
     of_lengths(&mut list);
     let mut others: Jobs = on_purpose(rng).into_iter().map(|case| case.job).collect();
     // Those that differ in their buffers alone leave one record.
@@ -165,6 +166,43 @@ fn of_products(rng: &mut Rng, list: &mut Jobs) {
     for (plan, _) in counted() {
         let asked = vec![vec![b'N'], go(0), come(255, 0, 1), vec![b'N']];
         list.push(plan.job(rng, asked).job());
+    }
+}
+
+/// Blocks among terms, command by command, at the usual prices and at others; of 64 each one goes;
+/// and blocks that are refused.
+fn of_ready(list: &mut Jobs) {
+    let f = |outputs, v: usize, weight| ready(&Block::new(outputs, [0, v, 255], weight));
+    let standing = || {
+        let mut blocks = vec![f(1, 8, 850), term(3, 0, 1), f(255, 127, 0), come(0, 0, 6)];
+        blocks.extend([f(128, 254, 256), term(255, 255, 255), f(1, 8, 850)]);
+        blocks
+    };
+    let rows = all_rows(|_| [0, 255]);
+    for number in 0..7 {
+        let changes = vec![
+            go(number),
+            vec![b'C'],
+            go(0),
+            come(5, 1, 9),
+            vec![b'N'],
+            go(4),
+        ];
+        let job = draft(8, 8, [rows.clone(), standing(), changes]);
+        behind_each(list, &job, rows.len() + 1);
+        for own in PRICES {
+            list.push(priced(job.clone(), own).job());
+        }
+    }
+    let many: Commands = (0..64).map(|i| f(1 + i as u8, i, 13 * i as u16)).collect();
+    for number in 0..64 {
+        let job = draft(8, 8, [rows.clone(), many.clone(), vec![go(number)]]);
+        list.push(job.job());
+    }
+    let refused = [f(0, 1, 1), f(8, 1, 1), f(1, 1, 851), f(1, 1, 1)];
+    for last in refused {
+        let stand = vec![row(0, 7, 0), ready(&Block::new(5, [0], 9)), last];
+        list.push(draft(8, 3, [stand]).job());
     }
 }
 

@@ -4,9 +4,10 @@ use super::changes::Candidates;
 use super::draft::{draft, plain_case, prices, Draft};
 use super::prices::drawn_prices;
 use super::queries::queries;
+use super::ready::mixed;
 use super::tables::{random_table, rows, sizes, table_of_terms, terms_for, MOST_TERMS};
 use super::Case;
-use crate::reference::{irredundant_covers, Covers, Table, Term, LONGEST};
+use crate::reference::{irredundant_covers, of_terms, Candidate, Covers, Table, Term, LONGEST};
 use crate::rng::Rng;
 
 pub fn case(rng: &mut Rng) -> Case {
@@ -15,15 +16,22 @@ pub fn case(rng: &mut Rng) -> Case {
 }
 
 /// A job that keeps to the order of commands. Now and then a wanted cell stays unheld. In every
-/// second one the candidates come and go, and every third one has prices.
+/// second one the candidates come and go, every third one has prices, and every third one without P
+/// has blocks.
 pub fn sound(rng: &mut Rng) -> Draft {
     let (n, m) = sizes(rng);
     let moving = rng.chance(1, 2);
     let (table, list) = table_and_terms(rng, n, m);
     let mut candidates = match list {
         None => Candidates::of_primes(&table),
-        Some(list) if moving => Candidates::of_changes(rng, &table, &list),
-        Some(list) => Candidates::of_terms(&table, &list),
+        Some(terms) => {
+            let list = if rng.chance(1, 3) {
+                mixed(rng, &table, &terms)
+            } else {
+                of_terms(&terms)
+            };
+            of_list(rng, &table, &list, moving)
+        }
     };
     let mut commands = rows(rng, &table);
     let rounds = if moving { rng.between(1, 4) } else { 1 };
@@ -35,6 +43,19 @@ pub fn sound(rng: &mut Rng) -> Draft {
         commands.extend(asked(rng, &table, &candidates.standing));
     }
     draft(n as u8, m as u8, [settings(rng), commands])
+}
+
+fn of_list<'a>(
+    rng: &mut Rng,
+    table: &'a Table,
+    list: &[Candidate],
+    moving: bool,
+) -> Candidates<'a> {
+    if moving {
+        Candidates::of_changes(rng, table, list)
+    } else {
+        Candidates::of_list(table, list)
+    }
 }
 
 /// W in every third job.
@@ -61,7 +82,7 @@ fn table_and_terms(rng: &mut Rng, n: usize, m: usize) -> (Table, Option<Vec<Term
     (table, Some(list))
 }
 
-fn asked(rng: &mut Rng, table: &Table, standing: &[Term]) -> Vec<Vec<u8>> {
+fn asked(rng: &mut Rng, table: &Table, standing: &[Candidate]) -> Vec<Vec<u8>> {
     match irredundant_covers(table, standing) {
         // Too many for pages here; N comes to an end, mostly with 17.
         Covers::TooMany => vec![vec![b'N']; rng.below(2)],

@@ -1,7 +1,8 @@
 //! Irredundant covers and their costs, by their definitions.
 
+use super::candidate::Candidate;
 use super::prices::Prices;
-use super::table::{Table, Term};
+use super::table::Table;
 
 /// Up to this many candidates every subset is tried.
 const MOST_BY_SUBSETS: usize = 14;
@@ -19,7 +20,7 @@ pub enum Covers {
     TooMany,
 }
 
-pub fn irredundant_covers(table: &Table, candidates: &[Term]) -> Covers {
+pub fn irredundant_covers(table: &Table, candidates: &[Candidate]) -> Covers {
     let sums = sums(table, candidates);
     if sums.contains(&0) {
         Covers::None
@@ -31,9 +32,9 @@ pub fn irredundant_covers(table: &Table, candidates: &[Term]) -> Covers {
 }
 
 /// For each wanted cell the candidates that hold it, as a set. Equal ones say the same once.
-pub fn sums(table: &Table, candidates: &[Term]) -> Vec<u64> {
+pub fn sums(table: &Table, candidates: &[Candidate]) -> Vec<u64> {
     let holders = |(v, j)| {
-        let holding = candidates.iter().enumerate().filter(|(_, t)| t.holds(v, j));
+        let holding = candidates.iter().enumerate().filter(|(_, c)| c.holds(v, j));
         holding.map(|(i, _)| 1u64 << i).sum()
     };
     let mut sums: Vec<u64> = table.wanted_cells().into_iter().map(holders).collect();
@@ -96,16 +97,16 @@ pub fn covers_by_products(sums: &[u64]) -> Option<Vec<u64>> {
     Some(products)
 }
 
-pub fn cost(prices: Prices, candidates: &[Term], set: u64) -> u64 {
+pub fn cost(prices: Prices, candidates: &[Candidate], set: u64) -> u64 {
     let members = candidates
         .iter()
         .enumerate()
         .filter(|(i, _)| set >> i & 1 == 1);
-    members.map(|(_, t)| prices.cost(t)).sum()
+    members.map(|(_, c)| prices.cost_of(c)).sum()
 }
 
 /// The least cost and, among equals, the smallest set. `covers` rises and is not empty.
-pub fn cheapest(prices: Prices, candidates: &[Term], covers: &[u64]) -> (u64, u64) {
+pub fn cheapest(prices: Prices, candidates: &[Candidate], covers: &[u64]) -> (u64, u64) {
     covers
         .iter()
         .map(|&set| (cost(prices, candidates, set), set))

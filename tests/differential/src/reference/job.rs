@@ -1,5 +1,6 @@
 //! The job stream: each command with its refusals in their order, its effect and its answer.
 
+use super::candidate::{of_terms, Block, Candidate};
 use super::covers::{cheapest, irredundant_covers, Covers};
 use super::prices::{Prices, HIGHEST};
 use super::products::{products, Products};
@@ -46,8 +47,8 @@ pub struct Problem {
     /// By W, once it came.
     pub prices_set: Option<Prices>,
     pub has_row: [bool; 256],
-    pub candidates: Vec<Term>,
-    /// T or A: an A counts as a T, even if its candidate has gone again.
+    pub candidates: Vec<Candidate>,
+    /// T, A or F: an A or F counts as a T, even if its candidate has gone again.
     pub terms_came: bool,
     pub primes_came: bool,
     pub queries_came: bool,
@@ -102,7 +103,7 @@ pub fn left_by(job: &[u8], buffer: &[u8]) -> Option<(Outcome, Problem)> {
 pub struct Query {
     pub at: usize,
     pub command: Vec<u8>,
-    pub candidates: Vec<Term>,
+    pub candidates: Vec<Candidate>,
     pub answer: Vec<u8>,
 }
 
@@ -179,6 +180,7 @@ impl Problem {
             b'W' => self.set_prices(ops)?,
             b'R' | b'B' => self.rows(ops)?,
             b'T' | b'A' => self.term(ops)?,
+            b'F' => self.block(ops)?,
             b'D' => self.take_out(ops)?,
             b'P' => self.primes()?,
             b'L' => self.page(ops)?,
@@ -203,7 +205,7 @@ impl Problem {
                 self.table.is_some() && first && candidates_open && !self.terms_came
             }
             b'R' | b'B' | b'P' => self.table.is_some() && candidates_open && !self.terms_came,
-            b'T' => self.table.is_some() && candidates_open,
+            b'T' | b'F' => self.table.is_some() && candidates_open,
             b'A' | b'D' | b'L' | b'C' | b'N' | b'E' => self.table.is_some(),
             _ => unreachable!("format.rs has a command that has no place here"),
         }
@@ -259,11 +261,21 @@ impl Problem {
             value: ops[1],
             outputs: ops[2],
         };
-        let table = self.table();
-        refuse_if(!table.well_formed(t), 9)?;
-        refuse_if(table.holds_off_cell(t), 10)?;
+        refuse_if(!self.table().well_formed(t), 9)?;
+        self.put_in(Candidate::Term(t))
+    }
+
+    fn block(&mut self, ops: &[u8]) -> Result<Vec<u8>, Stop> {
+        let b = Block::of(ops);
+        refuse_if(!b.well_formed(self.table()), 18)?;
+        self.put_in(Candidate::Block(b))
+    }
+
+    /// What is behind 9 and 18 for terms and blocks alike.
+    fn put_in(&mut self, candidate: Candidate) -> Result<Vec<u8>, Stop> {
+        refuse_if(candidate.holds_off_cell(self.table()), 10)?;
         refuse_if(self.candidates.len() == MOST_CANDIDATES, 11)?;
-        self.candidates.push(t);
+        self.candidates.push(candidate);
         self.terms_came = true;
         self.forget();
         Ok(Vec::new())
@@ -291,7 +303,7 @@ impl Problem {
         for t in &primes {
             answer.extend([t.care, t.value, t.outputs]);
         }
-        self.candidates = primes;
+        self.candidates = of_terms(&primes);
         self.primes_came = true;
         Ok(answer)
     }

@@ -1,6 +1,7 @@
 //! The reference: the paper's definitions tried by brute force, one after the other.
 //! It shares no code with the engine and is meant to be plain rather than quick.
 
+mod candidate;
 mod covers;
 mod cubes;
 mod job;
@@ -11,12 +12,13 @@ mod record;
 mod rival;
 mod table;
 
+pub use candidate::{of_terms, Block, Candidate, HEAVIEST, VERTEX_BYTES};
 pub use covers::{
     cheapest, cost, covers_by_products, covers_by_subsets, irredundant_covers, is_cover, sums,
     Covers,
 };
 pub use cubes::{cube_number, cube_of, spread, weight, Cubes, ENTRIES};
-pub use job::{asked, run, Asked, Outcome, Query, LONGEST, MOST_CANDIDATES};
+pub use job::{asked, left_by, run, Asked, Outcome, Query, LONGEST, MOST_CANDIDATES};
 pub use presence::{delta, implicants, points, prime_implicants, sum, Presence};
 pub use prices::{Prices, HIGHEST};
 pub use products::{

@@ -2,7 +2,8 @@
 //! correction: the points are the wanted cells, and each keeps its sum. It goes by single bits and
 //! shares no code with `covers.rs`.
 
-use super::table::{Table, Term};
+use super::candidate::Candidate;
+use super::table::Table;
 
 /// The document's point: a vertex and an output.
 pub type Point = (usize, usize);
@@ -26,12 +27,25 @@ pub fn points(table: &Table) -> Vec<Point> {
     list
 }
 
-/// The value of a candidate's function at a point: the product of its literals, at its outputs.
-fn function(candidate: &Term, (v, j): Point) -> bool {
+/// The value of a candidate's function at a point: at its outputs the product of its literals, or
+/// what a block has for the vertex in its row of bits, low bit first.
+fn function(candidate: &Candidate, (v, j): Point) -> bool {
     let bit = |byte: u8, i: usize| byte >> i & 1 == 1;
-    let literal = |i: usize| bit(candidate.value, i) == (v >> i & 1 == 1);
-    let product = (0..8).all(|i| !bit(candidate.care, i) || literal(i));
-    product && bit(candidate.outputs, j)
+    let (value, outputs) = match candidate {
+        Candidate::Term(t) => {
+            let literal = |i: usize| bit(t.value, i) == (v >> i & 1 == 1);
+            let product = (0..8).all(|i| !bit(t.care, i) || literal(i));
+            (product, t.outputs)
+        }
+        Candidate::Block(b) => {
+            let mut row = b
+                .vertices
+                .iter()
+                .flat_map(|&byte| (0..8).map(move |i| bit(byte, i)));
+            (row.nth(v).expect("a vertex"), b.outputs)
+        }
+    };
+    value && bit(outputs, j)
 }
 
 /// Formula (2): whether all functions have the same value at a point.
@@ -46,8 +60,8 @@ pub fn sum(values: &[bool], set: u64) -> bool {
 }
 
 impl Presence {
-    pub fn new(table: &Table, candidates: &[Term]) -> Presence {
-        let at = |point: Point| candidates.iter().map(|t| function(t, point)).collect();
+    pub fn new(table: &Table, candidates: &[Candidate]) -> Presence {
+        let at = |point: Point| candidates.iter().map(|c| function(c, point)).collect();
         Presence {
             count: candidates.len(),
             values: points(table).into_iter().map(at).collect(),

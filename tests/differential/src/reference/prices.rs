@@ -1,5 +1,6 @@
-//! What a term costs, by K6.
+//! What a term costs, by K6, and a block, by K10.
 
+use super::candidate::Candidate;
 use super::table::Term;
 
 /// The highest price; above it is refusal 16.
@@ -40,5 +41,13 @@ impl Prices {
         let outputs = u64::from(t.outputs.count_ones());
         let [term, literal, connection] = [self.term, self.literal, self.connection].map(u64::from);
         term + literal * charged + connection * outputs
+    }
+
+    /// The weight of a block is its cost, whatever the prices are.
+    pub fn cost_of(self, candidate: &Candidate) -> u64 {
+        match candidate {
+            Candidate::Term(t) => self.cost(t),
+            Candidate::Block(b) => b.weight.into(),
+        }
     }
 }

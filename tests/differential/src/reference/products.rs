@@ -1,7 +1,8 @@
 //! N by the words of K8: the wanted cells come by vertex, then output, and at each every product
 //! is joined with every candidate that holds the cell.
 
-use super::table::{Table, Term};
+use super::candidate::Candidate;
+use super::table::Table;
 
 /// More products than this at some cell are refusal 17.
 pub const MOST_PRODUCTS: usize = 1_024;
@@ -20,7 +21,7 @@ pub enum Products {
 }
 
 /// No cell is passed over, whatever the others say: 17 goes by what remains at each of them.
-pub fn products(table: &Table, candidates: &[Term]) -> Products {
+pub fn products(table: &Table, candidates: &[Candidate]) -> Products {
     let cells = holders(table, candidates);
     if cells.iter().any(|holders| holders.is_empty()) {
         return Products::None;
@@ -38,7 +39,7 @@ pub fn products(table: &Table, candidates: &[Term]) -> Products {
 
 /// For each wanted cell, by vertex, then output, the candidates that hold it, each as a set of its
 /// own.
-pub fn holders(table: &Table, candidates: &[Term]) -> Vec<Vec<u64>> {
+pub fn holders(table: &Table, candidates: &[Candidate]) -> Vec<Vec<u64>> {
     let of_cell = |(v, j)| {
         let holding = (0..candidates.len()).filter(|&i| candidates[i].holds(v, j));
         holding.map(|i| 1 << i).collect()

@@ -1,8 +1,10 @@
 //! The record that a job leaves, as the text in which it is dumped. By K5 the weight stands beside
 //! each candidate; here it is worked out anew from term and prices, so that none can be left
-//! behind.
+//! behind. A block has its own.
 
+use super::candidate::Candidate;
 use super::job::{left_by, Outcome, Problem, LONGEST};
+use crate::report::hex;
 
 /// The outcome of a job over the longest buffer, and the text of the record that its last command
 /// left; None when it is more work than the reference takes on.
@@ -28,7 +30,7 @@ pub fn record(job: &[u8]) -> Option<(Outcome, String)> {
     Some((out, text))
 }
 
-/// The furthest that came: I, W, a row, a term, or a P, L, C or N.
+/// The furthest that came: I, W, a row, a term or block, or a P, L, C or N.
 fn place(problem: &Problem) -> usize {
     let came = [
         problem.table.is_some(),
@@ -52,14 +54,27 @@ fn rows(problem: &Problem) -> Vec<String> {
 
 fn candidates(problem: &Problem) -> Vec<String> {
     let mut lines = Vec::new();
-    for (i, t) in problem.candidates.iter().enumerate() {
-        lines.push(format!(
-            "candidate {i} care {:02x} value {:02x} outputs {:02x} weight {}",
-            t.care,
-            t.value,
-            t.outputs,
-            problem.prices().cost(t)
-        ));
+    for (i, candidate) in problem.candidates.iter().enumerate() {
+        let weight = problem.prices().cost_of(candidate);
+        let what = described(candidate);
+        lines.push(format!("candidate {i} {what} weight {weight}"));
     }
     lines
+}
+
+/// The three bytes of a term; of a block its outputs and the bytes of its vertices, as they came.
+fn described(candidate: &Candidate) -> String {
+    match candidate {
+        Candidate::Term(t) => format!(
+            "care {:02x} value {:02x} outputs {:02x}",
+            t.care, t.value, t.outputs
+        ),
+        Candidate::Block(b) => {
+            format!(
+                "block outputs {:02x} vertices {}",
+                b.outputs,
+                hex(&b.vertices)
+            )
+        }
+    }
 }

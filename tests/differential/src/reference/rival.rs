@@ -1,5 +1,6 @@
 //! The rival of demand 3: any list of legal terms that represents the table, not of primes only.
 
+use super::candidate::{of_terms, Candidate};
 use super::prices::Prices;
 use super::table::{Table, Term};
 
@@ -8,21 +9,22 @@ const MOST_CELLS: usize = 16;
 
 /// The rival's least cost where he is met: by K6 at connection price 0 only, as a prime may drive
 /// more outputs than he pays for.
-pub fn rival(table: &Table, prices: Prices, candidates: &[Term]) -> Option<u64> {
+pub fn rival(table: &Table, prices: Prices, candidates: &[Candidate]) -> Option<u64> {
     let met = prices.connection == 0;
     met.then(|| rival_at_any_price(table, prices, candidates))?
 }
 
 /// The same without K6's condition: where the table is small and the candidates are the primes.
-pub fn rival_at_any_price(table: &Table, prices: Prices, candidates: &[Term]) -> Option<u64> {
+pub fn rival_at_any_price(table: &Table, prices: Prices, candidates: &[Candidate]) -> Option<u64> {
     let small = table.cells().count() <= MOST_CELLS;
     (small && are_primes(table, candidates)).then(|| least_cost(table, prices))
 }
 
-/// Every prime stands among the candidates and nothing else does; order and repeats are free.
-fn are_primes(table: &Table, candidates: &[Term]) -> bool {
-    let primes = table.primes();
-    primes.iter().all(|p| candidates.contains(p)) && candidates.iter().all(|t| primes.contains(t))
+/// Every prime stands among the candidates and nothing else does; order and repeats are free. A
+/// block is no prime, whatever it holds: he draws product terms.
+fn are_primes(table: &Table, candidates: &[Candidate]) -> bool {
+    let primes = of_terms(&table.primes());
+    primes.iter().all(|p| candidates.contains(p)) && candidates.iter().all(|c| primes.contains(c))
 }
 
 /// The least cost over all lists that represent the table, which has few wanted cells.

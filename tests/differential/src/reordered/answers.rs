@@ -1,7 +1,7 @@
 //! The answers of both jobs, one L, C and N after the other.
 
 use super::{Held, Kind, Pair, CUT};
-use crate::charged::{charge, charge_set};
+use crate::charged::{charge_set, RIGHT};
 use crate::format::{number, sets};
 use crate::reference::{self, Outcome};
 use crate::walk::{walk, Query, Standing};
@@ -82,7 +82,7 @@ fn is_one_of(standing: &Standing, set: u64, cost: u64) -> bool {
     let sums = reference::sums(&standing.table, candidates);
     let mut members = (0..candidates.len()).filter(|i| set >> i & 1 == 1);
     let needed = members.all(|i| !reference::is_cover(&sums, set & !(1 << i)));
-    let due = charge_set(charge, standing.prices, candidates, set);
+    let due = charge_set(RIGHT, standing.prices, candidates, set);
     reference::is_cover(&sums, set) && needed && due == cost
 }
 

@@ -1,6 +1,6 @@
 //! What pairs of jobs were held to, by kinds.
 
-use super::{places, Pair};
+use super::{places, Pair, COME};
 use crate::format::cut;
 use std::collections::BTreeMap;
 
@@ -13,8 +13,9 @@ pub enum Kind {
     /// A T that has an equal T has another number, in jobs with other bytes and with the same.
     EqualsMoved,
     EqualsAlone,
-    /// A T comes to the other side of an A.
+    /// A T comes to the other side of an A, and of an F.
     Across,
+    AcrossBlock,
     /// A job has a query, an A behind it, and a query behind that.
     Between,
     /// Lists of the reference, and places where it has none.
@@ -48,7 +49,7 @@ const fn named(kind: Kind, name: &'static str, least: [usize; 2]) -> Named {
     Named { kind, name, least }
 }
 
-pub const KINDS: [Named; 18] = [
+pub const KINDS: [Named; 19] = [
     named(Kind::Pairs, "pairs of accepted jobs", [500, 500]),
     named(Kind::NoRoom, "other jobs refused with 14", [20, 10]),
     named(Kind::EqualsMoved, "pairs with equal T moved", [200, 100]),
@@ -58,6 +59,11 @@ pub const KINDS: [Named; 18] = [
         [50, 20],
     ),
     named(Kind::Across, "pairs with a T moved across an A", [200, 50]),
+    named(
+        Kind::AcrossBlock,
+        "pairs with a T moved across an F",
+        [200, 50],
+    ),
     named(Kind::Between, "pairs with an A between queries", [200, 20]),
     named(Kind::Listed, "lists of the reference", [500, 500]),
     named(Kind::Beyond, "lists that the reference can't have", [10, 0]),
@@ -100,20 +106,21 @@ impl Held {
     /// A pair of accepted jobs.
     pub fn count_pair(&mut self, pair: &Pair) {
         let commands = cut(&pair.jobs[0]).expect("accepted");
-        let all = places(&commands, b"TA");
+        let all = places(&commands, COME);
         let candidates: Vec<&[u8]> = all.iter().map(|&at| commands[at]).collect();
         let moved = || (0..candidates.len()).filter(|&i| pair.numbers[i] != i);
         let alike = |i: usize| candidates.iter().filter(|c| **c == candidates[i]).count();
         let equals = moved().any(|i| alike(i) > 1);
-        let across = |i: usize| {
+        let across = |i: usize, byte: u8| {
             let (low, high) = (i.min(pair.numbers[i]), i.max(pair.numbers[i]));
-            candidates[low..high].iter().any(|other| other[0] == b'A')
+            candidates[low..high].iter().any(|other| other[0] == byte)
         };
         let same_bytes = pair.jobs[0] == pair.jobs[1];
         self.count(Kind::Pairs, 1);
         self.count_if(Kind::EqualsMoved, equals && !same_bytes);
         self.count_if(Kind::EqualsAlone, equals && same_bytes);
-        self.count_if(Kind::Across, moved().any(across));
+        self.count_if(Kind::Across, moved().any(|i| across(i, b'A')));
+        self.count_if(Kind::AcrossBlock, moved().any(|i| across(i, b'F')));
         self.count_if(Kind::Between, asks_around_an_a(&commands));
     }
 }

@@ -1,7 +1,7 @@
 //! The whole lists of both jobs by an engine's own pages: each page in a further job that has the
 //! same commands before it, with the queries among them and without in turn.
 
-use super::{ask, Call, Held, Kind, Pair, CUT};
+use super::{ask, Call, Held, Kind, Pair, COME, CUT};
 use crate::format::{cut, sets};
 use crate::fresh::kept;
 use crate::generate::page;
@@ -59,7 +59,7 @@ fn places(job: &[u8], outcome: &Outcome) -> Option<Vec<Place>> {
         if query && changed {
             list.push(Place { at, answered });
         }
-        changed = !query && (changed || b"TA".contains(&command[0]));
+        changed = !query && (changed || COME.contains(&command[0]));
         answered += walk::width(command[0], &outcome.buffer[answered..outcome.written])?;
         at += command.len();
     }

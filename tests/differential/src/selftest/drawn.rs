@@ -2,8 +2,8 @@
 
 use super::Checks;
 use crate::exact::Search;
-use crate::generate::{drawn_prices, random_table, terms_for};
-use crate::reference::{self, Covers, Presence, Prices, Table, Term};
+use crate::generate::{drawn_prices, mixed, random_table, terms_for};
+use crate::reference::{self, of_terms, Candidate, Covers, Presence, Prices, Table};
 use crate::rng::Rng;
 
 pub fn run(checks: &mut Checks, rng: &mut Rng) {
@@ -38,7 +38,12 @@ fn two_ways(checks: &mut Checks, rng: &mut Rng) {
         "primes two ways",
         table.primes_by_terms() == table.primes_by_cubes(),
     );
-    let candidates = terms_for(rng, &table, 10);
+    let terms = terms_for(rng, &table, 10);
+    let candidates = if rng.chance(1, 2) {
+        mixed(rng, &table, &terms)
+    } else {
+        of_terms(&terms)
+    };
     let sums = reference::sums(&table, &candidates);
     by_points(checks, &table, &candidates, &sums);
     if !sums.contains(&0) {
@@ -54,7 +59,7 @@ fn two_ways(checks: &mut Checks, rng: &mut Rng) {
 }
 
 /// The presence function of document 000 against the cover test, at every set.
-fn by_points(checks: &mut Checks, table: &Table, candidates: &[Term], sums: &[u64]) {
+fn by_points(checks: &mut Checks, table: &Table, candidates: &[Candidate], sums: &[u64]) {
     let presence = Presence::new(table, candidates);
     let seen = presence.of_every_set(Presence::presence);
     let cover = |s: usize| reference::is_cover(sums, s as u64);
@@ -79,12 +84,12 @@ fn by_points(checks: &mut Checks, table: &Table, candidates: &[Term], sums: &[u6
 fn second_search(
     checks: &mut Checks,
     rng: &mut Rng,
-    candidates: &[Term],
+    candidates: &[Candidate],
     sums: &[u64],
     covers: &[u64],
 ) {
     let prices = any_prices(rng);
-    let costs: Vec<u64> = candidates.iter().map(|t| prices.cost(t)).collect();
+    let costs: Vec<u64> = candidates.iter().map(|c| prices.cost_of(c)).collect();
     let mut search = Search::new(sums, &costs);
     let start = rng.below(1 << candidates.len()) as u64;
     let most = rng.below(6);
@@ -125,7 +130,7 @@ fn rival_with_connections(checks: &mut Checks, rng: &mut Rng) -> bool {
 fn rival_and_cheapest(rng: &mut Rng, prices: Prices) -> (u64, u64) {
     let (n, m) = (rng.between(1, 3), rng.between(1, 2));
     let table = random_table(rng, n, m);
-    let primes = table.primes();
+    let primes = of_terms(&table.primes());
     let Covers::All(covers) = reference::irredundant_covers(&table, &primes) else {
         unreachable!("the primes hold each wanted cell, and are few");
     };

@@ -7,10 +7,10 @@ mod wrong;
 use super::{answer_all, both_wanted, bytes, example_rows, terms, Checks, LONGEST, TERMS};
 use crate::format::cut;
 use crate::generate::{
-    come, draft, every, exchanged, orders_on_purpose, page, reversed, rotated, row, sorted, term,
-    terms_of, Draft, Order, Ordered,
+    come, draft, every, exchanged, orders_on_purpose, page, ready, reversed, rotated, row, sorted,
+    term, terms_of, Draft, Order, Ordered,
 };
-use crate::reference::Outcome;
+use crate::reference::{Block, Outcome};
 use crate::reordered::{by_engine, by_reference, may_refuse, Held, Kind, Pair};
 use crate::rng::Rng;
 use engines::{call, right};
@@ -81,9 +81,18 @@ fn one_wanted(list: &[[u8; 3]]) -> Draft {
 /// Of two inputs vertices 0, 1 and 2 are wanted. Two terms by T have 0 and one other, a term by A
 /// between them has 1 alone, and behind the first queries one by A has 2 alone.
 fn around_an_a(first: [u8; 3], second: [u8; 3]) -> Draft {
+    around(come(3, 1, 1), first, second)
+}
+
+/// The same with a block of vertex 1 for nothing.
+fn around_an_f(first: [u8; 3], second: [u8; 3]) -> Draft {
+    around(ready(&Block::new(1, [1], 0)), first, second)
+}
+
+fn around(middle: Vec<u8>, first: [u8; 3], second: [u8; 3]) -> Draft {
     let rows = vec![row(0, 1, 0), row(1, 1, 0), row(2, 1, 0)];
     let by_term = |t: [u8; 3]| term(t[0], t[1], t[2]);
-    let candidates = vec![by_term(first), come(3, 1, 1), by_term(second)];
+    let candidates = vec![by_term(first), middle, by_term(second)];
     draft(2, 1, [rows, candidates, ask(), vec![come(3, 2, 1)], ask()])
 }
 
@@ -167,6 +176,21 @@ fn by_hand() -> Vec<ByHand> {
             ],
             other_sets: 0,
         },
+        // The block keeps its place and number, and is the cheaper beside b.
+        ByHand {
+            name: "an F between two T",
+            jobs: [
+                around_an_f([2, 0, 1], [1, 0, 1]),
+                around_an_f([1, 0, 1], [2, 0, 1]),
+            ],
+            order: reversed(2),
+            numbers: &[2, 1, 0, 3],
+            answers: vec![
+                [(&[5, 6], 1, 6), (&[3, 5], 1, 3)],
+                [(&[5, 6, 9], 1, 6), (&[3, 5, 12], 1, 3)],
+            ],
+            other_sets: 0,
+        },
     ]
 }
 
@@ -241,7 +265,7 @@ fn refusals(checks: &mut Checks) {
         written: 0,
         buffer: Vec::new(),
     };
-    for number in 1..=17 {
+    for number in 1..=18 {
         let may = may_refuse(&job, &refused(number, 23));
         checks.check("what may come in another order", may == (number == 14));
     }

@@ -3,7 +3,7 @@
 
 use super::{answers, marked, Checks};
 use crate::implicants;
-use crate::reference::{self, Outcome, Presence, Table, Term, LONGEST};
+use crate::reference::{self, Candidate, Outcome, Presence, Table, LONGEST};
 use crate::walk::walk;
 
 /// The presence of each set by its number from 0 on, by paper 01 and as the delta would have it. In
@@ -61,7 +61,7 @@ fn outcome(job: &[u8]) -> Outcome {
 }
 
 /// Table and candidates of a marked case.
-fn problem(case: char) -> (Table, Vec<Term>) {
+fn problem(case: char) -> (Table, Vec<Candidate>) {
     let job = marked(case).job();
     let outcome = outcome(&job);
     let standing = walk(&job, &outcome).expect("sound answers").remove(0);

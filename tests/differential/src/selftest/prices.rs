@@ -1,7 +1,7 @@
 //! W on small tables, worked out by hand from K6.
 
 mod dumps;
-mod engines;
+pub mod engines;
 mod wrong;
 
 use super::{

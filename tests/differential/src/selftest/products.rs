@@ -9,12 +9,12 @@ mod wrong;
 use super::{both_wanted, bytes, example_primes, marked, terms, Checks, LONGEST};
 use crate::format::sets;
 use crate::generate::{
-    by_orders, counted, draft, drawn_plan, page, random_table, row, terms_for, Draft, Plan,
+    by_orders, counted, draft, drawn_plan, mixed, page, random_table, row, terms_for, Draft, Plan,
 };
 use crate::products;
 use crate::reference::{
-    self, holders, joined, next_by_pairs, next_by_size, Covers, Products, Table, Term,
-    MOST_PRODUCTS,
+    self, holders, joined, next_by_pairs, next_by_size, of_terms, Candidate, Covers, Products,
+    Table, MOST_PRODUCTS,
 };
 use crate::rng::Rng;
 use crate::walk::walk;
@@ -84,7 +84,7 @@ const REMAIN: [(char, &[&[u64]]); 6] = [
 ];
 
 /// Table and candidates of a job at its first query.
-fn problem(job: &[u8]) -> (Table, Vec<Term>) {
+fn problem(job: &[u8]) -> (Table, Vec<Candidate>) {
     let outcome = reference::run(job, &[0; LONGEST]).expect("small enough");
     let standing = walk(job, &outcome).expect("sound answers").remove(0);
     (standing.table, standing.candidates)
@@ -201,7 +201,7 @@ fn beside_pages(checks: &mut Checks) {
 }
 
 /// How many products remain at each cell, without a limit.
-fn remain(table: &Table, candidates: &[Term]) -> Vec<usize> {
+fn remain(table: &Table, candidates: &[Candidate]) -> Vec<usize> {
     Engine::with(Mistake::Nothing).counts(table, candidates)
 }
 
@@ -209,6 +209,7 @@ fn remain(table: &Table, candidates: &[Term]) -> Vec<usize> {
 fn counts(checks: &mut Checks) {
     for (plan, count) in counted() {
         let (table, terms) = plan.made();
+        let terms = of_terms(&terms);
         checks.check("up to 64 candidates", terms.len() <= 64);
         if count <= 3_000 {
             let counts = remain(&table, &terms);
@@ -223,6 +224,7 @@ fn counts(checks: &mut Checks) {
 fn orders(checks: &mut Checks) {
     for (name, plan, due) in by_orders() {
         let (table, terms) = plan.made();
+        let terms = of_terms(&terms);
         let seen = matches!(reference::products(&table, &terms), Products::All(_));
         checks.check(name, seen == due);
         let counts = remain(&table, &terms);
@@ -303,7 +305,12 @@ fn drawn(checks: &mut Checks, rng: &mut Rng) {
     for _ in 0..300 {
         let (n, m) = (rng.between(1, 4), rng.between(1, 4));
         let table = random_table(rng, n, m);
-        let candidates = terms_for(rng, &table, 12);
+        let terms = terms_for(rng, &table, 12);
+        let candidates = if rng.chance(1, 2) {
+            mixed(rng, &table, &terms)
+        } else {
+            of_terms(&terms)
+        };
         let due = match reference::irredundant_covers(&table, &candidates) {
             Covers::None => Products::None,
             Covers::All(covers) => Products::All(covers),
@@ -315,6 +322,7 @@ fn drawn(checks: &mut Checks, rng: &mut Rng) {
     let mut seen = [0; 2];
     for _ in 0..40 {
         let (table, terms) = drawn_plan(rng).widened(rng);
+        let terms = of_terms(&terms);
         let counts = remain(&table, &terms);
         let due = counts.iter().all(|&count| count <= MOST_PRODUCTS);
         let answered = matches!(reference::products(&table, &terms), Products::All(_));

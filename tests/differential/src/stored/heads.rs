@@ -3,13 +3,17 @@
 
 use super::Problem;
 use crate::format::{cut, BLOCK};
-use crate::generate::{block, come, go, pairs, prices, row};
-use crate::reference::Term;
+use crate::generate::{block, come, go, pairs, prices, put, row};
+use crate::reference::Candidate;
 
 /// The head, and the first candidate taken out and put in behind the others until each has had its
-/// turn: the same stand again, in the same order.
+/// turn: the same stand again, in the same order. A block comes by F, as no P stands before it.
 pub fn turned(problem: &Problem) -> Vec<u8> {
-    let turn = |t: &Term| [go(0), come(t.care, t.value, t.outputs)].concat();
+    let again = |candidate: &Candidate| match candidate {
+        Candidate::Term(t) => come(t.care, t.value, t.outputs),
+        Candidate::Block(_) => put(candidate),
+    };
+    let turn = |candidate: &Candidate| [go(0), again(candidate)].concat();
     let turns = problem.candidates.iter().flat_map(turn).collect();
     [problem.head.clone(), turns].concat()
 }

@@ -1,7 +1,7 @@
 //! What the drawn jobs have met of W: a run fails where one of these never came.
 
 use super::never;
-use crate::charged::{self, charge_set, WRONG};
+use crate::charged::{self, charge_set, Way, WRONG};
 use crate::listing;
 use crate::reference::{self, Asked, Prices, Query};
 
@@ -50,7 +50,8 @@ impl Priced {
         }
         let operands = [prices.term, prices.literal, prices.connection];
         for (i, (_, way)) in WRONG.iter().enumerate() {
-            let by_way = |set: u64| (charge_set(*way, operands, candidates, set), set);
+            let way = Way::of_terms(*way);
+            let by_way = |set: u64| (charge_set(way, operands, candidates, set), set);
             let least = covers.iter().map(|&set| by_way(set)).min();
             self.wrong[i] += usize::from(least != Some((cost, set)));
         }

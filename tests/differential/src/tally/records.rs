@@ -60,8 +60,9 @@ impl Records {
         values.dedup();
         self.three_weights += usize::from(values.len() >= 3);
         let usual = held.weights.prices == [1, 1, 0];
-        for candidate in candidates.iter().filter(|c| usual && c.weight == 1) {
-            self.weight_one[literals(candidate)] += 1;
+        let of_one = candidates.iter().filter(|c| usual && c.weight == 1);
+        for literals in of_one.filter_map(literals) {
+            self.weight_one[literals] += 1;
         }
         if !usual {
             self.priced.add(job, held);
@@ -129,23 +130,26 @@ impl Records {
     }
 }
 
-fn literals(candidate: &Weighed) -> usize {
-    candidate.term.care.count_ones() as usize
+/// The literals of a term, None for a block.
+fn literals(weighed: &Weighed) -> Option<usize> {
+    let term = weighed.candidate.term();
+    term.map(|t| t.care.count_ones() as usize)
 }
 
 impl Priced {
     fn add(&mut self, job: &[u8], held: &Held) {
         let candidates = &held.weights.candidates;
-        let usual = |c: &Weighed| Prices::USUAL.cost(&c.term);
+        let usual = |c: &Weighed| Prices::USUAL.cost_of(&c.candidate);
         let dearer = |c: &Weighed| {
-            let alike = |d: &&Weighed| literals(d) == literals(c);
+            let alike = |d: &&Weighed| literals(d).is_some() && literals(d) == literals(c);
             candidates.iter().filter(alike).any(|d| d.weight < c.weight)
         };
         let last = format::cut(&job[..held.outcome.offset]);
         let last = last.and_then(|commands| commands.last().map(|command| command[0]));
         self.jobs += usize::from(!candidates.is_empty());
         self.other_weights += usize::from(candidates.iter().any(|c| c.weight != usual(c)));
-        self.free += usize::from(candidates.iter().any(|c| c.weight == 0));
+        let free = |c: &Weighed| c.weight == 0 && literals(c).is_some();
+        self.free += usize::from(candidates.iter().any(free));
         self.by_outputs += usize::from(candidates.iter().any(dearer));
         self.behind_prices += usize::from(last == Some(b'W'));
     }
@@ -177,7 +181,7 @@ impl Behind {
         let (mut standing, mut primes, mut come, mut moved) = (0, false, false, false);
         for command in commands {
             match command[0] {
-                b'T' | b'A' => {
+                b'T' | b'A' | b'F' => {
                     come |= primes;
                     standing += 1;
                 }

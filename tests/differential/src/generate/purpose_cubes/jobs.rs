@@ -8,7 +8,7 @@ use crate::generate::draft::{block, come, draft, go, row};
 use crate::generate::purpose::{add, primes};
 use crate::generate::tables::{pairs, random_table, rows};
 use crate::generate::Case;
-use crate::reference::{irredundant_covers, Covers, Table, Term, LONGEST};
+use crate::reference::{irredundant_covers, of_terms, Covers, Table, Term, LONGEST};
 use crate::rng::Rng;
 use crate::selftest::ask_all;
 
@@ -36,8 +36,8 @@ fn small_table(rng: &mut Rng, n: usize) -> (Table, Vec<Term>) {
             union(rng, n, m)
         };
         let found = table.primes();
-        if (1..=64).contains(&found.len()) && irredundant_covers(&table, &found) != Covers::TooMany
-        {
+        let few = (1..=64).contains(&found.len());
+        if few && irredundant_covers(&table, &of_terms(&found)) != Covers::TooMany {
             return (table, found);
         }
     }

@@ -4,10 +4,10 @@
 use super::{add, Ordered};
 use crate::generate::draft::{draft, page, Draft};
 use crate::generate::drawn_plan;
-use crate::generate::products::{job_of, Plan};
+use crate::generate::products::{job_with, Plan};
 use crate::generate::purpose::{all_wanted, minterms};
 use crate::generate::term;
-use crate::reference::{products, Products};
+use crate::reference::{of_terms, products, Products};
 use crate::rng::Rng;
 
 type Commands = Vec<Vec<u8>>;
@@ -56,8 +56,13 @@ fn of_factors(rng: &mut Rng, list: &mut Vec<Ordered>) {
 
 fn of_plan(rng: &mut Rng, list: &mut Vec<Ordered>, plan: &Plan) {
     let (table, terms) = plan.widened(rng);
-    let answered = matches!(products(&table, &terms), Products::All(_));
-    let mut job = job_of(rng, &table, &terms, asked(answered));
+    let mut candidates = of_terms(&terms);
+    if rng.chance(1, 3) {
+        // Two T commands are left.
+        candidates[2..].copy_from_slice(&plan.with_blocks(rng, &terms)[2..]);
+    }
+    let answered = matches!(products(&table, &candidates), Products::All(_));
+    let mut job = job_with(rng, &table, &candidates, asked(answered));
     if rng.chance(2, 3) {
         by_changes(rng, &mut job);
     }

@@ -8,7 +8,7 @@ use crate::generate::products::{drawn_plan, job_of, Plan};
 use crate::generate::purpose::{add, primes};
 use crate::generate::tables::{random_table, rows, table_of_terms, terms_for};
 use crate::generate::{drawn_prices, Case};
-use crate::reference::{products, Products, Table, Term, LONGEST, MOST_PRODUCTS};
+use crate::reference::{of_terms, products, Products, Table, Term, LONGEST, MOST_PRODUCTS};
 use crate::rng::Rng;
 use crate::selftest::{ask_all, odd_parity};
 
@@ -25,7 +25,7 @@ pub fn of_jobs(rng: &mut Rng, list: &mut Vec<Case>) {
 
 /// The whole list in pages of this count, as L has it.
 fn pages(table: &Table, terms: &[Term], count: u8) -> Commands {
-    let Products::All(sets) = products(table, terms) else {
+    let Products::All(sets) = products(table, &of_terms(terms)) else {
         return Vec::new();
     };
     let parts = sets.chunks(count.into());

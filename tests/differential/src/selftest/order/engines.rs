@@ -3,14 +3,14 @@
 
 use crate::engine::Seen;
 use crate::format::{cut, number};
-use crate::generate::Case;
-use crate::reference::{self, Asked, Covers, Outcome, Prices, Query, Table, Term};
+use crate::generate::{put, Case};
+use crate::reference::{self, Asked, Candidate, Covers, Outcome, Prices, Query, Table};
 
 /// What stands at a query.
 pub struct At<'a> {
     pub table: &'a Table,
     pub prices: Prices,
-    pub candidates: &'a [Term],
+    pub candidates: &'a [Candidate],
     /// Whether each came by T.
     pub by_term: &'a [bool],
 }
@@ -73,7 +73,7 @@ fn answered(mistake: Mistake, asked: &Asked, job: &[u8], before: &[u8]) -> Outco
 /// The answer to a query, or its refusal.
 fn told(mistake: Mistake, asked: &Asked, query: &Query, head: &[u8]) -> Result<Vec<u8>, u64> {
     let commands = cut(head).expect("a sound job");
-    let came = commands.iter().filter(|c| b"TA".contains(&c[0]));
+    let came = commands.iter().filter(|c| b"TAF".contains(&c[0]));
     let by_term: Vec<bool> = came.map(|c| c[0] == b'T').collect();
     let at = At {
         table: &asked.table,
@@ -139,8 +139,8 @@ impl Told {
     }
 }
 
-fn key(t: &Term) -> [u8; 3] {
-    [t.care, t.value, t.outputs]
+fn key(candidate: &Candidate) -> Vec<u8> {
+    put(candidate)
 }
 
 /// Something of the order that a reordering can change.

@@ -16,7 +16,7 @@ const PAIRS: usize = 700;
 /// What is made of a right pair; None where that would be no other pair.
 type Spoil = fn(&Pair) -> Option<Pair>;
 
-const SPOILT: [(&str, &str, Spoil); 5] = [
+const SPOILT: [(&str, &str, Spoil); 6] = [
     (
         "numbers the wrong way round",
         "the example rotated",
@@ -28,6 +28,7 @@ const SPOILT: [(&str, &str, Spoil); 5] = [
         looked_up,
     ),
     ("an A that moves too", "an A between two T", with_a_moved),
+    ("an F that moves too", "an F between two T", with_f_moved),
     (
         "an output less on the way",
         "the example rotated",
@@ -62,7 +63,7 @@ fn small(on_purpose: &[Ordered]) -> Vec<Pair> {
     let mut list = Vec::new();
     for Ordered { case, orders } in on_purpose {
         let commands = cut(&case.job).expect("a sound job");
-        let candidates = commands.iter().filter(|c| b"TA".contains(&c[0]));
+        let candidates = commands.iter().filter(|c| b"TAF".contains(&c[0]));
         if candidates.count() <= FEW {
             let pairs = orders.iter().map(|order| Pair::new(&case.job, order));
             list.extend(pairs);
@@ -126,7 +127,7 @@ fn unmoved(pair: &Pair) -> Option<Pair> {
 
 fn candidates(job: &[u8]) -> Vec<&[u8]> {
     let mut commands = cut(job).expect("a sound job");
-    commands.retain(|command| b"TA".contains(&command[0]));
+    commands.retain(|command| b"TAF".contains(&command[0]));
     commands
 }
 
@@ -139,8 +140,17 @@ fn looked_up(pair: &Pair) -> Option<Pair> {
 
 /// The first A behind a T changes places with it.
 fn with_a_moved(pair: &Pair) -> Option<Pair> {
+    with_moved(pair, b'A')
+}
+
+/// The first F.
+fn with_f_moved(pair: &Pair) -> Option<Pair> {
+    with_moved(pair, b'F')
+}
+
+fn with_moved(pair: &Pair, byte: u8) -> Option<Pair> {
     let mut commands = cut(&pair.jobs[1]).expect("a sound job");
-    let behind = |two: &[&[u8]]| [two[0][0], two[1][0]] == *b"TA";
+    let behind = |two: &[&[u8]]| [two[0][0], two[1][0]] == [b'T', byte];
     let place = commands.windows(2).position(behind)?;
     commands.swap(place, place + 1);
     Some(Pair {

@@ -1,7 +1,7 @@
 //! Engines that read K6 wrongly, made of the reference: they get another job, or their outcome is
 //! changed.
 
-use crate::charged::{charge_set, WRONG};
+use crate::charged::{charge_set, Way, WRONG};
 use crate::format;
 use crate::reference::{self, Asked, Covers, Outcome, Query, HIGHEST, LONGEST};
 use crate::walk;
@@ -14,7 +14,7 @@ pub fn right(job: &[u8]) -> Outcome {
 }
 
 /// The whole commands at the head of a job, each with its offset.
-fn commands(job: &[u8]) -> Vec<(usize, &[u8])> {
+pub fn commands(job: &[u8]) -> Vec<(usize, &[u8])> {
     let mut list = Vec::new();
     let mut at = 0;
     while let Some(command) = job.get(at).and_then(|&byte| format::find(byte)) {
@@ -76,6 +76,7 @@ pub fn taken_behind() -> Vec<(String, Engine)> {
 pub fn at_cheapest() -> Vec<(String, Engine)> {
     let mut list: Vec<(String, Engine)> = Vec::new();
     for (name, way) in WRONG {
+        let way = Way::of_terms(way);
         let told = move |asked: &Asked, query: &Query, covers: &[u64]| {
             let p = asked.prices;
             let list = [p.term, p.literal, p.connection];
@@ -166,7 +167,7 @@ fn moved(job: &[u8], byte: u8) -> Vec<u8> {
     }
 }
 
-fn with_number(job: &[u8], number: u64, change: impl Fn(&mut Outcome)) -> Outcome {
+pub fn with_number(job: &[u8], number: u64, change: impl Fn(&mut Outcome)) -> Outcome {
     let mut out = right(job);
     if out.number == number {
         change(&mut out);
@@ -204,7 +205,7 @@ pub fn without(job: &[u8]) -> Outcome {
 }
 
 /// An accepted job with another cost and set in each answer to C.
-fn with_cheapest(job: &[u8], told: impl Fn(&Asked, &Query, &[u64]) -> (u64, u64)) -> Outcome {
+pub fn with_cheapest(job: &[u8], told: impl Fn(&Asked, &Query, &[u64]) -> (u64, u64)) -> Outcome {
     let mut out = right(job);
     let Some(asked) = reference::asked(job).filter(|_| out.number == 0) else {
         return out;
@@ -248,7 +249,7 @@ fn last_among_equals(job: &[u8]) -> Outcome {
 fn all_that_is_free(job: &[u8]) -> Outcome {
     with_cheapest(job, |asked, query, covers| {
         let least = reference::cheapest(asked.prices, &query.candidates, covers);
-        let costs = query.candidates.iter().map(|t| asked.prices.cost(t));
+        let costs = query.candidates.iter().map(|c| asked.prices.cost_of(c));
         let free = costs.enumerate().filter(|(_, cost)| *cost == 0);
         match least {
             (0, _) => (0, free.map(|(i, _)| 1 << i).sum()),

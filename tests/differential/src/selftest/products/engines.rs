@@ -2,7 +2,7 @@
 //! remains is counted apart from the limit.
 
 use super::mistakes::Mistake::{self, *};
-use crate::reference::{Cell, Table, Term};
+use crate::reference::{Candidate, Cell, Table};
 
 /// More products than these are not gone on with.
 const ENOUGH: usize = 4_200;
@@ -20,7 +20,7 @@ impl Engine {
     }
 
     /// What N gives over so many free bytes; None where a wrong engine is given up.
-    pub fn answer(&self, table: &Table, candidates: &[Term], free: usize) -> Option<Answer> {
+    pub fn answer(&self, table: &Table, candidates: &[Candidate], free: usize) -> Option<Answer> {
         let cells = self.cells(table, candidates);
         let unheld = cells.contains(&0);
         if unheld && self.mistake != TooManyFirst {
@@ -43,7 +43,7 @@ impl Engine {
     }
 
     /// How many products remain at each cell, up to the first at which they are too many to go on.
-    pub fn counts(&self, table: &Table, candidates: &[Term]) -> Vec<usize> {
+    pub fn counts(&self, table: &Table, candidates: &[Candidate]) -> Vec<usize> {
         let mut products = vec![0];
         let mut counts = Vec::new();
         for cell in self.cells(table, candidates) {
@@ -57,9 +57,9 @@ impl Engine {
     }
 
     /// The holders of each cell, in the order in which the cells are taken.
-    fn cells(&self, table: &Table, candidates: &[Term]) -> Vec<u64> {
+    fn cells(&self, table: &Table, candidates: &[Candidate]) -> Vec<u64> {
         let mut places: Vec<(usize, usize)> = table.cells().collect();
-        let held = |v, j| candidates.iter().any(|t| t.holds(v, j));
+        let held = |v, j| candidates.iter().any(|c| c.holds(v, j));
         places.retain(|&(v, j)| match table.cell(v, j) {
             Cell::Wanted => true,
             Cell::Free => self.mistake == FreeToo && held(v, j),

@@ -5,11 +5,11 @@ use super::mistakes::{Mistake, MISTAKES};
 use super::{answer, Checks, LONGEST};
 use crate::engine::Seen;
 use crate::format;
-use crate::generate::{products_on_purpose, Case};
+use crate::generate::{products_on_purpose, put, Case};
 use crate::implicants;
 use crate::listing;
 use crate::products;
-use crate::reference::{self, Outcome, Table, Term};
+use crate::reference::{self, Candidate, Outcome, Table};
 use crate::rng::Rng;
 use crate::selftest::priced;
 use crate::walk::walk;
@@ -23,7 +23,7 @@ struct Job {
     /// The job before it, without queries.
     head: Vec<u8>,
     table: Table,
-    candidates: Vec<Term>,
+    candidates: Vec<Candidate>,
     free: usize,
     due: Answer,
 }
@@ -91,10 +91,7 @@ fn jobs(cases: &[(Case, Outcome)]) -> Vec<Job> {
                     Err(_) => case.room - out.written,
                 };
                 let due = query.answer.map(<[u8]>::to_vec);
-                let bytes: Vec<[u8; 3]> = candidates
-                    .iter()
-                    .map(|t| [t.care, t.value, t.outputs])
-                    .collect();
+                let bytes: Vec<Vec<u8>> = candidates.iter().map(put).collect();
                 let key = (table.n, table.m, table.on, table.dc, bytes, free);
                 list.entry(key).or_insert(Job {
                     head: head(&table, &candidates),
@@ -113,12 +110,11 @@ fn jobs(cases: &[(Case, Outcome)]) -> Vec<Job> {
 }
 
 /// A job up to its queries.
-fn head(table: &Table, candidates: &[Term]) -> Vec<u8> {
+fn head(table: &Table, candidates: &[Candidate]) -> Vec<u8> {
     let mut job = vec![b'I', table.n as u8, table.m as u8];
     let with_row = (0..table.vertices()).filter(|&v| table.on[v] | table.dc[v] != 0);
     with_row.for_each(|v| job.extend([b'R', v as u8, table.on[v], table.dc[v]]));
-    let terms = candidates.iter();
-    terms.for_each(|t| job.extend([b'T', t.care, t.value, t.outputs]));
+    candidates.iter().for_each(|c| job.extend(put(c)));
     job
 }
 

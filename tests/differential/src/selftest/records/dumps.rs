@@ -1,7 +1,7 @@
 //! What is said of a dump: a right one passes, a wrong one is seen.
 
 use crate::dump::{compare, Weighed, Weights};
-use crate::reference::{self, Term};
+use crate::reference::{self, Candidate, Term};
 use crate::selftest::{bytes, Checks, EXAMPLE};
 
 pub fn run(checks: &mut Checks) {
@@ -27,14 +27,14 @@ fn charged(checks: &mut Checks) {
             format!("place 4\nprices 1 1 0\n{line}\n")
         };
         let as_expected = |weight| compare(&text(weight), &text(weight));
-        let term = Term {
+        let candidate = Candidate::Term(Term {
             care,
             value: 0,
             outputs: 1,
-        };
+        });
         let due = Weights {
             prices: [1, 1, 0],
-            candidates: vec![Weighed { term, weight }],
+            candidates: vec![Weighed { candidate, weight }],
         };
         let right = as_expected(weight) == Ok(due);
         checks.check(&format!("weight of care {care:02x}"), right);
