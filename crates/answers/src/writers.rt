@@ -7,7 +7,7 @@ ghost use Prim.Native.Nat.{_+_, _*_, _≤_, _<_};
 ghost use lib.ListN.{length, take};
 ghost use Rattle.model.specs.Base.{join};
 ghost use Rattle.model.specs.Commands.{low};
-ghost use Rattle.model.specs.Answers.{Answer, bytesOf, termBytes};
+ghost use Rattle.model.specs.Answers.{Answer, bytesOf, pageOf, termBytes};
 ghost use Rattle.answers.specs.Writers.{InFront, Replied};
 use model::Term;
 
@@ -87,20 +87,36 @@ fn flag(b: bool) -> u8
     if b { 1 } else { 0 }
 }
 
-// L's answer: the first k sets, and whether more stand above.
-pub fn put_page(free: &mut [u8], sets: &[u64], k: usize, more: bool) -> Reply
+// A page behind its first byte: the first k sets, and whether more stand above.
+fn put_page_of(free: &mut [u8], code: u8, sets: &[u64], k: usize, more: bool) -> Reply
     requires { ⌜ (k ≤ length (now sets)) × (k ≤ 255) ⌝ }
-    ensures { λ r. ⌜ Replied (bytesOf (Answer.paged (take k (now (sets .entry))) more)) (now (free .entry)) (now (free .exit)) r ⌝ }
+    ensures { λ r. ⌜ Replied (pageOf code (take k (now (sets .entry))) more) (now (free .entry)) (now (free .exit)) r ⌝ }
 {
     let len = 3 + 8 * k;
     if free.len() < len {
         return Reply::TooLong;
     }
-    free[0] = 0x6c;
+    free[0] = code;
     free[1] = k as u8;
     free[2] = flag(more);
     put_sets(&mut free[3..], sets, k);
     Reply::Written(len)
+}
+
+// L's answer.
+pub fn put_page(free: &mut [u8], sets: &[u64], k: usize, more: bool) -> Reply
+    requires { ⌜ (k ≤ length (now sets)) × (k ≤ 255) ⌝ }
+    ensures { λ r. ⌜ Replied (bytesOf (Answer.paged (take k (now (sets .entry))) more)) (now (free .entry)) (now (free .exit)) r ⌝ }
+{
+    put_page_of(free, 0x6c, sets, k, more)
+}
+
+// V's answer.
+pub fn put_possible_page(free: &mut [u8], sets: &[u64], k: usize, more: bool) -> Reply
+    requires { ⌜ (k ≤ length (now sets)) × (k ≤ 255) ⌝ }
+    ensures { λ r. ⌜ Replied (bytesOf (Answer.possiblePaged (take k (now (sets .entry))) more)) (now (free .entry)) (now (free .exit)) r ⌝ }
+{
+    put_page_of(free, 0x76, sets, k, more)
 }
 
 // C's answer.

@@ -1,4 +1,4 @@
-// Runs the paper's marked cases and run cases, and one with blocks, as jobs in files, and prints what the engine returns and writes.
+// Runs the paper's marked cases and run cases, one with blocks and one with ranges of prices, as jobs in files, and prints what the engine returns and writes.
 use libc::STDOUT_FILENO;
 
 // Runs the job and prints its result; of more than 1,000 answer bytes only how many.
@@ -34,6 +34,7 @@ fn main() {
     show(b"parity_7.job");
     show(b"parity_8.job");
     show(b"ready_made.job");
+    show(b"price_ranges.job");
     show(b"no_bytes.job");
     show(b"longest.job");
     show(b"too_long.job");

@@ -3,3 +3,4 @@ pub mod Parting
 pub mod Following
 pub mod FirstCover
 pub mod Optimality
+pub mod Limiting

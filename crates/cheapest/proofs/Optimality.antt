@@ -26,7 +26,7 @@ use Rattle.rows.proofs.Bridge.{cover-to, cover-from, of-rows-size}
 
 -- ---- costs
 
-sum-cost : (ws : List ℕ) (s : ℕ) → sum (λ x. x) (members ws s) ≡ costOf ws s
+pub sum-cost : (ws : List ℕ) (s : ℕ) → sum (λ x. x) (members ws s) ≡ costOf ws s
 unfolding costOf
 sum-cost [] s = refl
 sum-cost (w ∷ ws) s = go (yes-or-no (bit 0 s)) (sum-cost ws (s / 2))

@@ -103,7 +103,7 @@ module _ (rows costs : List ℕ) (s free a b : ℕ) (apart : bitAnd s free ≡ 0
         omega (arith, bits c .0, bits c .1, digit-and c p a, digit-lt c p, digit-lt c a)
 
     -- what is found from s | q lies between s and s | free
-    from-this : (t : ℕ) → CoverBetween rows (bitOr s q) b t → CoverBetween rows s free t
+    pub from-this : (t : ℕ) → CoverBetween rows (bitOr s (bitAnd p a)) b t → CoverBetween rows s free t
     unfolding q CoverBetween
     from-this t r = (
       r .0,

@@ -18,7 +18,7 @@ use Rattle.cheapest_bounds.proofs.Costing.{cost-join, cost-fits}
 
 module _ (rows : List ℕ) (s free m rest : ℕ) (one : Member free m) (d : Minus free m rest) (t : ℕ) where
   -- a cover there has m or not
-  reached-with : bitAnd m t ≡ m → CoverBetween rows s free t → CoverBetween rows (bitOr s m) rest t
+  pub reached-with : bitAnd m t ≡ m → CoverBetween rows s free t → CoverBetween rows (bitOr s m) rest t
   unfolding CoverBetween Between Minus
   reached-with p r = (
     r .0,
@@ -29,7 +29,7 @@ module _ (rows : List ℕ) (s free m rest : ℕ) (one : Member free m) (d : Minu
     ),
   )
 
-  reached-without : (bitAnd m t ≡ m → ⊥) → CoverBetween rows s free t → CoverBetween rows s rest t
+  pub reached-without : (bitAnd m t ≡ m → ⊥) → CoverBetween rows s free t → CoverBetween rows s rest t
   unfolding CoverBetween Between Minus Single Part
   reached-without n r = (
     r .0,
@@ -49,7 +49,7 @@ module _ (rows : List ℕ) (s free m rest : ℕ) (one : Member free m) (d : Minu
           by-members m t (λ c h. subst (λ (j : ℕ). digit j t ≡ 1) (is b e ∙ sym (is c h)) q)
 
   -- and what is found with it or without it lies there
-  from-with : CoverBetween rows (bitOr s m) rest t → CoverBetween rows s free t
+  pub from-with : CoverBetween rows (bitOr s m) rest t → CoverBetween rows s free t
   unfolding CoverBetween Between Minus
   from-with r = (
     r .0,
@@ -62,7 +62,7 @@ module _ (rows : List ℕ) (s free m rest : ℕ) (one : Member free m) (d : Minu
     ),
   )
 
-  from-without : CoverBetween rows s rest t → CoverBetween rows s free t
+  pub from-without : CoverBetween rows s rest t → CoverBetween rows s free t
   unfolding CoverBetween Between Minus
   from-without r = (
     r .0,

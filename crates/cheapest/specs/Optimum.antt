@@ -35,6 +35,12 @@ pub record Valued (rows costs : List ℕ) (s free : ℕ) (best r : Incumbent) : 
   pub found : (r ≡ best) ⊎ (Attained rows costs s free r × (r .cost < best .cost))
   pub least : (t : ℕ) → CoverBetween rows s free t → r .cost ≤ costOf costs t
 
+-- r is a cover between s and s | free that costs less than limit; or its cost is limit, and none there costs less
+pub record Below (rows costs : List ℕ) (s free limit : ℕ) (r : Incumbent) : Type 0 where
+  pub within : r .cost ≤ limit
+  pub found : r .cost < limit → Attained rows costs s free r
+  pub none : limit ≤ r .cost → (t : ℕ) → CoverBetween rows s free t → limit ≤ costOf costs t
+
 -- best is a cover below 2^n, and none costs less
 pub record LeastCost (rows costs : List ℕ) (n : ℕ) (best : Incumbent) : Type 0 where
   pub below : best .set < 2 ^ n

@@ -18,7 +18,7 @@ pub enum Optimum {
 }
 
 // The cheapest cover between s and s | free if it costs less than best, else best. cost is that of s, and unit measures the costs.
-fn value(
+pub fn value(
     rows: &[u64],
     costs: &[u16],
     unit: u64,

@@ -24,7 +24,7 @@ of-dvd u c d = (c / u, sym (div-mul-cancel u d))
 multiple-zero : (u c : ℕ) → c ≡ 0 → Multiple u c
 multiple-zero u c z = of-dvd u c (subst (λ (x : ℕ). u ∣ x) (sym z) (dvd-zero u))
 
-multiple-one : (u c : ℕ) → u ≡ 1 → Multiple u c
+pub multiple-one : (u c : ℕ) → u ≡ 1 → Multiple u c
 multiple-one u c e = of-dvd u c (subst (λ (x : ℕ). x ∣ c) (sym e) (one-dvd c))
 
 zero-of : (u c : ℕ) → u ≡ 0 → Multiple u c → c ≡ 0
@@ -89,7 +89,8 @@ folded-one {costs} {n} {u} h le e = record {
 
 -- ---- the unit
 
-whole : (costs : List ℕ) (u : ℕ) → Measures costs u → (t : ℕ) → Multiple u (costOf costs t)
+-- where each cost is a multiple of u, the cost of each set is one
+pub whole : (costs : List ℕ) (u : ℕ) → Measures costs u → (t : ℕ) → Multiple u (costOf costs t)
 unfolding Measures costOf
 whole [] u h t = multiple-zero u 0 refl
 whole (w ∷ ws) u h t = of-dvd u (t % 2 * w + costOf ws (t / 2)) (dvd-add u (dvd-mul-left-of-dvd u (to-dvd u w (h 0 (omega arith))) (t % 2))

@@ -3,7 +3,7 @@ ghost use Prim.Native.Nat.{_<_};
 ghost use Rattle.cheapest_bounds.specs.Units.{GreatestDivisor, CommonDivisor, GreatestUnit, LimitBelow};
 
 // The greatest common divisor, by Euclid's algorithm.
-fn divisor(a: u64, b: u64) -> u64
+pub fn divisor(a: u64, b: u64) -> u64
     ensures { λ r. ⌜ GreatestDivisor a b r ⌝ }
 {
     let mut x = a;
@@ -17,7 +17,7 @@ fn divisor(a: u64, b: u64) -> u64
 }
 
 // The greatest common divisor of the costs, 0 where all of them are 0. At 1 the costs that are left can't change it.
-fn common(costs: &[u16]) -> u64
+pub fn common(costs: &[u16]) -> u64
     ensures { λ r. ⌜ CommonDivisor (now (costs .entry)) r ⌝ }
 {
     let mut u: u64 = 0;

@@ -8,7 +8,7 @@ use Rattle.model.specs.Commands as model
 use Rattle.model.specs.Refusals.{refuse, firstOf}
 use Rattle.codec.specs.declared.kinds.Form.{Form}
 use Rattle.codec.specs.declared.kinds.Kind.{Kind}
-use Rattle.codec.specs.declared.kinds.Kind.the-variants.{I, W, R, B, T, F, P, A, D, L, C, N, E, None}
+use Rattle.codec.specs.declared.kinds.Kind.the-variants.{I, W, R, B, T, F, P, A, D, G, L, «V», C, N, E, None}
 
 abbrev pub kindIs : Kind → model.Kind
 kindIs I = model.Kind.I
@@ -20,7 +20,9 @@ kindIs F = model.Kind.F
 kindIs P = model.Kind.P
 kindIs A = model.Kind.A
 kindIs D = model.Kind.D
+kindIs G = model.Kind.G
 kindIs L = model.Kind.L
+kindIs «V» = model.Kind.«V»
 kindIs C = model.Kind.C
 kindIs N = model.Kind.N
 kindIs E = model.Kind.E

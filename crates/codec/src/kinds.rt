@@ -16,7 +16,9 @@ pub enum Kind {
     P,
     A,
     D,
+    G,
     L,
+    V,
     C,
     N,
     E,
@@ -37,7 +39,9 @@ pub fn kind_of(b: u8) -> Kind
         0x50 => Kind::P,
         0x41 => Kind::A,
         0x44 => Kind::D,
+        0x47 => Kind::G,
         0x4c => Kind::L,
+        0x56 => Kind::V,
         0x43 => Kind::C,
         0x4e => Kind::N,
         0x45 => Kind::E,
@@ -64,7 +68,8 @@ fn described(code: u8, width: usize, last: u8, query: bool) -> Form
     }
 }
 
-// The one place that describes each command. Places, by what came: 0 nothing, 1 I, 2 W, 3 a row by R or B, 4 a candidate by T, F or A, 5 a P, L, C or N.
+// The one place that describes each command. Places, by what came: 0 nothing, 1 I, 2 W, 3 a row by R or B, 4 a candidate by T, F or A, 5 a P, G, L, V,
+// C or N.
 pub fn form_of(k: Kind) -> Form
     ensures { λ r. ⌜ Describes (kindIs k) r ⌝ }
 {
@@ -78,7 +83,9 @@ pub fn form_of(k: Kind) -> Form
         Kind::P => described(0x50, 0, 3, false),
         Kind::A => described(0x41, 3, 5, false),
         Kind::D => described(0x44, 1, 5, false),
+        Kind::G => described(0x47, 5, 5, false),
         Kind::L => described(0x4c, 9, 5, true),
+        Kind::V => described(0x56, 9, 5, true),
         Kind::C => described(0x43, 0, 5, true),
         Kind::N => described(0x4e, 0, 5, true),
         Kind::E => described(0x45, 0, 5, false),

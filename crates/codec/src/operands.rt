@@ -63,7 +63,7 @@ fn short(x: u8) -> u16
 }
 
 // The 2 bytes at `at` as a number, low byte first.
-fn short_at(job: &[u8], at: usize) -> u16
+pub fn short_at(job: &[u8], at: usize) -> u16
     requires { ⌜ at + 2 ≤ length (now job) ⌝ }
     ensures { λ r. ⌜ r ≡ number (getD (now (job .entry)) at 0 ∷ getD (now (job .entry)) (at + 1) 0 ∷ []) ⌝ }
 {

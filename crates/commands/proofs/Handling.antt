@@ -14,11 +14,12 @@ use Rattle.model.specs.declared.Prices.{Prices}
 use Rattle.model.specs.Base.{without, All}
 use Rattle.model.specs.Candidates.{Candidate}
 use Rattle.model.specs.Primes.{primes}
+use Rattle.model.specs.Ranges.{Range, between}
 use Rattle.model.specs.Commands as model
-use Rattle.model.specs.Commands.{Context, tableOf, operand, Row, rowOfR, operandTerm, operandBlock, operandNumber, operandPrices, addBlock, problemAfter}
+use Rattle.model.specs.Commands.{Context, tableOf, operand, Row, rowOfR, operandTerm, operandBlock, operandNumber, rangeOfG, operandPrices, addBlock, problemAfter}
 use Rattle.model.specs.Answers.{Answer, bytesOf, answerFor}
 use Rattle.model.specs.Refusals as model·refusals
-use Rattle.model.specs.Refusals.{Refusal, refuse, firstOf, refusalsOf, size, dear}
+use Rattle.model.specs.Refusals.{Refusal, refuse, firstOf, refusalsOf, size, dear, badRange}
 use Rattle.model.proofs.Runs.{Numbered, first-none, first-before, first-behind}
 use Rattle.model.proofs.Sound.{refusalsOf-no}
 use Rattle.primes.specs.declared.prime_list.PrimeList.{PrimeList}
@@ -31,13 +32,13 @@ use Rattle.answers.specs.declared.writers.Reply.{Reply}
 use Rattle.answers.specs.declared.writers.Reply.the-variants.{Written, TooLong}
 use Rattle.answers.specs.Writers.{Replied}
 use Rattle.problem.specs.declared.Problem.{Problem}
-use Rattle.problem.specs.Problems.{startedWith, atPlace, withPrices, withCandidates, termPut, blockPut, candidateTaken, WithPrimes, Sized, Holds, Reached}
+use Rattle.problem.specs.Problems.{startedWith, atPlace, withPrices, withCandidates, termPut, blockPut, candidateTaken, rangePut, WithPrimes, Sized, Holds, Reached}
 use Rattle.problem.specs.Refusing.{rowRefusals, termRefusals, TermRefusal, blockRefusals, BlockRefusal}
 use Rattle.problem.proofs.Refusing.{row-refusal, held-bytes, term-here, block-here}
-use Rattle.problem.proofs.Keeping.{after-I, after-W, withRow, after-row, row-within, held-count, after-term, after-block, after-P, after-D}
+use Rattle.problem.proofs.Keeping.{after-I, after-W, withRow, after-row, row-within, held-count, after-term, after-block, after-P, after-D, after-G}
 use Rattle.commands.specs.declared.Effect.{Effect}
 use Rattle.commands.specs.Effects.{refusedAs, answerBytes, lateRefusal, Handled, Found, HandlesI, HandlesW, HandlesR, RefusesTerm}
-use Rattle.commands.specs.Effects.{RefusesBlock, HandlesTerm, HandlesF, HandlesP, HandlesD, HandlesE}
+use Rattle.commands.specs.Effects.{RefusesBlock, HandlesTerm, HandlesF, HandlesP, HandlesD, HandlesG, HandlesE}
 
 -- ---- 14 stands behind the command's own refusals
 
@@ -289,6 +290,32 @@ number-taken p k i old new q z j l t s x free f h a =
       left = λ n. absurd (n refl);
       blocks = λ e. subst⁻¹ (λ (u : ℕ). BlocksAt (without u (x .problem .cands)) new) (a ∙ sym j) (t (x .problem .cands) (omega (arith, n)) (f .holds .cands .blocks) h);
     }
+
+-- ---- G
+
+module _ (p : Problem) (k i low high : ℕ) (j : i ≡ k) where
+  pub range-gone : (e : Effect) → p .candidates .count ≤ i → e ≡ refusedAs p 15 → HandlesG p k low high e
+  unfolding refusalsOf
+  range-gone e l q x free f a g =
+      let own : leb (length (x .problem .cands)) (operandNumber x) ≡ true = le-leb (length (x .problem .cands)) (operandNumber x) (omega (arith, held-count p (x .problem) (f .holds), a)) in
+      handled-refused x model.Kind.G free p 15 e (f .holds) q (late-own x model.Kind.G 15 (rw own) (λ n. omega (arith, n))) (λ n. omega (arith, n))
+
+  module _ (r : ℕ) (l : i < p .candidates .count) (o : r ≡ firstOf (refuse 19 (badRange (between low high)) ∷ [])) where
+    range-here : (x : Context) → Found p x → operandNumber x ≡ k → rangeOfG (x .rest) ≡ between low high → r ≡ firstOf (refusalsOf x model.Kind.G)
+    unfolding refusalsOf
+    range-here x f a g =
+        let n = held-count p (x .problem) (f .holds) in
+        let own : leb (length (x .problem .cands)) (operandNumber x) ≡ false = lt-leb (length (x .problem .cands)) (operandNumber x) (omega (arith, n, a)) in
+        rw own (o ∙ ap (λ (s : Range). firstOf (refuse 19 (badRange s) ∷ [])) (sym g))
+
+    pub range-refused : (e : Effect) → (r ≡ 0 → ⊥) → e ≡ refusedAs p r → HandlesG p k low high e
+    range-refused e d q x free f a g = handled-refused x model.Kind.G free p r e (f .holds) q (late-own x model.Kind.G r (range-here x f a g) d) d
+
+    pub range-kept : (q : Problem) → r ≡ 0 → q ≡ atPlace model.queried (withCandidates (rangePut (p .candidates) i low high) p)
+        → HandlesG p k low high (record { number = 0; written = 0; problem = q })
+    unfolding answerFor
+    range-kept q z s x free f a g = handled-silent x model.Kind.G free q refl (sym z ∙ range-here x f a g)
+        (subst⁻¹ (λ (y : Problem). Holds y (problemAfter x model.Kind.G)) s (after-G x p i low high (f .holds) (a ∙ sym j) g l))
 
 -- ---- E
 

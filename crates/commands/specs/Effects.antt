@@ -10,8 +10,9 @@ use Rattle.model.specs.declared.Block.{Block}
 use Rattle.model.specs.declared.Prices.{Prices}
 use Rattle.model.specs.Sets.{coverable}
 use Rattle.model.specs.Pages.{page, more}
+use Rattle.model.specs.Ranges.{between}
 use Rattle.model.specs.Commands as model
-use Rattle.model.specs.Commands.{Context, tableOf, basisOf, coveringOf, operand, Row, rowsOfB, operandTerm, operandBlock, operandNumber, operandPrices, start, count, problemAfter}
+use Rattle.model.specs.Commands.{Context, tableOf, basisOf, coveringOf, operand, Row, rowsOfB, operandTerm, operandBlock, operandNumber, rangeOfG, operandPrices, start, count, problemAfter}
 use Rattle.model.specs.Answers.{Answer, bytesOf, answerFor}
 use Rattle.model.specs.Refusals.{refuse, firstOf, refusalsOf}
 use Rattle.model.specs.Invariants.{Valid}
@@ -39,6 +40,10 @@ answerBytes x k = bytesOf (answerFor x k)
 -- the answer of an L: the page of a list from a start on, for a row of so many entries
 abbrev pub pageBytes : List ℕ → ℕ → ℕ → List ℕ
 pageBytes all s k = bytesOf (Answer.paged (page all s k) (more all s k))
+
+-- the answer of a V, the same way
+abbrev pub possibleBytes : List ℕ → ℕ → ℕ → List ℕ
+possibleBytes all s k = bytesOf (Answer.possiblePaged (page all s k) (more all s k))
 
 -- the first refusal behind 3, 4 and 5: the command's own, then 14; 0 where none applies
 abbrev pub lateRefusal : Context → model.Kind → ℕ
@@ -110,13 +115,20 @@ HandlesP p old new e = (x : Context) → Found p x → x .free ≡ length old �
 abbrev pub HandlesD : Problem → ℕ → List ℕ → List ℕ → Effect → Type 0
 HandlesD p k old new e = (x : Context) (free : List ℕ) → Found p x → BlocksAt (x .problem .cands) old → operandNumber x ≡ k → HandledWith x model.Kind.D free old new e
 
+abbrev pub HandlesG : Problem → ℕ → ℕ → ℕ → Effect → Type 0
+HandlesG p k low high e = (x : Context) (free : List ℕ) → Found p x → operandNumber x ≡ k → rangeOfG (x .rest) ≡ between low high → Handled x model.Kind.G free free e
+
 abbrev pub HandlesE : Problem → ℕ → List ℕ → List ℕ → Effect → Type 0
 HandlesE p rest old new e = (x : Context) → Holds p (x .problem) → length (x .rest) ≡ rest → x .free ≡ length old → Handled x model.Kind.E old new e
 
--- L and C, with the covering matrix of the problem
+-- L, V and C, with the covering matrix of the problem
 abbrev pub HandlesL : Problem → List ℕ → Bool → ℕ → ℕ → List ℕ → List ℕ → Effect → Type 0
 HandlesL p rows covered s k old new e =
     (x : Context) → Found p x → MatrixOf (basisOf (x .problem)) rows covered → start x ≡ s → count x ≡ k → x .free ≡ length old → Handled x model.Kind.L old new e
+
+abbrev pub HandlesV : Problem → List ℕ → Bool → ℕ → ℕ → List ℕ → List ℕ → Effect → Type 0
+HandlesV p rows covered s k old new e =
+    (x : Context) → Found p x → MatrixOf (basisOf (x .problem)) rows covered → start x ≡ s → count x ≡ k → x .free ≡ length old → Handled x model.Kind.«V» old new e
 
 abbrev pub HandlesC : Problem → List ℕ → Bool → List ℕ → List ℕ → Effect → Type 0
 HandlesC p rows covered old new e = (x : Context) → Found p x → MatrixOf (basisOf (x .problem)) rows covered → x .free ≡ length old → Handled x model.Kind.C old new e

@@ -1,6 +1,6 @@
 // One command: tested, answered, applied.
 //
-// Each function here and in crate `queries`, which has L, C and N, handles one kind of command behind the tests of 3, 4 and 5. A refusal leaves the
+// Each function here and in crate `queries`, which has L, V, C and N, handles one kind of command behind the tests of 3, 4 and 5. A refusal leaves the
 // free part and the record alone. `held` has the sets of the blocks, which stand beside the record: only F and D change them.
 ghost use mathlib.Core.Path.{_≡_};
 ghost use Prim.Native.Nat.{_+_, _≤_, _<_};
@@ -8,7 +8,7 @@ ghost use lib.ListN.{length, drop};
 ghost use Rattle.model.specs.Commands as model;
 ghost use Rattle.model.specs.Commands.{rowsOfB};
 ghost use Rattle.problem.specs.Problems.{Sized, Reached};
-ghost use Rattle.commands.specs.Effects.{refusedAs, RefusesTerm, RefusesBlock, HandlesI, HandlesW, HandlesR, HandlesB, HandlesTerm, HandlesF, HandlesP, HandlesD, HandlesE};
+ghost use Rattle.commands.specs.Effects.{refusedAs, RefusesTerm, RefusesBlock, HandlesI, HandlesW, HandlesR, HandlesB, HandlesTerm, HandlesF, HandlesP, HandlesD, HandlesG, HandlesE};
 use answers::writers;
 use answers::writers::Reply;
 use bits::byte;
@@ -215,6 +215,26 @@ pub fn remove(p: Problem, held: &mut [u64; 256], k: u8) -> Effect
         written: 0,
         problem: problem::without_candidate(p, i),
     }
+}
+
+// G with the number of a candidate and the ends of its range: 19 comes behind 15.
+pub fn range(p: Problem, k: u8, low: u16, high: u16) -> Effect
+    requires { ⌜ Sized p ⌝ }
+    ensures { λ r. ⌜ HandlesG p k low high r ⌝ }
+{
+    let entry = byte::wide(k);
+    if entry < p.candidates.count {
+        let number = refusals::range_refusal(low, high);
+        if number != 0 {
+            return refused(p, number);
+        }
+        return Effect {
+            number: 0,
+            written: 0,
+            problem: problem::with_range(p, entry, low, high),
+        };
+    }
+    refused(p, 15)
 }
 
 // E, with `rest` bytes behind it.

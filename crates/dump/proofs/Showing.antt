@@ -16,13 +16,14 @@ use Rattle.model.specs.Base.{bit, from}
 use Rattle.model.specs.Table.{term}
 use Rattle.model.specs.Blocks.{vertexBit}
 use Rattle.model.specs.Sets.{rowOf}
+use Rattle.model.specs.Ranges.{Range, between, fixed}
 use Rattle.model.specs.Candidates.{Candidate, candidateCost}
 use Rattle.model.proofs.Matrix.{rowOf-lt, from-length}
 use Rattle.incidence.specs.Stored.{entryOf, isBlock, blockAt, BlocksAt}
 use Rattle.incidence.proofs.Uses.{bit-row}
 use Rattle.problem.specs.declared.Candidates.{Candidates}
 use Rattle.problem.specs.Problems.{HoldsCands}
-use Rattle.dump.specs.Shown.{candidateAt, inSet, vertexByte, Vertices, ShownAs}
+use Rattle.dump.specs.Shown.{candidateAt, rangeAt, inSet, vertexByte, Vertices, ShownAs}
 
 -- ---- a byte, from its last vertex down
 
@@ -113,9 +114,20 @@ from-map f a (suc n) (suc k) l =
     let e : suc a + k ≡ a + suc k = omega arith in
     from-map f (suc a) n k (omega arith) ∙ ap f e
 
-module _ {w : Prices} {cs : Candidates} {ks : List Candidate} {ws : List ℕ} (h : HoldsCands w cs ks ws) where
+-- one end of range i
+end-in : (f : Range → ℕ) (rs : List Range) (i : ℕ) → f (fixed 0) ≡ 0 → f (rangeAt rs i) ≡ getD (map f rs) i 0
+end-in f [] i e = e
+end-in f (r ∷ rs) zero e = refl
+end-in f (r ∷ rs) (suc i) e = end-in f rs i e
+
+module _ {w : Prices} {cs : Candidates} {ks : List Candidate} {ws : List ℕ} {rs : List Range} (h : HoldsCands w cs ks ws rs) where
   pub count-few : cs .count ≤ 64
   count-few = omega (arith, h .entries .size, h .entries .counted, ap length (h .entries .same), length-take (cs .count) (cs .terms))
+
+  pub range-shown : (i : ℕ) → i < cs .count → rangeAt rs i ≡ between (getD (cs .lows) i 0) (getD (cs .highs) i 0)
+  range-shown i l = ap₂ between
+      (end-in (λ r. r .low) rs i refl ∙ ap (λ (us : List ℕ). getD us i 0) (sym (h .lows .same)) ∙ getD-take (cs .count) (cs .lows) i 0 l)
+      (end-in (λ r. r .high) rs i refl ∙ ap (λ (us : List ℕ). getD us i 0) (sym (h .highs .same)) ∙ getD-take (cs .count) (cs .highs) i 0 l)
 
   pub term-shown : (i : ℕ) (d : Term) → i < cs .count → bit i (cs .blocks) ≡ false → candidateAt ks i ≡ Candidate.term (getD (cs .terms) i d)
   term-shown i d l e =

@@ -9,6 +9,7 @@ use Rattle.model.specs.Table.{term}
 use Rattle.model.specs.declared.Block.{Block}
 use Rattle.model.specs.Blocks.{vertexBit}
 use Rattle.model.specs.Sets.{rowOf}
+use Rattle.model.specs.Ranges.{Range, fixed}
 use Rattle.model.specs.Candidates.{Candidate}
 use Rattle.model.specs.Commands.{Problem}
 use Rattle.model.specs.Job.{run}
@@ -21,6 +22,10 @@ left job = lastRecord (run job 32768)
 -- candidate i
 abbrev pub candidateAt : List Candidate → ℕ → Candidate
 candidateAt ks i = getD ks i (Candidate.term (term 0 0 0))
+
+-- its range
+abbrev pub rangeAt : List Range → ℕ → Range
+rangeAt rs i = getD rs i (fixed 0)
 
 -- block i is in the set of vertex v
 abbrev pub inSet : List ℕ → ℕ → ℕ → Bool

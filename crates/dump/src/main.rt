@@ -1,28 +1,30 @@
 // Runs the job on standard input as `covers` does, and prints its result and the record that its last command left, in lines like these. A
 // refused command leaves the record as it found it; a job that is too long leaves the empty one.
 //
-//     number 0 offset 107 written 12
+//     number 0 offset 113 written 12
 //     place 5
 //     inputs 2 outputs 2
 //     prices 37 23 11
 //     row 0 on 00 dc 01
-//     candidate 0 care 01 value 00 outputs 01 weight 48
-//     candidate 2 block outputs 01 vertices 0600000000000000000000000000000000000000000000000000000000000000 weight 850
+//     candidate 0 care 01 value 00 outputs 01 weight 48 low 40 high 60
+//     candidate 2 block outputs 01 vertices 0600000000000000000000000000000000000000000000000000000000000000 weight 850 low 850 high 850
 //
-// The place is the furthest that came: 0 nothing, 1 I, 2 W, 3 a row, 4 a candidate by T, F or A, 5 a P, L, C or N. The prices are those of a
+// The place is the furthest that came: 0 nothing, 1 I, 2 W, 3 a row, 4 a candidate by T, F or A, 5 a P, L, C, N, G or V. The prices are those of a
 // term, a literal and an output connection. A line for each vertex that has a row, and for each candidate, a term or a block, with the weight
-// that stands beside it. The vertices of a block are the 32 bytes of F's operand. Bytes are in hexadecimal, all other numbers in decimal.
+// and the ends of its range that stand beside it. The vertices of a block are the 32 bytes of F's operand. Bytes are in hexadecimal, all other numbers in decimal.
 //
 // No `ensures` here is on what is printed: what stands on standard output is in no contract of `io`. It is asked for by `requires`: the record is
-// the job's, a term or a block is the one that the job has there, and the weight of a term is what it costs at the record's prices.
+// the job's, a term or a block is the one that the job has there, the weight of a term is what it costs at the record's prices, and the range is the
+// candidate's.
 ghost use mathlib.Core.Path.{_≡_};
 ghost use mathlib.Core.Bool.{cond};
 ghost use mathlib.Core.List.{[]};
 ghost use Prim.Native.Nat.{_<_};
+ghost use Rattle.model.specs.Ranges.{between};
 ghost use Rattle.model.specs.Candidates.{Candidate, termCost};
 ghost use Rattle.incidence.specs.Stored.{BlocksAt};
 ghost use Rattle.problem.specs.Problems.{HoldsCands, Holds};
-ghost use Rattle.dump.specs.Shown.{left, candidateAt, vertexByte, Vertices, ShownAs};
+ghost use Rattle.dump.specs.Shown.{left, candidateAt, rangeAt, vertexByte, Vertices, ShownAs};
 use bits::set;
 use libc::STDIN_FILENO;
 use libc::STDOUT_FILENO;
@@ -77,7 +79,6 @@ fn print_term(job: &[u8], w: Prices, i: usize, t: Term, weight: u16)
     print_byte(b" value ", t.value);
     print_byte(b" outputs ", t.outputs);
     print_number(b" weight ", weight as usize);
-    end_line();
 }
 
 // A truth value as a bit.
@@ -134,13 +135,21 @@ fn print_block(job: &[u8], i: usize, b: Block)
     print_byte(b" block outputs ", b.outputs);
     print_bytes(b" vertices ", vertices);
     print_number(b" weight ", b.weight as usize);
+}
+
+// The range of candidate i of the record that this job leaves, and the end of its line.
+fn print_range(job: &[u8], i: usize, low: u16, high: u16)
+    requires { ⌜ rangeAt (left (now job) .ranges) i ≡ between low high ⌝ }
+{
+    print_number(b" low ", low as usize);
+    print_number(b" high ", high as usize);
     end_line();
 }
 
 // A line for candidate i.
 fn print_one(job: &[u8], w: Prices, candidates: Candidates, held: &[u64; 256], i: usize)
     requires { ⌜ i < candidates .count ⌝ }
-    requires { ⌜ HoldsCands w candidates (left (now job) .cands) (left (now job) .weights) ⌝ }
+    requires { ⌜ HoldsCands w candidates (left (now job) .cands) (left (now job) .weights) (left (now job) .ranges) ⌝ }
     requires { ⌜ BlocksAt (left (now job) .cands) (now held) ⌝ }
 {
     let t = candidates.terms[i];
@@ -159,11 +168,12 @@ fn print_one(job: &[u8], w: Prices, candidates: Candidates, held: &[u64; 256], i
     } else {
         print_term(job, w, i, t, weight);
     }
+    print_range(job, i, candidates.lows[i], candidates.highs[i]);
 }
 
 // A line for each candidate of the record that this job leaves.
 fn print_candidates(job: &[u8], w: Prices, candidates: Candidates, held: &[u64; 256])
-    requires { ⌜ HoldsCands w candidates (left (now job) .cands) (left (now job) .weights) ⌝ }
+    requires { ⌜ HoldsCands w candidates (left (now job) .cands) (left (now job) .weights) (left (now job) .ranges) ⌝ }
     requires { ⌜ BlocksAt (left (now job) .cands) (now held) ⌝ }
 {
     let mut i: usize = 0;

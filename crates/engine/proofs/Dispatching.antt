@@ -1,7 +1,7 @@
 -- The laws behind a step: the context of the command at a place of the job, its early refusals, and each kind's own.
 use Prim.Native.Nat.{ℕ, _+_, _-_, _≤_, _<_}
 use native.Mathlib.Omega.{arith}
-use mathlib.Core.Path.{_≡_, refl, sym, ap, _∙_, subst, subst⁻¹}
+use mathlib.Core.Path.{_≡_, refl, sym, ap, ap₂, _∙_, subst, subst⁻¹}
 use mathlib.Core.Bool.{Bool, true, false, not}
 use mathlib.Core.Logic.{_⊎_, inl, inr, ⊎-elim}
 use mathlib.Core.List.{List, [], _∷_, _++_}
@@ -16,9 +16,10 @@ use Rattle.model.specs.declared.Term.{Term}
 use Rattle.model.specs.declared.Block.{Block}
 use Rattle.model.specs.declared.Prices.{Prices}
 use Rattle.model.specs.Table.{term}
+use Rattle.model.specs.Ranges.{between}
 use Rattle.model.specs.Candidates.{prices}
 use Rattle.model.specs.Commands as model
-use Rattle.model.specs.Commands.{Context, basisOf, kindOf, is, isQueryKind, width, allowed, operand, rowsOfB, blockOfF, operandTerm, operandPrices, number, problemAfter}
+use Rattle.model.specs.Commands.{Context, basisOf, kindOf, is, isQueryKind, width, allowed, operand, rowsOfB, blockOfF, rangeOfG, operandTerm, operandPrices, number, problemAfter}
 use Rattle.model.specs.Answers.{bytesOf, answer}
 use Rattle.model.specs.Refusals.{Refusal, refuse, firstOf, refusalsOf}
 use Rattle.model.specs.Rules.{refusalsBy, refusalBy, refusal}
@@ -33,7 +34,7 @@ use Rattle.problem.specs.declared.Problem.{Problem}
 use Rattle.problem.specs.Problems.{Holds}
 use Rattle.problem.specs.Matrix.{MatrixOf}
 use Rattle.commands.specs.declared.Effect.{Effect}
-use Rattle.commands.specs.Effects.{refusedAs, lateRefusal, Handled, HandledWith, Found, HandlesI, HandlesW, HandlesR, HandlesB, HandlesTerm, HandlesF, HandlesP, HandlesD, HandlesL, HandlesC}
+use Rattle.commands.specs.Effects.{refusedAs, lateRefusal, Handled, HandledWith, Found, HandlesI, HandlesW, HandlesR, HandlesB, HandlesTerm, HandlesF, HandlesP, HandlesD, HandlesG, HandlesL, HandlesV, HandlesC}
 use Rattle.commands.specs.Effects.{HandlesN, HandlesE}
 use Rattle.incidence.specs.Stored.{BlocksAt}
 use Rattle.engine.specs.Steps.{Stepped, Steps, contextAt}
@@ -66,11 +67,13 @@ adds-term variant.B h = absurd (miss (4 ∷ 7 ∷ []) 3 tt h)
 adds-term variant.F h = absurd (miss (4 ∷ 7 ∷ []) 5 tt h)
 adds-term variant.P h = absurd (miss (4 ∷ 7 ∷ []) 6 tt h)
 adds-term variant.D h = absurd (miss (4 ∷ 7 ∷ []) 8 tt h)
-adds-term variant.L h = absurd (miss (4 ∷ 7 ∷ []) 9 tt h)
-adds-term variant.C h = absurd (miss (4 ∷ 7 ∷ []) 10 tt h)
-adds-term variant.N h = absurd (miss (4 ∷ 7 ∷ []) 11 tt h)
-adds-term variant.E h = absurd (miss (4 ∷ 7 ∷ []) 12 tt h)
-adds-term variant.None h = absurd (miss (4 ∷ 7 ∷ []) 13 tt h)
+adds-term variant.G h = absurd (miss (4 ∷ 7 ∷ []) 9 tt h)
+adds-term variant.L h = absurd (miss (4 ∷ 7 ∷ []) 10 tt h)
+adds-term variant.«V» h = absurd (miss (4 ∷ 7 ∷ []) 11 tt h)
+adds-term variant.C h = absurd (miss (4 ∷ 7 ∷ []) 12 tt h)
+adds-term variant.N h = absurd (miss (4 ∷ 7 ∷ []) 13 tt h)
+adds-term variant.E h = absurd (miss (4 ∷ 7 ∷ []) 14 tt h)
+adds-term variant.None h = absurd (miss (4 ∷ 7 ∷ []) 15 tt h)
 
 -- ---- the context
 
@@ -185,6 +188,11 @@ module _ {p : Problem} {job : List ℕ} {at : ℕ} {k : Kind} {n rest : ℕ} (d 
     op-prices : {w : Prices} → w ≡ prices (getD job (at + 1) 0) (getD job (at + 1 + 1) 0) (getD job (at + 1 + 2) 0) → (x : Context) → x .rest ≡ drop (at + 1) job → operandPrices x ≡ w
     op-prices s x r = rw (op x r 0 (at + 1) (omega arith), op x r 1 (at + 1 + 1) refl, op x r 2 (at + 1 + 2) refl) (sym s)
 
+    op-range : {low high : ℕ} → low ≡ number (getD job (at + 2) 0 ∷ getD job (at + 2 + 1) 0 ∷ []) → high ≡ number (getD job (at + 4) 0 ∷ getD job (at + 4 + 1) 0 ∷ [])
+        → (x : Context) → x .rest ≡ drop (at + 1) job → rangeOfG (x .rest) ≡ between low high
+    op-range i j x r =
+        rw (op x r 1 (at + 2) (omega arith), op x r 2 (at + 2 + 1) (omega arith), op x r 3 (at + 4) (omega arith), op x r 4 (at + 4 + 1) (omega arith)) (ap₂ between (sym i) (sym j))
+
     -- ---- each kind
 
     module _ {held rows old : List ℕ} {covered : Bool} {e : Effect} where
@@ -211,6 +219,10 @@ module _ {p : Problem} {job : List ℕ} {at : ℕ} {k : Kind} {n rest : ℕ} (d 
           (λ h. behind-I model.Kind.A h tt tt tt (λ x f b m r a. w x old f (op-term s x r) .1))
           (adds-term k g)
 
+      pub step-G : {low high : ℕ} → kindIs k ≡ model.Kind.G → low ≡ number (getD job (at + 2) 0 ∷ getD job (at + 2 + 1) 0 ∷ [])
+          → high ≡ number (getD job (at + 4) 0 ∷ getD job (at + 4 + 1) 0 ∷ []) → HandlesG p (getD job (at + 1) 0) low high e → Steps p held held rows covered job at old old e
+      step-G g i j w = behind-I model.Kind.G g tt tt tt (λ x f b m r a. w x old f (op x r 0 (at + 1) (omega arith)) (op-range i j x r))
+
     module _ {held sets rows old : List ℕ} {covered : Bool} {e : Effect} where
       pub step-F : {b : Block} → kindIs k ≡ model.Kind.F → b ≡ blockOfF (drop (at + 1) job) → HandlesF p b held sets e → Steps p held sets rows covered job at old old e
       step-F g s w = with-blocks model.Kind.F g tt (λ x f b r. w x old f b (ap blockOfF r ∙ sym s))
@@ -225,6 +237,10 @@ module _ {p : Problem} {job : List ℕ} {at : ℕ} {k : Kind} {n rest : ℕ} (d 
       pub step-L : {s c : ℕ} → kindIs k ≡ model.Kind.L → s ≡ number (take 8 (drop (at + 1) job)) → c ≡ getD job (at + 9) 0
           → HandlesL p rows covered s c old new e → Steps p held held rows covered job at old new e
       step-L {s} {c} g i j w = behind-I model.Kind.L g tt tt tt (λ x f b m r a. w x f (m tt) (ap (λ (bs : List ℕ). number (take 8 bs)) r ∙ sym i) (op x r 8 (at + 9) (omega arith) ∙ sym j) a)
+
+      pub step-V : {s c : ℕ} → kindIs k ≡ model.Kind.«V» → s ≡ number (take 8 (drop (at + 1) job)) → c ≡ getD job (at + 9) 0
+          → HandlesV p rows covered s c old new e → Steps p held held rows covered job at old new e
+      step-V {s} {c} g i j w = behind-I model.Kind.«V» g tt tt tt (λ x f b m r a. w x f (m tt) (ap (λ (bs : List ℕ). number (take 8 bs)) r ∙ sym i) (op x r 8 (at + 9) (omega arith) ∙ sym j) a)
 
       pub step-C : kindIs k ≡ model.Kind.C → HandlesC p rows covered old new e → Steps p held held rows covered job at old new e
       step-C g w = behind-I model.Kind.C g tt tt tt (λ x f b m r a. w x f (m tt) a)

@@ -31,7 +31,9 @@ blocks-kept x model.Kind.P f d a v h =
     let l = place-last model.Kind.P (x .problem .place) a in
     none-alone (blocks-early (x .problem) v l h) (primes (tableOf (x .problem)))
 blocks-kept x model.Kind.A f d a v h = blocks-term (operandTerm x) h
+blocks-kept x model.Kind.G f d a v h = h
 blocks-kept x model.Kind.L f d a v h = h
+blocks-kept x model.Kind.«V» f d a v h = h
 blocks-kept x model.Kind.C f d a v h = h
 blocks-kept x model.Kind.N f d a v h = h
 blocks-kept x model.Kind.E f d a v h = h

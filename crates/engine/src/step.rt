@@ -41,7 +41,21 @@ pub fn step(
         Kind::F => commands::block(p, held, operands::block_at(job, at + 1)),
         Kind::P => commands::primes(p, free),
         Kind::D => commands::remove(p, held, job[at + 1]),
+        Kind::G => commands::range(
+            p,
+            job[at + 1],
+            operands::short_at(job, at + 2),
+            operands::short_at(job, at + 4),
+        ),
         Kind::L => queries::list(
+            p,
+            rows,
+            covered,
+            operands::number_at(job, at + 1),
+            job[at + 9],
+            free,
+        ),
+        Kind::V => queries::possible(
             p,
             rows,
             covered,

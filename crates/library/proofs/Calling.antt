@@ -15,6 +15,7 @@ use Rattle.model.specs.declared.Term.{Term}
 use Rattle.model.specs.Table.{Table}
 use Rattle.model.specs.Sets.{coverable}
 use Rattle.model.specs.declared.Prices.{Prices}
+use Rattle.model.specs.Ranges.{fixed}
 use Rattle.model.specs.Candidates.{Candidate, termsAlone, usual, termCost, candidateCost, covering}
 use Rattle.model.specs.Commands as model
 use Rattle.model.specs.Commands.{tableOf}
@@ -32,7 +33,7 @@ use Rattle.answers.specs.Writers.{InFront}
 use Rattle.answers.proofs.Bytes.{one-more, same-long}
 use Rattle.problem.specs.declared.Problem.{Problem}
 use Rattle.problem.specs.declared.matrix.Matrix.{Matrix}
-use Rattle.problem.specs.Problems.{listed, Sized, HoldsCands, Holds}
+use Rattle.problem.specs.Problems.{alone, Sized, HoldsCands, Holds}
 use Rattle.problem.specs.Refusing.{TermRefusal}
 use Rattle.problem.specs.Matrix.{RowsOf, Prepares}
 use Rattle.problem.proofs.Keeping.{none-given, holds-alone, held-count}
@@ -178,7 +179,7 @@ pub call-holds : (words : List ℕ) {n m : ℕ} {prices : Prices} {on dc on' dc'
       place = model.queried;
       settings = record { n = n; m = m; prices = prices };
       rows = record { on = on'; dc = dc'; given = replicate 256 0 };
-      candidates = listed terms weights 0 (length words);
+      candidates = alone terms weights (length words);
     }) (problemOf
     (calledTable n m on dc) words)
 call-holds words {n} {m} {prices} {on} {dc} {on'} {dc'} {terms} {weights} e h k f g t w = record {
@@ -194,7 +195,7 @@ call-holds words {n} {m} {prices} {on} {dc} {on'} {dc'} {terms} {weights} e h k 
   };
   cands =
       let ks = termsAlone (map unpack words) in
-      subst (λ (v : Prices). HoldsCands prices (listed terms weights 0 (length words)) ks (map (candidateCost v) ks)) e
+      subst (λ (v : Prices). HoldsCands prices (alone terms weights (length words)) ks (map (candidateCost v) ks) (map fixed (map (candidateCost v) ks))) e
       (holds-alone prices t (subst (λ (ts : List Term). Filled 64 (map (termCost prices) ts) weights (length words)) (t .same) w));
 }
 

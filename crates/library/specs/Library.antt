@@ -8,6 +8,7 @@ use lib.ListN.{getD, length, replicate}
 use Rattle.model.specs.Base.{below, some, join}
 use Rattle.model.specs.Table.{Table}
 use Rattle.model.specs.Sets.{coverable, irredundants}
+use Rattle.model.specs.Ranges.{fixed}
 use Rattle.model.specs.Candidates.{termsAlone, usual, candidateCost, covering}
 use Rattle.model.specs.Commands as model
 use Rattle.model.specs.Commands.{tableOf}
@@ -97,6 +98,7 @@ problemOf p words = record {
   rows = record { on = p .on; dc = p .dc; given = [] };
   cands = termsAlone (map unpack words);
   weights = map (candidateCost usual) (termsAlone (map unpack words));
+  ranges = map fixed (map (candidateCost usual) (termsAlone (map unpack words)));
 }
 
 -- a row in front of zeros, in an array of 256

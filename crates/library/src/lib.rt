@@ -131,6 +131,7 @@ fn problem_of(n: u8, m: u8, on: &[u8], dc: &[u8], words: &[u32]) -> Problem
     let terms = terms_of(words);
     let count = words.len();
     let prices = problem::usual_prices();
+    let weights = weights::weights(prices, terms, count);
     Problem {
         place: 5,
         settings: Settings {
@@ -145,7 +146,9 @@ fn problem_of(n: u8, m: u8, on: &[u8], dc: &[u8], words: &[u32]) -> Problem
         },
         candidates: Candidates {
             terms: terms,
-            weights: weights::weights(prices, terms, count),
+            weights: weights,
+            lows: weights,
+            highs: weights,
             blocks: 0,
             count: count,
         },

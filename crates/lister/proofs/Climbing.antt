@@ -16,7 +16,7 @@ use Rattle.lister.specs.Lister.{Among, LeastIn}
 use Rattle.bits.proofs.Members.{has-bit, lacks-bit}
 use Rattle.lister.proofs.Tree.{in-first, in-second}
 
-top-le : (at i n : ℕ) → i ≤ n → at < 2 ^ n → top at i ≤ 2 ^ n
+pub top-le : (at i n : ℕ) → i ≤ n → at < 2 ^ n → top at i ≤ 2 ^ n
 unfolding top
 top-le at i n p lt =
     let f : n ≡ n - i + i = omega arith in
@@ -35,7 +35,7 @@ module _ (at i : ℕ) where
   next =
       ap (λ (k : ℕ). k * 2 ^ (i + 1)) (sym (shr-shr at i 1)) ∙ ap (λ (k : ℕ). at / 2 ^ i / 2 * k) twice ∙ sym (mul-assoc (at / 2 ^ i / 2) 2 (2 ^ i))
 
-  top-zero : digit i at ≡ 0 → top at (i + 1) ≡ top at i + 2 ^ i
+  pub top-zero : digit i at ≡ 0 → top at (i + 1) ≡ top at i + 2 ^ i
   unfolding top digit
   top-zero z =
       let q : at / 2 ^ i / 2 * 2 ≡ at / 2 ^ i = omega arith in

@@ -1,2 +1,3 @@
 pub mod Lister
 pub mod Levels
+pub mod Selected

@@ -10,7 +10,7 @@ use lister_narrowing::Tight;
 use rows::covering;
 
 // A set, or that there is none.
-enum FoundSet {
+pub enum FoundSet {
     At(u64),
     Nothing,
 }
@@ -87,13 +87,13 @@ fn climb(rows: &[u64], n: u64, at: u64) -> FoundSet
 }
 
 // Where the lister stands: the next set is the least at or above at; none is left where it is over.
-struct Cursor {
-    at: u64,
-    over: bool,
+pub struct Cursor {
+    pub at: u64,
+    pub over: bool,
 }
 
 impl Cursor {
-    fn new(start: u64) -> Cursor
+    pub fn new(start: u64) -> Cursor
         ensures { λ r. ⌜ r ≡ record { at = start; over = false } ⌝ }
     {
         Cursor {
@@ -103,7 +103,7 @@ impl Cursor {
     }
 
     // Moves to the least irredundant cover at or above where it stands.
-    fn seek(self, rows: &[u64], n: u64) -> Cursor
+    pub fn seek(self, rows: &[u64], n: u64) -> Cursor
         requires { ⌜ n ≤ 64 ⌝ }
         ensures { λ r. ⌜ r ≡ sought (rowCovers n (now (rows .entry))) self ⌝ }
     {
@@ -120,7 +120,7 @@ impl Cursor {
     }
 
     // Moves one above.
-    fn past(self) -> Cursor
+    pub fn past(self) -> Cursor
         ensures { λ r. ⌜ r ≡ advanced self ⌝ }
     {
         if self.over {

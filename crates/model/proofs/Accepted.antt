@@ -88,7 +88,7 @@ terms-or-primes p (x ∷ ks) o = go (yes-or-no (is x Kind.T)) (yes-or-no (is x K
 -- from a query on there is no T
 pub query-ends-terms : (p : ℕ) (ks : List Kind) (k : Kind) (js : List Kind) → Orderly p (ks ++ (k ∷ js)) → T (isQueryKind k) → None Kind.T (k ∷ js)
 query-ends-terms p [] k js o q =
-    (any-query (λ k. T (not (is k Kind.T))) (tt, (tt, (tt, tt))) k q, never Kind.T (max (raises k) p) js (omega (arith, query-raises k q)) (o .1))
+    (any-query (λ k. T (not (is k Kind.T))) (tt, (tt, (tt, (tt, tt)))) k q, never Kind.T (max (raises k) p) js (omega (arith, query-raises k q)) (o .1))
 query-ends-terms p (x ∷ ks) k js o q = query-ends-terms (max (raises x) p) ks k js (o .1) q
 
 -- before a query stands I, and behind I no other

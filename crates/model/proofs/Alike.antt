@@ -68,7 +68,15 @@ does-by x bs Kind.A e g f =
     let c = g 2 (omega arith) in
     record { refusals = rw (a, b, c); answer = refl; after = rw (a, b, c) }
 does-by x bs Kind.D e g f = let a = g 0 (omega arith) in record { refusals = rw a; answer = refl; after = rw a }
-does-by x bs Kind.L e g f = record { refusals = refl; answer = same-answer x (withRest x bs) refl Kind.L tt e; after = refl }
+does-by x bs Kind.L e g f = record { refusals = refl; answer = same-answer x (withRest x bs) refl Kind.L tt (λ t. refl) e; after = refl }
+does-by x bs Kind.«V» e g f = record { refusals = refl; answer = same-answer x (withRest x bs) refl Kind.«V» tt (λ t. refl) e; after = refl }
+does-by x bs Kind.G e g f =
+    let number = g 0 (omega arith) in
+    let a = g 1 (omega arith) in
+    let b = g 2 (omega arith) in
+    let c = g 3 (omega arith) in
+    let d = g 4 (omega arith) in
+    record { refusals = rw (number, a, b, c, d); answer = refl; after = rw (number, a, b, c, d) }
 does-by x bs Kind.C e g f = record { refusals = refl; answer = refl; after = refl }
 does-by x bs Kind.N e g f = record { refusals = refl; answer = refl; after = refl }
 does-by x bs Kind.E e g f = record { refusals = rw (f tt); answer = refl; after = refl }

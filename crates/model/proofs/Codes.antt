@@ -20,7 +20,9 @@ kind-of-code Kind.F = refl
 kind-of-code Kind.P = refl
 kind-of-code Kind.A = refl
 kind-of-code Kind.D = refl
+kind-of-code Kind.G = refl
 kind-of-code Kind.L = refl
+kind-of-code Kind.«V» = refl
 kind-of-code Kind.C = refl
 kind-of-code Kind.N = refl
 kind-of-code Kind.E = refl
@@ -74,4 +76,4 @@ code-byte k = ltb→lt (formOf k .code) 256 (every-e (λ (k : Kind). ltb (formOf
 -- a query changes neither table nor candidates nor prices
 pub query-keeps : (x : Context) (k : Kind) → T (isQueryKind k) → basisOf (problemAfter x k) ≡ basisOf (x .problem)
 unfolding problemAfter
-query-keeps x = any-query (λ k. basisOf (problemAfter x k) ≡ basisOf (x .problem)) (refl, (refl, (refl, tt)))
+query-keeps x = any-query (λ k. basisOf (problemAfter x k) ≡ basisOf (x .problem)) (refl, (refl, (refl, (refl, tt))))

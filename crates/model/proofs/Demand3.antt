@@ -1,4 +1,4 @@
--- Demand 3, proved for every list of calls, and every choice among their L, C and N.
+-- Demand 3, proved for every list of calls, and every choice among their L, V, C and N.
 use Prim.Native.Nat.{ℕ}
 use native.Mathlib.Omega.{arith}
 use mathlib.Core.Path.{_≡_, refl, sym, ap, _∙_, subst, subst⁻¹}
@@ -12,6 +12,7 @@ use Rattle.model.specs.Base.{some, All}
 use Rattle.model.specs.Sets.{coverable, cost, cheapest, Best}
 use Rattle.model.specs.Products.{tooMany}
 use Rattle.model.specs.Pages.{Page, PageOf, isLast}
+use Rattle.model.specs.Ranges.{Range}
 use Rattle.model.specs.Candidates.{Candidate, Basis, covering, HoldsExactly, LegalBasis}
 use Rattle.model.specs.Commands.{Kind, is, isQueryKind, width, allowed, pricesOf, basisOf, Context, start, count, coveringOf}
 use Rattle.model.specs.Answers.{Answer, hasBytes, answerFor, answer, bytesOf}
@@ -19,11 +20,12 @@ use Rattle.model.specs.Refusals.{Refusal, refuse, firstOf, refusalsOf}
 use Rattle.model.specs.Rules.{engine, refusalsBy, refusalBy, refusal}
 use Rattle.model.specs.Invariants.{Valid}
 use Rattle.model.specs.Exchanges.{Exchange, pageIn, pagesOf, Gives, EqualsPages}
-use Rattle.model.specs.Demand3.{isQuery, HasBasis, StandsOn, coversOf, NoCheaperList, setsIn, Correct, Acceptable, CorrectExchange, Demand, Demand3}
-use Rattle.model.proofs.Lists.{and-l, and-r, T-true, all-to}
+use Rattle.model.specs.Demand3.{isQuery, HasBasis, StandsOn, coversOf, possiblesOf, FindsRanges, NoCheaperList, setsIn, Correct, Acceptable, CorrectExchange, Demand, Demand3}
+use Rattle.model.proofs.Lists.{and-l, and-r, T-true, all-to, all-both}
 use Rattle.model.proofs.Sets.{listed, cheapest-irredundant}
 use Rattle.model.proofs.Pages.{rising, all-page}
 use Rattle.model.proofs.Products.{products-irredundants}
+use Rattle.model.proofs.Ranges.{possible-listed, possibles-rising, all-possible}
 use Rattle.model.proofs.Cheapest.{cheapest-best}
 use Rattle.model.proofs.Costs.{cost-dearer}
 use Rattle.model.proofs.Representations.{no-cheaper-list}
@@ -43,7 +45,7 @@ module _ (x : Context) (i : T (isQuery x)) where
   query-place = and-r (isQueryKind (x .kind)) (allowed (x .kind) (x .problem .place)) i
 
 named-query : (k : Kind) → T (isQueryKind k) → is k Kind.none ≡ false
-named-query = any-query (λ k. is k Kind.none ≡ false) (refl, (refl, (refl, tt)))
+named-query = any-query (λ k. is k Kind.none ≡ false) (refl, (refl, (refl, (refl, tt))))
 
 -- 17 applies to a command of kind k
 abbrev pub manyAt : Context → Kind → Bool
@@ -54,7 +56,7 @@ pub refusals-query : (x : Context) (rs : List Refusal) (k : Kind) → T (isQuery
     → firstOf (refusalsOf x k ++ rs) ≡ cond (not (coverable (coveringOf x))) 12 (cond (manyAt x k) 17 (firstOf rs))
 unfolding refusalsOf
 refusals-query x rs =
-    any-query (λ k. firstOf (refusalsOf x k ++ rs) ≡ cond (not (coverable (coveringOf x))) 12 (cond (manyAt x k) 17 (firstOf rs))) (refl, (refl, (refl, tt)))
+    any-query (λ k. firstOf (refusalsOf x k ++ rs) ≡ cond (not (coverable (coveringOf x))) 12 (cond (manyAt x k) 17 (firstOf rs))) (refl, (refl, (refl, (refl, tt))))
 
 short : Context → Bool
 short x = ltb (length (x .rest)) (width (x .kind))
@@ -121,7 +123,7 @@ acceptable-iff b x a p s = (λ e. to (n .0 (sym (refusal-query x a p) ∙ e)), �
       le→nltb (x .free) (length (bytesOf (answer x))) (h .room),
     )
 
--- ---- what each L, C and N is answered
+-- ---- what each L, V, C and N is answered
 
 correct : (b : Basis) (x : Context) → HasBasis b x → T (coverable (covering b)) → Correct b x (answer x)
 unfolding answer answerFor
@@ -137,6 +139,7 @@ correct b x s h = subst (λ (z : Basis). T (coverable (covering z)) → Correct 
 
     own : T (coverable (coveringOf x)) → Correct (basisOf (x .problem)) x (answer x)
     own c = record {
+      possible = λ l. rw (is-kind (x .kind) Kind.«V» l);
       page = λ l. rw (is-kind (x .kind) Kind.L l);
       cheapest = λ k. best c (is-kind (x .kind) Kind.C k);
       products = λ k. all (is-kind (x .kind) Kind.N k);
@@ -144,7 +147,7 @@ correct b x s h = subst (λ (z : Basis). T (coverable (covering z)) → Correct 
 
 pub has-bytes : (x : Context) (k : Kind) → T (isQueryKind k) → T (hasBytes (answerFor x k))
 unfolding answerFor
-has-bytes x = any-query (λ k. T (hasBytes (answerFor x k))) (tt, (tt, (tt, tt)))
+has-bytes x = any-query (λ k. T (hasBytes (answerFor x k))) (tt, (tt, (tt, (tt, tt))))
 
 -- each set of the answer holds every wanted cell and no off cell
 sets-exactly : (b : Basis) (x : Context) → HasBasis b x → LegalBasis b → T (coverable (covering b)) → (k : Kind) → T (isQueryKind k) → All (HoldsExactly b) (setsIn (answerFor x k))
@@ -154,12 +157,18 @@ sets-exactly b x s l c = subst (λ (z : Basis). LegalBasis z → T (coverable (c
     z : Basis
     z = basisOf (x .problem)
 
+    rs : List Range
+    rs = x .problem .ranges
+
     own : LegalBasis z → T (coverable (covering z)) → (k : Kind) → T (isQueryKind k) → All (HoldsExactly z) (setsIn (answerFor x k))
     own l c = any-query (λ k. All (HoldsExactly z) (setsIn (answerFor x k))) (
       all-page (HoldsExactly z) (coversOf z) (start x) (count x) (all-exactly z l),
       (
-        (l .covers (cheapest (covering z)) .0 (cheapest-irredundant (covering z) c .covering), tt),
-        (subst⁻¹ (All (HoldsExactly z)) (products-irredundants (covering z)) (all-exactly z l), tt),
+        all-page (HoldsExactly z) (possiblesOf z rs) (start x) (count x) (all-possible (covering z) rs (HoldsExactly z) (all-exactly z l)),
+        (
+          (l .covers (cheapest (covering z)) .0 (cheapest-irredundant (covering z) c .covering), tt),
+          (subst⁻¹ (All (HoldsExactly z)) (products-irredundants (covering z)) (all-exactly z l), tt),
+        ),
       ),
     )
 
@@ -189,6 +198,8 @@ correct-exchange b e r s = go (eqb (refusal x) 0) refl
         let y : e .reply ≡ answer x = r .0 ∙ reply-answered engine x z in
         record {
           legal = lawful;
+          ranged = r .2 .sound .ranged;
+          each-range = r .2 .sound .each-range ∙ ap (λ (z : Basis). length (z .cands)) (s .1);
           exactly = subst⁻¹ (λ (u : Answer). All (HoldsExactly b) (setsIn u)) y (sets-exactly b x (s .1) lawful (iff .0 z .coverable) (x .kind) a);
           answered = (λ h. iff .0 z, λ h. subst⁻¹ (λ (u : Answer). T (hasBytes u)) y (has-bytes x (x .kind) a));
           correct = λ h. subst⁻¹ (Correct b x) y (correct b x (s .1) (h .coverable));
@@ -198,6 +209,8 @@ correct-exchange b e r s = go (eqb (refusal x) 0) refl
         let y : e .reply ≡ Answer.nothing = r .0 ∙ reply-refused engine x n in
         record {
           legal = lawful;
+          ranged = r .2 .sound .ranged;
+          each-range = r .2 .sound .each-range ∙ ap (λ (z : Basis). length (z .cands)) (s .1);
           exactly = subst⁻¹ (λ (u : Answer). All (HoldsExactly b) (setsIn u)) y tt;
           answered = (λ h. absurd (subst (λ (u : Answer). T (hasBytes u)) y h), λ h. absurd (no n (iff .1 h)));
           correct = λ h. absurd (no n (iff .1 h));
@@ -216,6 +229,14 @@ pub lists-covers : (b : Basis) (x : Context) → HasBasis b x → Lists engine K
 unfolding answer answerFor
 lists-covers b x s i z = subst (λ (y : Basis). All (PageOf (coversOf y)) (pageIn x (answer x))) s (rw (is-kind (x .kind) Kind.L i) ((refl, refl), tt))
 
+-- ---- K11: those that V lists
+
+pub lists-possibles : (b : Basis) (rs : List Range) (x : Context) → HasBasis b x → (T (is (x .kind) Kind.«V») → x .problem .ranges ≡ rs) → Lists engine Kind.«V» (possiblesOf b rs) x
+unfolding answer answerFor
+lists-possibles b rs x s f i z =
+    subst (λ (y : Basis). All (PageOf (possiblesOf y rs)) (pageIn x (answer x))) s
+    (subst (λ (l : List Range). All (PageOf (possiblesOf (basisOf (x .problem)) l)) (pageIn x (answer x))) (f i) (rw (is-kind (x .kind) Kind.«V» i) ((refl, refl), tt)))
+
 -- ---- "It equals L's pages joined until no more is reported"
 
 -- of an exchange that is right, where the pages give the list that N is answered
@@ -229,15 +250,25 @@ demand b es r s = record {
   each = each;
   pages = pages;
   products = all-to (CorrectExchange b) (EqualsPages (pagesOf Kind.L es)) (equals-pages (coversOf b) es pages b refl) es each;
+  possible-listed = λ rs h. possible-listed (covering b) rs h;
+  possible-pages = possible-pages;
 }
   where
     each : All (CorrectExchange b) es
     each = all-correct b es r s
 
+    replied : All (Replied engine) es
+    replied = all-to (RepliedIn engine Fine) (Replied engine) (λ e h. h .0) es r
+
+    possible-pages : (rs : List Range) → All (FindsRanges rs) es → Gives Kind.«V» (possiblesOf b rs) es
+    possible-pages rs f =
+        gives engine Kind.«V» (possiblesOf b rs) (λ e. StandsOn b e × FindsRanges rs e) (λ e h. lists-possibles b rs (e .context) (h .0 .1) (h .1))
+        (possibles-rising (covering b) rs) es replied (all-both (StandsOn b) (FindsRanges rs) es s f)
+
     pages : Gives Kind.L (coversOf b) es
     pages =
         gives engine Kind.L (coversOf b) (StandsOn b) (λ e h. lists-covers b (e .context) (h .1)) (rising (covering b)) es
-        (all-to (RepliedIn engine Fine) (Replied engine) (λ e h. h .0) es r) s
+        replied s
 
 pub demand-3 : Demand3
 demand-3 b = claim engine engine-lawful Fine valid (StandsOn b) (Demand b) (demand b)

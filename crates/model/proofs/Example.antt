@@ -68,7 +68,7 @@ second = record {
 abbrev calls : List Call
 calls = first ∷ second ∷ []
 
--- the L, C and N among what their bytes hold, and the pages among those
+-- the L, V, C and N among what their bytes hold, and the pages among those
 abbrev exchanges : List Exchange
 exchanges = filter isAsked (allRead engine calls)
 

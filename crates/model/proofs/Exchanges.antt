@@ -201,6 +201,17 @@ claim-where {Stands = Stands} More f c = record {
   judged = c .judged;
 }
 
+-- and what a demand gives, of the same commands
+pub claim-gives : {rules : Rules} {Stands : Exchange → Type 0} {Demand : List Exchange → Type 0} {calls : List Call} (Less : List Exchange → Type 0)
+    → ((es : List Exchange) → All Stands es → Demand es → Less es) → Claim rules Stands Demand calls → Claim rules Stands Less calls
+claim-gives Less f c = record {
+  answers = λ es s a. f es a (c .answers es s a);
+  bytes = λ es s a. f es a (c .bytes es s a);
+  none-over = c .none-over;
+  answered = c .answered;
+  judged = c .judged;
+}
+
 -- ---- the pages of any command, of any rising list
 
 module _ (rules : Rules) (k : Kind) (list : List ℕ) where

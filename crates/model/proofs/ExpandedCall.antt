@@ -44,6 +44,7 @@ abbrev pub pageTold : Command → Answer → List Page
 pageTold c Answer.nothing = []
 pageTold c (Answer.primesAre ts) = []
 pageTold c (Answer.paged ss m) = record { start = number (take 8 (c .operands)); count = getD (c .operands) 8 0; sets = ss; above = m } ∷ []
+pageTold c (Answer.possiblePaged ss m) = record { start = number (take 8 (c .operands)); count = getD (c .operands) 8 0; sets = ss; above = m } ∷ []
 pageTold c (Answer.cheapestIs k s) = []
 pageTold c (Answer.productsAre ss) = []
 pageTold c Answer.ended = []
@@ -52,6 +53,7 @@ page-of-L : (q : Problem) (bs : List ℕ) (free : ℕ) (a : Answer) → let x : 
 page-of-L q bs free Answer.nothing = refl
 page-of-L q bs free (Answer.primesAre ts) = refl
 page-of-L q bs free (Answer.paged ss m) = rw (take-take 8 9 bs (omega arith), getD-take 9 bs 8 0 (omega arith))
+page-of-L q bs free (Answer.possiblePaged ss m) = rw (take-take 8 9 bs (omega arith), getD-take 9 bs 8 0 (omega arith))
 page-of-L q bs free (Answer.cheapestIs k s) = refl
 page-of-L q bs free (Answer.productsAre ss) = refl
 page-of-L q bs free Answer.ended = refl

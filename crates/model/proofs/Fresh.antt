@@ -15,8 +15,8 @@ use Rattle.model.specs.Job.{Run, run}
 use Rattle.model.specs.Calls.{ran, Reads}
 use Rattle.model.specs.Invariants.{SmallCandidate, Valid}
 use Rattle.model.specs.Demand3.{isQuery}
-use Rattle.model.specs.Standing.{commandOf, commandBytes, Behind, addingCommand, addedAgain, freshJob, GivesAlone, Fresh, FreshAnswered, FreshRead}
-use Rattle.model.proofs.Lists.{all-to}
+use Rattle.model.specs.Standing.{commandOf, commandBytes, Behind, addingCommand, addedAgain, freshJob, byBasis, GivesAlone, Fresh, FreshAnswered, FreshRead}
+use Rattle.model.proofs.Lists.{and-l, and-r, all-to}
 use Rattle.model.proofs.Codes.{is-kind}
 use Rattle.model.proofs.Runs.{context, OnRuns, IfEnds, IfGoes, run-ind, run-is, judged}
 use Rattle.model.proofs.Sound.{engine-lawful}
@@ -87,19 +87,21 @@ module _ (job : List ℕ) (room : ℕ) (before : List Context) (x : Context) (g 
       let tail = length-append added (commandBytes (commandOf x) ++ ending) in
       omega (arith, length-append (commandBytes (commandOf x)) ending, added-length (x .problem .cands) (fair .sound .small), fair .sound .few, query-short x i)
 
-  answered-again : T (isQuery x) → refusal x ≡ 0 → (larger : ℕ) → suc (length (bytesOf (answer x))) ≤ larger → larger ≤ 32768
+  answered-again : T (byBasis x) → refusal x ≡ 0 → (larger : ℕ) → suc (length (bytesOf (answer x))) ≤ larger → larger ≤ 32768
       → GivesAlone (answer x) (run (freshJob (map commandOf before) (commandOf x)) larger)
-  answered-again i z larger l m =
+  answered-again h z larger l m =
+      let i = and-l (isQuery x) (not (is (x .kind) Kind.«V»)) h in
+      let v = and-r (isQuery x) (not (is (x .kind) Kind.«V»)) h in
       let bytes = rowsOf before ++ tailOf x in
-      let all = rows-replayed (answer x) larger (tailOf x) job room before x g (tail-given x i z larger l fair) (suc (length bytes)) 0 (omega arith) in
+      let all = rows-replayed (answer x) larger (tailOf x) job room before x g (tail-given x i v z larger l fair) (suc (length bytes)) 0 (omega arith) in
       subst⁻¹ (λ (bs : List ℕ). GivesAlone (answer x) (run bs larger)) pieces (subst⁻¹ (GivesAlone (answer x)) (run-is engine bytes larger (fresh-short i) m) all)
 
   -- in an accepted job each command is answered
   passes : r .number ≡ 0 → refusal x ≡ 0
   passes z = all-here (λ (y : Context). refusal y ≡ 0) r before x g (judged engine engine-lawful job room .answered (omega (arith, z)))
 
-  held : r .number ≡ 0 → T (isQuery x) → suc (length (bytesOf (answer x))) ≤ room
-  held z i = all-here (Holds room) r before x g (rooms job room z) (query-goes x i)
+  held : r .number ≡ 0 → T (byBasis x) → suc (length (bytesOf (answer x))) ≤ room
+  held z h = all-here (Holds room) r before x g (rooms job room z) (query-goes x (and-l (isQuery x) (not (is (x .kind) Kind.«V»)) h))
 
 pub fresh-answered : FreshAnswered
 fresh-answered = answered-again
@@ -112,7 +114,7 @@ fresh job room z before x g i larger l m = fresh-answered job room before x g i 
 pub fresh-read : FreshRead
 unfolding answer
 fresh-read c f mc mf z before x g i e l m = record {
-  reply = reply-read engine engine-lawful c mc x there (has-bytes x (x .kind) (query-kind x i)) (passes (c .job) (length (c .before)) before x g accepted);
+  reply = reply-read engine engine-lawful c mc x there (has-bytes x (x .kind) (query-kind x (and-l (isQuery x) (not (is (x .kind) Kind.«V»)) i))) (passes (c .job) (length (c .before)) before x g accepted);
   accepted = told .number ∙ same .accepted;
   fresh-replies = told .answers ∙ same .answers;
   bytes = told .bytes ∙ same .bytes;

@@ -50,7 +50,9 @@ cands-after x Kind.F y a =
 cands-after x Kind.P y a = let ts = primes (tableOf (x .problem)) in all-map InBytes Candidate.term ts (all-of (λ t. Unit {0}) ts (λ t m. tt))
 cands-after x Kind.A y a = all-append InBytes (x .problem .cands) (Candidate.term (operandTerm x) ∷ []) a (tt, tt)
 cands-after x Kind.D y a = all-without InBytes (operandNumber x) (x .problem .cands) a
+cands-after x Kind.G y a = a
 cands-after x Kind.L y a = a
+cands-after x Kind.«V» y a = a
 cands-after x Kind.C y a = a
 cands-after x Kind.N y a = a
 cands-after x Kind.E y a = a

@@ -4,7 +4,7 @@ use native.Mathlib.Omega.{arith}
 use mathlib.Core.Path.{_≡_, refl, sym, ap, ap₂, _∙_, subst, subst⁻¹}
 use mathlib.Core.Bool.{not}
 use mathlib.Core.List.{List, [], _∷_, _++_, append-assoc, append-nil}
-use lib.Dec.{T}
+use lib.Dec.{T, T-not}
 use lib.Arith.{lt→nleb}
 use lib.Seq.{take-at, take-take}
 use lib.ListN.{length, take, length-append, length-take}
@@ -14,6 +14,7 @@ use Rattle.model.specs.Blocks.{Block, blockFormed, blockHoldsNoOff}
 use Rattle.model.specs.Sets.{irredundants, cost, cheapest}
 use Rattle.model.specs.Products.{products}
 use Rattle.model.specs.Pages.{page, more}
+use Rattle.model.specs.Ranges.{Range, possibles}
 use Rattle.model.specs.Candidates.{Candidate, candidateLegal, Basis, covering}
 use Rattle.model.specs.Commands.{begun, inCandidates, queried, Kind, formOf, is, isQueryKind, width, allowed, Problem, atPlace, withCands, addCandidate, addBlock, basisOf}
 use Rattle.model.specs.Commands.{tableOf, Context, number, operandTerm, operandBlock, start, count, problemAfter}
@@ -87,13 +88,13 @@ adds-again q (Candidate.block b) bs room l m s g h =
 -- from any place where a T may stand, then bytes that give an answer behind them
 module _ (a : Answer) (room : ℕ) (bs : List ℕ) where
   cands-given : (cs : List Candidate) (q : Problem) → begun ≤ q .place → q .place ≤ inCandidates → All SmallCandidate cs → All (λ c. T (candidateLegal (tableOf q) c)) cs
-      → length (q .cands) + length cs ≤ 64 → ((p : ℕ) (ws : List ℕ) → begun ≤ p → p ≤ inCandidates → GivesFrom a room bs (atPlace p (withCands (q .cands ++ cs) ws q)))
+      → length (q .cands) + length cs ≤ 64 → ((p : ℕ) (ws : List ℕ) (rs : List Range) → begun ≤ p → p ≤ inCandidates → GivesFrom a room bs (atPlace p (withCands (q .cands ++ cs) ws rs q)))
       → GivesFrom a room (addedAgain cs ++ bs) q
-  cands-given [] q l m s g n f = subst (λ (ds : List Candidate). GivesFrom a room bs (withCands ds (q .weights) q)) (append-nil (q .cands)) (f (q .place) (q .weights) l m)
+  cands-given [] q l m s g n f = subst (λ (ds : List Candidate). GivesFrom a room bs (withCands ds (q .weights) (q .ranges) q)) (append-nil (q .cands)) (f (q .place) (q .weights) (q .ranges) l m)
   cands-given (c ∷ cs) q l m s g n f =
       let again = adds-again q c rest room l m (s .0) (g .0) (omega arith) in
       let later = cands-given cs (addCandidate q c) (omega arith) (omega arith) (s .1) (g .1) (omega (arith, length-append (q .cands) (c ∷ [])))
-      (λ p ws b h. subst⁻¹ (λ (ds : List Candidate). GivesFrom a room bs (atPlace p (withCands ds ws q))) (append-assoc (q .cands) (c ∷ []) cs) (f p ws b h)) in
+      (λ p ws rs b h. subst⁻¹ (λ (ds : List Candidate). GivesFrom a room bs (atPlace p (withCands ds ws rs q))) (append-assoc (q .cands) (c ∷ []) cs) (f p ws rs b h)) in
       subst⁻¹ (λ (ds : List ℕ). GivesFrom a room ds q) (append-assoc (commandBytes (addingCommand c)) (addedAgain cs) bs)
       (silent a room (addingCommand c) rest q (again .full) (again .passes) (again .goes) (again .nothing) (subst⁻¹ (GivesFrom a room rest) (again .after) later))
     where
@@ -102,10 +103,13 @@ module _ (a : Answer) (room : ℕ) (bs : List ℕ) where
 
 -- ---- the query
 
--- it answers by table, candidates and operands alone
-pub same-answer : (x y : Context) → HasBasis (basisOf (x .problem)) y → (k : Kind) → T (isQueryKind k) → take (width k) (y .rest) ≡ take (width k) (x .rest) → answerFor y k ≡ answerFor x k
+-- it answers by table, candidates and operands alone, a V by the ranges too
+pub same-answer : (x y : Context) → HasBasis (basisOf (x .problem)) y → (k : Kind) → T (isQueryKind k) → (T (is k Kind.«V») → y .problem .ranges ≡ x .problem .ranges)
+    → take (width k) (y .rest) ≡ take (width k) (x .rest) → answerFor y k ≡ answerFor x k
 unfolding answerFor
-same-answer x y s = any-query (λ k. take (width k) (y .rest) ≡ take (width k) (x .rest) → answerFor y k ≡ answerFor x k) (page-same, (cheapest-same, (products-same, tt)))
+same-answer x y s =
+    any-query (λ k. (T (is k Kind.«V») → y .problem .ranges ≡ x .problem .ranges) → take (width k) (y .rest) ≡ take (width k) (x .rest) → answerFor y k ≡ answerFor x k)
+    (λ r. page-same, (λ r. possible-same (r tt), (λ r. cheapest-same, (λ r. products-same, tt))))
   where
     pageAt : Basis → ℕ → ℕ → Answer
     pageAt b from many = Answer.paged (page (irredundants (covering b)) from many) (more (irredundants (covering b)) from many)
@@ -114,6 +118,16 @@ same-answer x y s = any-query (λ k. take (width k) (y .rest) ≡ take (width k)
     page-same e =
         let low = sym (take-take 8 9 (y .rest) (omega arith)) ∙ ap (take 8) e ∙ take-take 8 9 (x .rest) (omega arith) in
         ap (λ (b : Basis). pageAt b (start y) (count y)) s ∙ ap₂ (pageAt (basisOf (x .problem))) (ap number low) (same-operand Kind.L x y e 8 (omega arith))
+
+    possibleAt : Basis → List Range → ℕ → ℕ → Answer
+    possibleAt b rs from many = Answer.possiblePaged (page (possibles (covering b) rs) from many) (more (possibles (covering b) rs) from many)
+
+    possible-same : y .problem .ranges ≡ x .problem .ranges → take 9 (y .rest) ≡ take 9 (x .rest)
+        → possibleAt (basisOf (y .problem)) (y .problem .ranges) (start y) (count y) ≡ possibleAt (basisOf (x .problem)) (x .problem .ranges) (start x) (count x)
+    possible-same r e =
+        let low = sym (take-take 8 9 (y .rest) (omega arith)) ∙ ap (take 8) e ∙ take-take 8 9 (x .rest) (omega arith) in
+        ap₂ (λ (b : Basis) (rs : List Range). possibleAt b rs (start y) (count y)) s r
+        ∙ ap₂ (possibleAt (basisOf (x .problem)) (x .problem .ranges)) (ap number low) (same-operand Kind.«V» x y e 8 (omega arith))
 
     cheapest-same : take 0 (y .rest) ≡ take 0 (x .rest) → answerFor y Kind.C ≡ answerFor x Kind.C
     cheapest-same e = ap (λ (b : Basis). Answer.cheapestIs (cost (covering b) (cheapest (covering b))) (cheapest (covering b))) s
@@ -135,7 +149,10 @@ query-form = any-query QueryForm (
   record { last = refl; first = tt; goes = tt; short = omega arith; after = λ x. refl },
   (
     record { last = refl; first = tt; goes = tt; short = omega arith; after = λ x. refl },
-    (record { last = refl; first = tt; goes = tt; short = omega arith; after = λ x. refl }, tt),
+    (
+      record { last = refl; first = tt; goes = tt; short = omega arith; after = λ x. refl },
+      (record { last = refl; first = tt; goes = tt; short = omega arith; after = λ x. refl }, tt),
+    ),
   ),
 )
 
@@ -154,7 +171,7 @@ module _ (x : Context) (i : T (isQuery x)) where
   query-short = omega (arith, query .short, length-take (width (x .kind)) (x .rest))
 
 -- a query that is answered, and room for its answer and E's
-module _ (x : Context) (i : T (isQuery x)) (z : refusal x ≡ 0) (room : ℕ) (l : suc (length (bytesOf (answer x))) ≤ room) where
+module _ (x : Context) (i : T (isQuery x)) (v : T (not (is (x .kind) Kind.«V»))) (z : refusal x ≡ 0) (room : ℕ) (l : suc (length (bytesOf (answer x))) ≤ room) where
   accepted : Acceptable (basisOf (x .problem)) x
   accepted = acceptable-iff (basisOf (x .problem)) x (query-kind x i) (query-place x i) refl .0 z
 
@@ -178,7 +195,7 @@ module _ (x : Context) (i : T (isQuery x)) (z : refusal x ≡ 0) (room : ℕ) (l
       place = allowed-from (x .kind) (q .place) b (omega (arith, query x i .last))
 
       same : answer y ≡ answer x
-      same = same-answer x y s (x .kind) (query-kind x i) (take-at operands ending (width (x .kind)) full)
+      same = same-answer x y s (x .kind) (query-kind x i) (λ t. absurd (T-not (is (x .kind) Kind.«V») v t)) (take-at operands ending (width (x .kind)) full)
 
       good : Acceptable (basisOf (x .problem)) y
       good = record {
@@ -194,4 +211,4 @@ module _ (x : Context) (i : T (isQuery x)) (z : refusal x ≡ 0) (room : ℕ) (l
       let o = query-begun x i in
       cands-given (answer x) room (commandBytes (commandOf x) ++ ending) (x .problem .cands) (bare p (x .problem)) (omega arith) (omega arith)
       (v .sound .small) (v .legal) (omega (arith, v .sound .few))
-      (λ p' ws. query-given (atPlace p' (withCands (x .problem .cands) ws (x .problem))) refl)
+      (λ p' ws rs. query-given (atPlace p' (withCands (x .problem .cands) ws rs (x .problem))) refl)

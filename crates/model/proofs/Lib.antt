@@ -6,6 +6,7 @@ pub mod Pages
 pub mod Distinct
 pub mod Joined
 pub mod Cheapest
+pub mod Ranges
 pub mod Rows
 pub mod Matrix
 pub mod Presence
@@ -40,6 +41,7 @@ pub mod Spelled
 pub mod Standing
 pub mod PricesFound
 pub mod Records
+pub mod Ranging
 pub mod Replay
 pub mod FreshRows
 pub mod FreshQuery
@@ -65,6 +67,7 @@ pub mod ReorderedCall
 pub mod Numbers
 pub mod Marked
 pub mod MarkedBlocks
+pub mod MarkedRanges
 pub mod EightRows
 pub mod Example
 pub mod ManyProducts

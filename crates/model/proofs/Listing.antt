@@ -1,7 +1,7 @@
 -- K6: two jobs that differ in W's operands alone give the same answers but at C.
 use Prim.Native.Nat.{ℕ, zero, suc, _+_, _-_, _≤_, _<_}
 use native.Mathlib.Omega.{arith}
-use mathlib.Core.Path.{_≡_, refl, sym, ap, ap₂, _∙_, subst⁻¹}
+use mathlib.Core.Path.{_≡_, refl, sym, ap, ap₂, _∙_, subst, subst⁻¹}
 use mathlib.Core.Logic.{_⊎_, inl, inr}
 use mathlib.Core.Bool.{Bool, true, false, not, cond, _||_}
 use mathlib.Core.List.{List, [], _∷_, map}
@@ -19,8 +19,8 @@ use Rattle.model.specs.Rules.{engine, refusalsBy, refusalBy, refusal}
 use Rattle.model.specs.Job.{Run, stop, answerThen, commands, run, runBy}
 use Rattle.model.specs.Exchanges.{answers}
 use Rattle.model.specs.Standing.{Command}
-use Rattle.model.specs.Pricing.{unpriced, uncosted, askedOf, listing, SameListing, Untouched}
-use Rattle.model.proofs.Lists.{yes-or-no}
+use Rattle.model.specs.Pricing.{unpriced, uncosted, askedOf, listing, SameListing, noV, Untouched}
+use Rattle.model.proofs.Lists.{yes-or-no, and-l, and-r}
 use Rattle.model.proofs.Codes.{is-kind}
 use Rattle.model.proofs.Runs.{context, Passed, passed, step-refused, step-ends, step-goes}
 use Rattle.model.proofs.Sound.{engine-lawful}
@@ -37,19 +37,19 @@ record Alongside (x y : Context) : Type 0 where
   after : erased (problemAfter y (y .kind)) ≡ erased (problemAfter x (x .kind))
   asked : T (answers engine x) → askedOf y ≡ askedOf x
 
-plain-refusal : (x : Context) → refusal (plain x) ≡ refusal x
+plain-refusal : (x : Context) → T (not (is (x .kind) Kind.«V»)) → refusal (plain x) ≡ refusal x
 unfolding refusalBy refusalsBy answer
-plain-refusal x =
-    let u = unpriced-by x (x .kind) in
+plain-refusal x v =
+    let u = unpriced-by x (x .kind) v in
     rw (u .refusals, same-length (answerFor (plain x) (x .kind)) (answerFor x (x .kind)) (u .answer))
 
-plain-answer : (x : Context) → uncosted (answer (plain x)) ≡ uncosted (answer x)
+plain-answer : (x : Context) → T (not (is (x .kind) Kind.«V»)) → uncosted (answer (plain x)) ≡ uncosted (answer x)
 unfolding answer
-plain-answer x = unpriced-by x (x .kind) .answer
+plain-answer x v = unpriced-by x (x .kind) v .answer
 
 -- with the same operands
-other-command : (q r : Problem) (b : ℕ) (bs : List ℕ) (free : ℕ) → erased q ≡ erased r → T (not (is (kindOf b) Kind.W)) → Alongside (context q b bs free) (context r b (behind b bs) free)
-other-command q r b bs free e n =
+other-command : (q r : Problem) (b : ℕ) (bs : List ℕ) (free : ℕ) → erased q ≡ erased r → T (not (is (kindOf b) Kind.W)) → T (not (is (kindOf b) Kind.«V»)) → Alongside (context q b bs free) (context r b (behind b bs) free)
+other-command q r b bs free e n v =
     let x = context q b bs free in
     let y = context r b (behind b bs) free in
     let l = behind-length b bs in
@@ -57,11 +57,11 @@ other-command q r b bs free e n =
     alike (plain x) (behind b bs) (behind-own b bs n) (ap (λ (k : ℕ). ltb k (width (kindOf b))) l) (λ t. ap (λ (k : ℕ). ltb 0 k) l) in
     let same : plain y ≡ withRest (plain x) (behind b bs) = ap (λ (z : Problem). context z b (behind b bs) free) (sym e) in
     record {
-      refusal = sym (plain-refusal y) ∙ ap refusal same ∙ a .refusal ∙ plain-refusal x;
-      answer = sym (plain-answer y) ∙ ap (λ (z : Context). uncosted (answer z)) same ∙ ap uncosted (a .answer) ∙ plain-answer x;
+      refusal = sym (plain-refusal y v) ∙ ap refusal same ∙ a .refusal ∙ plain-refusal x v;
+      answer = sym (plain-answer y v) ∙ ap (λ (z : Context). uncosted (answer z)) same ∙ ap uncosted (a .answer) ∙ plain-answer x v;
       after =
-          sym (unpriced-by y (kindOf b) .after) ∙ ap (λ (z : Context). erased (problemAfter z (z .kind))) same ∙ ap erased (a .after)
-          ∙ unpriced-by x (kindOf b) .after;
+          sym (unpriced-by y (kindOf b) v .after) ∙ ap (λ (z : Context). erased (problemAfter z (z .kind))) same ∙ ap erased (a .after)
+          ∙ unpriced-by x (kindOf b) v .after;
       asked = λ t. ap askedOf same ∙ ap (λ (c : Command). (c, tableOf q, q .cands)) (a .command);
     }
 
@@ -115,12 +115,12 @@ W-command q r b bs free e k n = record { refusal = same; answer = rw k refl; aft
     same : refusal y ≡ refusal x
     same = W-refusal y k ∙ rw (place, short) (first (ltb (length bs) 3) refl) ∙ sym (W-refusal x k)
 
-alongside : (q r : Problem) (b : ℕ) (bs : List ℕ) (free : ℕ) → erased q ≡ erased r → (refusal (context q b bs free) ≡ 16 → ⊥) → Alongside (context q b bs free) (context r b (behind b bs) free)
-alongside q r b bs free e n = go (yes-or-no (is (kindOf b) Kind.W))
+alongside : (q r : Problem) (b : ℕ) (bs : List ℕ) (free : ℕ) → erased q ≡ erased r → T (not (is (kindOf b) Kind.«V»)) → (refusal (context q b bs free) ≡ 16 → ⊥) → Alongside (context q b bs free) (context r b (behind b bs) free)
+alongside q r b bs free e v n = go (yes-or-no (is (kindOf b) Kind.W))
   where
     go : T (is (kindOf b) Kind.W) ⊎ T (not (is (kindOf b) Kind.W)) → Alongside (context q b bs free) (context r b (behind b bs) free)
     go (inl t) = W-command q r b bs free e (is-kind (kindOf b) Kind.W t) n
-    go (inr t) = other-command q r b bs free e t
+    go (inr t) = other-command q r b bs free e t v
 
 -- ---- the commands of both jobs
 
@@ -146,11 +146,11 @@ both-go x y h r s e = record {
   asked = asked-first x y h (r .contexts) (s .contexts) (e .asked);
 }
 
-same-commands : (k : ℕ) (q r : Problem) (bs : List ℕ) (free at : ℕ) → erased q ≡ erased r → length bs < k → (commands engine k q bs free at .number ≡ 16 → ⊥)
+same-commands : (k : ℕ) (q r : Problem) (bs : List ℕ) (free at : ℕ) → erased q ≡ erased r → length bs < k → T (noV (commands engine k q bs free at)) → (commands engine k q bs free at .number ≡ 16 → ⊥)
     → SameListing (commands engine k q bs free at) (commands engine k r (unpriced bs) free at)
-same-commands zero q r bs free at e l n = absurd (omega arith)
-same-commands (suc k) q r [] free at e l n = rw unpriced-none record { number = refl; offset = refl; answers = refl; asked = refl }
-same-commands (suc k) q r (b ∷ bs) free at e l n =
+same-commands zero q r bs free at e l v n = absurd (omega arith)
+same-commands (suc k) q r [] free at e l v n = rw unpriced-none record { number = refl; offset = refl; answers = refl; asked = refl }
+same-commands (suc k) q r (b ∷ bs) free at e l v n =
     rw (unpriced-step b bs)
     (go (λ f. same-commands k (problemAfter x (kindOf b)) (problemAfter y (kindOf b)) (drop w bs) (free - length (bytesOf (answer x))) (at + 1 + w) f (omega (arith, length-drop w bs)))
     (yes-or-no (eqb (refusal x) 0)))
@@ -170,13 +170,16 @@ same-commands (suc k) q r (b ∷ bs) free at e l n =
     there : Run
     there = commands engine k (problemAfter y (kindOf b)) (unpriced (drop w bs)) (free - length (bytesOf (answer x))) (at + 1 + w)
 
+    other : Bool
+    other = not (is (kindOf b) Kind.«V»)
+
     Rest : Type 0
-    Rest = erased (problemAfter x (kindOf b)) ≡ erased (problemAfter y (kindOf b)) → (here .number ≡ 16 → ⊥) → SameListing here there
+    Rest = erased (problemAfter x (kindOf b)) ≡ erased (problemAfter y (kindOf b)) → T (noV here) → (here .number ≡ 16 → ⊥) → SameListing here there
 
     go : Rest → T (eqb (refusal x) 0) ⊎ T (not (eqb (refusal x) 0)) → SameListing (commands engine (suc k) q (b ∷ bs) free at) (commands engine (suc k) r (b ∷ behind b bs) free at)
     go rest (inr t) =
         let first = step-refused engine k q b bs free at t in
-        let h = alongside q r b bs free e (λ s. n (ap (λ (u : Run). u .number) first ∙ s)) in
+        let h = alongside q r b bs free e (and-l other true (subst (λ (u : Run). T (noV u)) first v)) (λ s. n (ap (λ (u : Run). u .number) first ∙ s)) in
         let second = step-refused engine k r b (behind b bs) free at (subst⁻¹ (λ (i : ℕ). T (not (eqb i 0))) (h .refusal) t) in
         rw (first, second) (both-stop x y h at)
     go rest (inl t) = ended (yes-or-no (is (kindOf b) Kind.E))
@@ -184,8 +187,12 @@ same-commands (suc k) q r (b ∷ bs) free at e l n =
         z : refusal x ≡ 0
         z = eqb→eq (refusal x) 0 t
 
+        read-first : T (is (kindOf b) Kind.E) ⊎ T (not (is (kindOf b) Kind.E)) → T other
+        read-first (inl d) = and-l other true (subst (λ (u : Run). T (noV u)) (step-ends engine k q b bs free at z d) v)
+        read-first (inr d) = and-l other (noV here) (subst (λ (u : Run). T (noV u)) (step-goes engine k q b bs free at z d) v)
+
         h : Alongside x y
-        h = alongside q r b bs free e (λ s. absurd (omega (arith, s, z)))
+        h = alongside q r b bs free e (read-first (yes-or-no (is (kindOf b) Kind.E))) (λ s. absurd (omega (arith, s, z)))
 
         i : Passed engine x
         i = passed engine engine-lawful x z
@@ -199,21 +206,22 @@ same-commands (suc k) q r (b ∷ bs) free at e l n =
             let behind-it : drop w (behind b bs) ≡ unpriced (drop w bs) = behind-drop b bs (record { named = i .named; operands = i .operands; goes = d }) in
             let left : length (bytesOf (answer y)) ≡ length (bytesOf (answer x)) = same-length (answer y) (answer x) (h .answer) in
             rw (first, step-goes engine k r b (behind b bs) free at (h .refusal ∙ z) d, behind-it, left)
-            (both-go x y h here there (rest (sym (h .after)) (λ s. n (ap (λ (u : Run). u .number) first ∙ s))))
+            (both-go x y h here there (rest (sym (h .after)) (and-r other (noV here) (subst (λ (u : Run). T (noV u)) first v)) (λ s. n (ap (λ (u : Run). u .number) first ∙ s))))
 
-with-zeros : (job : List ℕ) (room : ℕ) → (run job room .number ≡ 16 → ⊥) → SameListing (run job room) (run (unpriced job) room)
+with-zeros : (job : List ℕ) (room : ℕ) → T (noV (run job room)) → (run job room .number ≡ 16 → ⊥) → SameListing (run job room) (run (unpriced job) room)
 unfolding runBy
-with-zeros job room n = rw (unpriced-length job) (go (ltb 32768 (length job) || ltb 32768 room) n)
+with-zeros job room v n = rw (unpriced-length job) (go (ltb 32768 (length job) || ltb 32768 room) v n)
   where
-    go : (c : Bool) → (cond c (stop 1 0 []) (commands engine (suc (length job)) empty job room 0) .number ≡ 16 → ⊥)
+    go : (c : Bool) → T (noV (cond c (stop 1 0 []) (commands engine (suc (length job)) empty job room 0)))
+        → (cond c (stop 1 0 []) (commands engine (suc (length job)) empty job room 0) .number ≡ 16 → ⊥)
         → SameListing (cond c (stop 1 0 []) (commands engine (suc (length job)) empty job room 0)) (cond c (stop 1 0 []) (commands engine (suc (length job)) empty (unpriced job) room 0))
-    go true m = record { number = refl; offset = refl; answers = refl; asked = refl }
-    go false m = same-commands (suc (length job)) empty empty job room 0 refl (omega arith) m
+    go true v m = record { number = refl; offset = refl; answers = refl; asked = refl }
+    go false v m = same-commands (suc (length job)) empty empty job room 0 refl (omega arith) v m
 
 pub untouched : Untouched
-untouched j k room e m n =
-    let a = with-zeros j room m in
-    let b = with-zeros k room n in
+untouched j k room e vj vk m n =
+    let a = with-zeros j room vj m in
+    let b = with-zeros k room vk n in
     let s : run (unpriced j) room ≡ run (unpriced k) room = ap (λ (job : List ℕ). run job room) e in
     record {
       number = a .number ∙ ap (λ (r : Run). r .number) s ∙ sym (b .number);

@@ -1,13 +1,14 @@
 -- K6: what a caller reads from two calls whose jobs differ in W's operands alone, and demand 3 at any prices.
 use Prim.Native.Nat.{ℕ}
 use native.Mathlib.Omega.{arith}
-use mathlib.Core.Path.{_≡_, refl, sym, ap, ap₂, _∙_, subst}
+use mathlib.Core.Path.{_≡_, refl, sym, ap, ap₂, _∙_, subst, subst⁻¹}
 use mathlib.Core.Bool.{Bool, true, false, not, cond, _&&_}
 use mathlib.Core.List.{List, [], _∷_, _++_, map}
 use lib.Dec.{T}
 use lib.ListN.{length, length-append}
 use Rattle.model.specs.Base.{every, filter, join, All}
 use Rattle.model.specs.Table.{Table}
+use Rattle.model.specs.Ranges.{Range}
 use Rattle.model.specs.Candidates.{Candidate, Prices, usual, priced, basis, covering}
 use Rattle.model.specs.Commands.{Kind, is, Context}
 use Rattle.model.specs.Commands.{basisOf}
@@ -17,19 +18,20 @@ use Rattle.model.specs.Job.{run, written, bufferAfter}
 use Rattle.model.specs.Pages.{Page}
 use Rattle.model.specs.Calls.{Call, ran, Met, numberOf, replies, Reads}
 use Rattle.model.specs.Exchanges.{Exchange, answers, pair, readIn, pagesOf, Gives, EqualsPages}
-use Rattle.model.specs.Demand3.{StandsOn, coversOf, CorrectExchange}
+use Rattle.model.specs.Demand3.{StandsOn, coversOf, possiblesOf, CorrectExchange, FindsRanges}
 use Rattle.model.specs.Standing.{Command, commandOf}
 use Rattle.model.specs.Pricing.{uncosted, askedOf, listing, SameListing}
-use Rattle.model.specs.Pricing.{SameButPrices, SamePages, UntouchedRead, StandsAtAnyPrices, DemandAtAnyPrices, AtAnyPrices, isCheapest}
-use Rattle.model.proofs.Lists.{and-l, and-r, all-to}
+use Rattle.model.specs.Pricing.{SameButPrices, noV, SamePages, UntouchedRead, StandsAtAnyPrices, DemandAtAnyPrices, AtAnyPrices, isCheapest}
+use Rattle.model.proofs.Lists.{and-l, and-r, all-to, all-both}
 use Rattle.model.proofs.Sound.{engine-lawful}
 use Rattle.model.proofs.Pieces.{later}
 use Rattle.model.proofs.Valid.{valid}
 use Rattle.model.proofs.Pages.{rising}
-use Rattle.model.proofs.Pricing.{listing-untouched}
+use Rattle.model.proofs.Pricing.{listing-untouched, possibles-untouched}
+use Rattle.model.proofs.Ranges.{possibles-rising}
 use Rattle.model.proofs.Caller.{written-is, caller}
 use Rattle.model.proofs.Exchanges.{Replied, RepliedIn, claim, Lists, gives}
-use Rattle.model.proofs.Demand3.{Fine, correct-exchange, lists-covers, equals-pages}
+use Rattle.model.proofs.Demand3.{Fine, correct-exchange, lists-covers, lists-possibles, equals-pages}
 use Rattle.model.proofs.ExpandedCall.{pageTold, page-told}
 use Rattle.model.proofs.Unpriced.{uncosted-length, uncosted-bytes}
 use Rattle.model.proofs.Listing.{untouched}
@@ -62,6 +64,7 @@ pub uncosted-other : (a : Answer) → T (not (isCheapest a)) → uncosted a ≡ 
 uncosted-other Answer.nothing n = refl
 uncosted-other (Answer.primesAre ts) n = refl
 uncosted-other (Answer.paged ss m) n = refl
+uncosted-other (Answer.possiblePaged ss m) n = refl
 uncosted-other (Answer.cheapestIs c s) n = absurd n
 uncosted-other (Answer.productsAre ss) n = refl
 uncosted-other Answer.ended n = refl
@@ -78,6 +81,7 @@ none-among : (rs : List Answer) → T (every (λ a. not (isCheapest a)) (filter 
 none-among [] t = tt
 none-among (Answer.nothing ∷ rs) t = none-among rs t
 none-among (Answer.primesAre ts ∷ rs) t = none-among rs t
+none-among (Answer.possiblePaged ss m ∷ rs) t = none-among rs t
 none-among (Answer.paged ss m ∷ rs) t = none-among rs t
 none-among (Answer.cheapestIs c s ∷ rs) t = absurd t
 none-among (Answer.productsAre ss ∷ rs) t = none-among rs t
@@ -91,6 +95,7 @@ none-there rs ss e t = subst (λ (b : Bool). T b) (kinds-of rs ∙ ap (every (λ
     one Answer.nothing = refl
     one (Answer.primesAre ts) = refl
     one (Answer.paged ss m) = refl
+    one (Answer.possiblePaged ss m) = refl
     one (Answer.cheapestIs c s) = refl
     one (Answer.productsAre ss) = refl
     one Answer.ended = refl
@@ -109,6 +114,7 @@ page-uncosted : (c : Command) (a : Answer) → pageTold c a ≡ pageTold c (unco
 page-uncosted c Answer.nothing = refl
 page-uncosted c (Answer.primesAre ts) = refl
 page-uncosted c (Answer.paged ss m) = refl
+page-uncosted c (Answer.possiblePaged ss m) = refl
 page-uncosted c (Answer.cheapestIs k s) = refl
 page-uncosted c (Answer.productsAre ss) = refl
 page-uncosted c Answer.ended = refl
@@ -123,7 +129,7 @@ pages-read : (c : Call) → pagesOf Kind.L (readIn engine c) ≡ pagesBy (map (�
 unfolding readIn
 pages-read c = pages-pair (filter (answers engine) (ran c .contexts)) (replies c)
 
-module _ (c d : Call) (mc : Met c) (md : Met d) (same : SameButPrices (c .job) (d .job)) (room : length (c .before) ≡ length (d .before)) (nc : numberOf c ≡ 16 → ⊥) (nd : numberOf d ≡ 16 → ⊥) where
+module _ (c d : Call) (mc : Met c) (md : Met d) (same : SameButPrices (c .job) (d .job)) (vc : T (noV (ran c))) (vd : T (noV (ran d))) (room : length (c .before) ≡ length (d .before)) (nc : numberOf c ≡ 16 → ⊥) (nd : numberOf d ≡ 16 → ⊥) where
   first : Reads c
   first = caller engine engine-lawful c mc
 
@@ -132,7 +138,7 @@ module _ (c d : Call) (mc : Met c) (md : Met d) (same : SameButPrices (c .job) (
 
   runs : SameListing (ran c) (ran d)
   runs = subst (λ (k : ℕ). SameListing (ran c) (run (d .job) k)) room
-      (untouched (c .job) (d .job) (length (c .before)) same (λ e. nc (first .number ∙ e)) (λ e. nd (second .number ∙ ap (λ (k : ℕ). run (d .job) k .number) (sym room) ∙ e)))
+      (untouched (c .job) (d .job) (length (c .before)) same vc (subst⁻¹ (λ (k : ℕ). T (noV (run (d .job) k))) room vd) (λ e. nc (first .number ∙ e)) (λ e. nd (second .number ∙ ap (λ (k : ℕ). run (d .job) k .number) (sym room) ∙ e)))
 
   same-replies : map uncosted (replies c) ≡ map uncosted (replies d)
   same-replies =
@@ -163,7 +169,7 @@ module _ (c d : Call) (mc : Met c) (md : Met d) (same : SameButPrices (c .job) (
   }
 
 pub untouched-read : UntouchedRead
-untouched-read c d mc md same room nc nd = same-pages c d mc md same room nc nd
+untouched-read c d mc md same vc vd room nc nd = same-pages c d mc md same vc vd room nc nd
 
 -- ---- at any prices
 
@@ -171,6 +177,11 @@ lists-at-any : (p : Table) (cs : List Candidate) (e : Exchange) → StandsAtAnyP
 lists-at-any p cs e s =
     let w = s .1 .0 in
     subst (λ (sets : List ℕ). Lists engine Kind.L sets (e .context)) (listing-untouched w usual p cs) (lists-covers (priced w p cs) (e .context) (s .1 .1))
+
+possibles-at-any : (p : Table) (cs : List Candidate) (rs : List Range) (e : Exchange) → StandsAtAnyPrices p cs e → FindsRanges rs e → Lists engine Kind.«V» (possiblesOf (basis p cs) rs) (e .context)
+possibles-at-any p cs rs e s f =
+    let w = s .1 .0 in
+    subst (λ (sets : List ℕ). Lists engine Kind.«V» sets (e .context)) (possibles-untouched w usual p cs rs) (lists-possibles (priced w p cs) rs (e .context) (s .1 .1) f)
 
 -- what stands on a table and candidates at one setting of prices stands so at any
 pub stands-at-any : (w : Prices) (p : Table) (cs : List Candidate) (e : Exchange) → StandsOn (priced w p cs) e → StandsAtAnyPrices p cs e
@@ -191,8 +202,14 @@ equal-at-any p cs es g (e ∷ us) c s =
     (equals-pages (coversOf (basis p cs)) es g (basisOf (e .context .problem)) same e (c .0), equal-at-any p cs es g us (c .1) (s .1))
 
 demand-at-any : (p : Table) (cs : List Candidate) (es : List Exchange) → All (RepliedIn engine Fine) es → All (StandsAtAnyPrices p cs) es → DemandAtAnyPrices p cs es
-demand-at-any p cs es r s = record { each = each; pages = pages; products = equal-at-any p cs es pages es each s }
+demand-at-any p cs es r s = record { each = each; pages = pages; products = equal-at-any p cs es pages es each s; possible-pages = possible-pages }
   where
+    possible-pages : (rs : List Range) → All (FindsRanges rs) es → Gives Kind.«V» (possiblesOf (basis p cs) rs) es
+    possible-pages rs f =
+        gives engine Kind.«V» (possiblesOf (basis p cs) rs) (λ e. StandsAtAnyPrices p cs e × FindsRanges rs e) (λ e h. possibles-at-any p cs rs e (h .0) (h .1))
+        (possibles-rising (covering (basis p cs)) rs) es (all-to (RepliedIn engine Fine) (Replied engine) (λ e h. h .0) es r)
+        (all-both (StandsAtAnyPrices p cs) (FindsRanges rs) es s f)
+
     each : All (λ e. CorrectExchange (basisOf (e .context .problem)) e) es
     each = each-at-any p cs es r s
 

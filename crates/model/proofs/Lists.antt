@@ -9,7 +9,7 @@ use mathlib.Core.Option.{Option, none, some as just}
 use mathlib.Core.List.{List, [], _∷_, _++_, map, List·Memᴰ, List·Memᴰ·head, List·Memᴰ·tail, Memᴰ·append-left, Memᴰ·append-right}
 use mathlib.Core.List.{List·Memᴰ·append-cases, Sublistᴰ, Sublistᴰ·slnil, Sublistᴰ·cons, Sublistᴰ·cons-cons}
 use lib.Dec.{T, eqb, eqb-refl}
-use lib.ListN.{getD, getElem?, length, take, drop, replicate, length-replicate, getD-replicate, List·getD-eq-default}
+use lib.ListN.{getD, getElem?, length, take, drop, set, replicate, length-replicate, getD-replicate, List·getD-eq-default}
 use Rattle.model.specs.Base.{from, below, every, some, filter, join, implies, without, All, Ordered, Pointwise}
 
 pub yes-or-no : (b : Bool) → T b ⊎ T (not b)
@@ -329,6 +329,11 @@ module _ {A : Type 0} (P : A → Type 0) where
   all-without zero (x ∷ xs) a = a .1
   all-without (suc k) (x ∷ xs) a = (a .0, all-without k xs (a .1))
 
+  pub all-set : (k : ℕ) (x : A) (xs : List A) → P x → All P xs → All P (set xs k x)
+  all-set k x [] p a = tt
+  all-set zero x (y ∷ ys) p a = (p, a .1)
+  all-set (suc k) x (y ∷ ys) p a = (a .0, all-set k x ys p (a .1))
+
   pub all-of : (xs : List A) → ((x : A) → List·Memᴰ x xs → P x) → All P xs
   all-of [] f = tt
   all-of (x ∷ xs) f = (f x (List·Memᴰ·head refl), all-of xs (λ y m. f y (List·Memᴰ·tail m)))
@@ -357,6 +362,10 @@ module _ {A : Type 0} (P : A → Type 0) where
   pub all-to : (Q : A → Type 0) → ((x : A) → P x → Q x) → (xs : List A) → All P xs → All Q xs
   all-to Q f [] a = tt
   all-to Q f (x ∷ xs) a = (f x (a .0), all-to Q f xs (a .1))
+
+  pub all-both : (Q : A → Type 0) (xs : List A) → All P xs → All Q xs → All (λ x. P x × Q x) xs
+  all-both Q [] p q = tt
+  all-both Q (x ∷ xs) p q = ((p .0, q .0), all-both Q xs (p .1) (q .1))
 
   pub all-join : (xss : List (List A)) → All (All P) xss → All P (join xss)
   all-join [] a = tt

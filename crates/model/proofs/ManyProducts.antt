@@ -16,6 +16,7 @@ use Rattle.model.specs.Table.{isOn, isDc, isOff, cell, cells, onCells, h
 use Rattle.model.specs.Sets.{Covering, Within, covers, coverable}
 use Rattle.model.specs.Presence.{valuesAt, sumAt, productUpTo}
 use Rattle.model.specs.Products.{holders, joined, kept, productsUpTo, tooMany, MinimalUpTo}
+use Rattle.model.specs.Ranges.{fixed}
 use Rattle.model.specs.Candidates.{termsAlone, usual, candidateCost}
 use Rattle.model.specs.Commands.{kindOf, begun, inCandidates, Problem, empty, started, atPlace, withCands, addRows, Context, coveringOf, problemAfter, tableOf}
 use Rattle.model.specs.Answers.{answer, answerFor}
@@ -206,6 +207,7 @@ module _ {A X : Type 0} (k : Covering A X) where
 abbrev pub found : Problem
 found =
     withCands (termsAlone manyProductsTerms) (map (candidateCost usual) (termsAlone manyProductsTerms))
+    (map (λ c. fixed (candidateCost usual c)) (termsAlone manyProductsTerms))
     (atPlace inCandidates (addRows (started begun 4 1 16) (map (λ v. record { vertex = v; on = 1; dc = 0 }) (below 11))))
 
 abbrev atN : Context

@@ -50,10 +50,6 @@ pub stopped-blocks : map (λ c. packed (run (c .job) (c .room))) blockStops ≡ 
 unfolding irredundants irredundant redundant cover covers coverable isOn onCells cells holds vertexBit blockHolds verticesBelow blockFormed blockHoldsNoOff literalsCharged termCost cost cheapest ones onesIn primes prime legal formed holdsNoOff isOff isDc contains sameTerm containedIn terms runBy kindOf rowsOfB packed written refusalBy refusalsBy refusalsOf answer answerFor problemAfter page more atOrAbove products tooMany productsUpTo kept joined holders containsNoOther
 stopped-blocks = refl
 
--- no smaller bound would do
-pub largest-met : some (λ c. eqb (c .number) largestNumber) blockStops ≡ true
-largest-met = refl
-
 -- jobs that are accepted, with the bytes that they write
 pub jobs-with-blocks : map (λ c. packed (run (c .job) 32768)) blockJobs ≡ map (λ c. length (c .job) * 2 ^ 16 + length (c .bytes)) blockJobs
 unfolding irredundants irredundant redundant cover covers coverable isOn onCells cells holds vertexBit blockHolds verticesBelow blockFormed blockHoldsNoOff literalsCharged termCost cost cheapest ones onesIn legal formed holdsNoOff isOff isDc runBy kindOf packed written refusalBy refusalsBy refusalsOf answer answerFor problemAfter page more atOrAbove products tooMany productsUpTo kept joined holders containsNoOther

@@ -63,7 +63,9 @@ setting-step os us Kind.F e b d s = record { table = s .table; prices = s .price
 setting-step os us Kind.P e b d s = record { table = s .table; prices = s .prices }
 setting-step os us Kind.A e b d s = record { table = s .table; prices = s .prices }
 setting-step os us Kind.D e b d s = record { table = s .table; prices = s .prices }
+setting-step os us Kind.G e b d s = s
 setting-step os us Kind.L e b d s = s
+setting-step os us Kind.«V» e b d s = s
 setting-step os us Kind.C e b d s = s
 setting-step os us Kind.N e b d s = s
 setting-step os us Kind.E e b d s = s
@@ -104,6 +106,8 @@ keeps-cands c Kind.B b i p d = sym (append-nil (b .cands))
 keeps-cands c Kind.T b i p d = refl
 keeps-cands c Kind.F b i p d = refl
 keeps-cands c Kind.A b i p d = refl
+keeps-cands c Kind.G b i p d = sym (append-nil (b .cands))
+keeps-cands c Kind.«V» b i p d = sym (append-nil (b .cands))
 keeps-cands c Kind.L b i p d = sym (append-nil (b .cands))
 keeps-cands c Kind.C b i p d = sym (append-nil (b .cands))
 keeps-cands c Kind.N b i p d = sym (append-nil (b .cands))

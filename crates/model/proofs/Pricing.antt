@@ -11,8 +11,9 @@ use Rattle.model.specs.Primes.{contains, sameTerm, containedIn, terms, p
 use Rattle.model.specs.Blocks.{Block}
 use Rattle.model.specs.Sets.{covers, cover, coverable, redundant, irredundant, irredundants, cost, cheapest}
 use Rattle.model.specs.Presence.{sumUpTo, sumAt, productUpTo, presence}
+use Rattle.model.specs.Ranges.{Range, possibles}
 use Rattle.model.specs.Candidates.{Candidate, termsAlone, Prices, literalsCharged, termCost, Basis, priced, covering, listCost}
-use Rattle.model.specs.Demand3.{coversOf, IsPrime, ArePrimes, NoCheaperList}
+use Rattle.model.specs.Demand3.{coversOf, possiblesOf, IsPrime, ArePrimes, NoCheaperList}
 use Rattle.model.specs.Cases.{freeBeside, atItsPrimes, lone, Undercut}
 use Rattle.model.proofs.Cubes.{primes-iff}
 
@@ -22,6 +23,10 @@ module _ (w v : Prices) (p : Table) (cs : List Candidate) where
   pub listing-untouched : coversOf (priced w p cs) ≡ coversOf (priced v p cs)
   unfolding irredundants irredundant redundant cover
   listing-untouched = refl
+
+  pub possibles-untouched : (rs : List Range) → possiblesOf (priced w p cs) rs ≡ possiblesOf (priced v p cs) rs
+  unfolding possibles irredundants irredundant redundant cover
+  possibles-untouched rs = refl
 
   pub coverable-untouched : coverable (covering (priced w p cs)) ≡ coverable (covering (priced v p cs))
   unfolding coverable

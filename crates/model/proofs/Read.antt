@@ -19,6 +19,7 @@ abbrev pub Fits : Answer → Type 0
 Fits Answer.nothing = Unit {0}
 Fits (Answer.primesAre ts) = Unit {0}
 Fits (Answer.paged ss m) = All (λ s. s < 2 ^ 64) ss
+Fits (Answer.possiblePaged ss m) = All (λ s. s < 2 ^ 64) ss
 Fits (Answer.cheapestIs c s) = (c < 2 ^ 16) × (s < 2 ^ 64)
 Fits (Answer.productsAre ss) = (length ss < 2 ^ 16) × All (λ s. s < 2 ^ 64) ss
 Fits Answer.ended = Unit {0}
@@ -72,6 +73,8 @@ read-one Answer.nothing f t bs k = absurd t
 read-one (Answer.primesAre ts) f t bs k = behind (Answer.primesAre ts) 0x70 (length ts ∷ join (map termBytes ts)) bs refl (ap Answer.primesAre (terms-read ts bs)) k
 read-one (Answer.paged ss m) f t bs k =
     behind (Answer.paged ss m) 0x6c (length ss ∷ cond m 1 0 ∷ join (map (low 8) ss)) bs refl (ap₂ Answer.paged (sets-read ss bs f) (flag-back m)) k
+read-one (Answer.possiblePaged ss m) f t bs k =
+    behind (Answer.possiblePaged ss m) 0x76 (length ss ∷ cond m 1 0 ∷ join (map (low 8) ss)) bs refl (ap₂ Answer.possiblePaged (sets-read ss bs f) (flag-back m)) k
 read-one (Answer.cheapestIs c s) f t bs k = behind (Answer.cheapestIs c s) 0x63 (low 2 c ++ low 8 s) bs refl (ap₂ Answer.cheapestIs (number-low 2 c (f .0)) (number-low 8 s (f .1))) k
 read-one (Answer.productsAre ss) f t bs k = behind (Answer.productsAre ss) 0x6e (low 2 (length ss) ++ join (map (low 8) ss)) bs refl (ap Answer.productsAre (counted-read ss bs f)) k
 read-one Answer.ended f t bs k = behind Answer.ended 0x65 [] bs refl refl k

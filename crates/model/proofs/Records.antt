@@ -51,7 +51,9 @@ weighed-after x Kind.F a v w = weighed-added (x .problem) _ w
 weighed-after x Kind.P a v w = refl
 weighed-after x Kind.A a v w = weighed-added (x .problem) _ w
 weighed-after x Kind.D a v w = weighed-without (x .problem) _ w
+weighed-after x Kind.G a v w = w
 weighed-after x Kind.L a v w = w
+weighed-after x Kind.«V» a v w = w
 weighed-after x Kind.C a v w = w
 weighed-after x Kind.N a v w = w
 weighed-after x Kind.E a v w = w
@@ -103,7 +105,7 @@ without-lawful : Lawful withoutWeights
 without-lawful = record {
   numbered = engine-lawful .numbered;
   last = engine-lawful .last;
-  sound = λ x a s. let r = engine-lawful .sound x a s in record { inputs = r .inputs; outputs = r .outputs; prices = r .prices; few = r .few; small = r .small };
+  sound = λ x a s. let r = engine-lawful .sound x a s in record { inputs = r .inputs; outputs = r .outputs; prices = r .prices; few = r .few; small = r .small; each-range = r .each-range; ranged = r .ranged; most = r .most };
   fits = engine-lawful .fits;
 }
 
@@ -154,6 +156,8 @@ unread x Kind.F = record { refusals = refl; answer = refl; after = refl }
 unread x Kind.P = record { refusals = refl; answer = refl; after = refl }
 unread x Kind.A = record { refusals = refl; answer = refl; after = refl }
 unread x Kind.D = record { refusals = refl; answer = refl; after = refl }
+unread x Kind.G = record { refusals = refl; answer = refl; after = refl }
+unread x Kind.«V» = record { refusals = refl; answer = refl; after = refl }
 unread x Kind.L = record { refusals = refl; answer = refl; after = refl }
 unread x Kind.C = record { refusals = refl; answer = refl; after = refl }
 unread x Kind.N = record { refusals = refl; answer = refl; after = refl }

@@ -1,4 +1,4 @@
--- K9: at each L, C and N of two accepted jobs that differ in the order of their T commands, the candidates correspond by position.
+-- K9: at each L, V, C and N of two accepted jobs that differ in the order of their T commands, the candidates correspond by position.
 use Prim.Native.Nat.{ℕ, zero, suc, _≤_, _<_, max}
 use native.Mathlib.Omega.{arith}
 use mathlib.Core.Path.{_≡_, refl, sym, ap, _∙_, subst}

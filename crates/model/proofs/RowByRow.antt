@@ -56,7 +56,7 @@ rows-given (w ∷ ws) q = omega (arith, rows-given ws (addRow q w))
 
 -- a problem with its rows and no candidate
 abbrev pub bare : ℕ → Problem → Problem
-bare p q = atPlace p (withCands [] [] q)
+bare p q = atPlace p (withCands [] [] [] q)
 
 pub rows-refused-bare : (ws : List Row) (p : ℕ) (q : Problem) → rowsRefusals (bare p q) ws ≡ rowsRefusals q ws
 rows-refused-bare [] p q = refl

@@ -38,7 +38,7 @@ module _ {A : Type 0} where
       go false true f h r = List·Memᴰ·tail (r h)
       go false false f h r = r h
 
-  sum-more : (w : A → ℕ) (ts : List A) (a s : ℕ) → Within a s → sum w (members ts a) ≤ sum w (members ts s)
+  pub sum-more : (w : A → ℕ) (ts : List A) (a s : ℕ) → Within a s → sum w (members ts a) ≤ sum w (members ts s)
   sum-more w [] a s h = omega arith
   sum-more w (u ∷ us) a s h = go (bit 0 a) (bit 0 s) (h 0) (sum-more w us (a / 2) (s / 2) (λ i. h (suc i)))
     where

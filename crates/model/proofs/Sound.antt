@@ -1,13 +1,13 @@
 -- The engine's rules are lawful: the sizes that every problem of a job keeps, and so every answer: each fits its bytes.
 use Prim.Native.Nat.{ℕ, zero, suc, _*_, _/_, _^_, _≤_, _<_}
 use native.Mathlib.Omega.{arith}
-use native.Mathlib.Nat.{mul-suc}
-use mathlib.Core.Path.{_≡_, refl, subst, subst⁻¹}
+use native.Mathlib.Nat.{mul-suc, le-refl}
+use mathlib.Core.Path.{_≡_, refl, _∙_, subst, subst⁻¹}
 use mathlib.Core.Bool.{Bool, true, false, not, cond, _&&_, _||_}
 use mathlib.Core.List.{List, [], _∷_, map}
 use lib.Dec.{T, leb, ltb, leb→le, ltb→lt, nleb→lt, nltb→le}
 use lib.Pow.{pow-mono}
-use lib.ListN.{getD, length, length-take, length-append, length-map}
+use lib.ListN.{getD, length, length-take, length-append, length-map, length-set}
 use Rattle.model.specs.Base.{bit, below, join, sum, All, Bytes}
 use Rattle.model.specs.Table.{Table, Term, formed}
 use Rattle.model.specs.Primes.{primes}
@@ -15,15 +15,16 @@ use Rattle.model.specs.Blocks.{Block, verticesBelow, blockFormed}
 use Rattle.model.specs.Sets.{Covering, members, coverable, irredundant, irredundants, cost, cheapest}
 use Rattle.model.specs.Products.{mostProducts, products}
 use Rattle.model.specs.Pages.{atOrAbove, page, more}
-use Rattle.model.specs.Candidates.{Candidate, Prices, usual, candidateCost, weigh}
-use Rattle.model.specs.Commands.{queried, Kind, kindOf, width, Problem, empty, atPlace, Context, low, operand, operandTerm, operandBlock, operandNumber, operandPrices}
+use Rattle.model.specs.Ranges.{Range, fixed, Ranged, possible, possibles}
+use Rattle.model.specs.Candidates.{Candidate, termsAlone, Prices, usual, candidateCost, weigh}
+use Rattle.model.specs.Commands.{queried, Kind, kindOf, width, Problem, empty, atPlace, Context, low, operand, operandTerm, operandBlock, operandNumber, rangeOfG, operandPrices}
 use Rattle.model.specs.Commands.{start, count, coveringOf, Row, rowOfR, rowsOfB, addRow, addCandidate, problemAfter, tableOf, pricesOf, basisOf}
 use Rattle.model.specs.Answers.{Answer, bytesOf, answerFor, answer}
 use Rattle.model.specs.Refusals.{size, dear, termRefusals, blockRefusals, refusalsOf}
 use Rattle.model.specs.Rules.{Rules, engine}
 use Rattle.model.specs.Job.{runBy, written}
 use Rattle.model.specs.Invariants.{Small, SmallCandidate, Moderate, Sound}
-use Rattle.model.proofs.Lists.{twice, not-or-l, not-or-r, and-l, and-r, below-e, length-without, all-append, all-filter, all-drop, all-without, all-of, all-to, all-map}
+use Rattle.model.proofs.Lists.{twice, not-or-l, not-or-r, and-l, and-r, below-e, length-without, all-append, all-filter, all-drop, all-without, all-set, all-of, all-to, all-map}
 use Rattle.model.proofs.Bits.{within-le}
 use Rattle.model.proofs.Sets.{cheapest-irredundant}
 use Rattle.model.proofs.Pages.{all-page}
@@ -115,6 +116,13 @@ listed-small k l =
     let h = pow-mono l in
     all-filter (λ (s : ℕ). s < 2 ^ 64) (irredundant k) sets (all-of (λ (s : ℕ). s < 2 ^ 64) sets (λ s m. omega (arith, h, below-e (2 ^ length (k .cands)) m)))
 
+pub possible-page-fits : (t : Context) (list : List ℕ) (m : Bool) → All (λ s. s < 2 ^ 64) list → FitsBehind (t .rest) (Answer.possiblePaged (page list (start t) (count t)) m)
+possible-page-fits t list m a = let f = page-fits t list m a in (f .0, λ b. (omega arith, f .1 b .1))
+
+pub possibles-small : {A X : Type 0} (k : Covering A X) (rs : List Range) → length (k .cands) ≤ 64 → All (λ s. s < 2 ^ 64) (possibles k rs)
+unfolding possibles
+possibles-small k rs l = all-filter (λ (s : ℕ). s < 2 ^ 64) (possible rs (irredundants k)) (irredundants k) (listed-small k l)
+
 cheapest-fits : (rest : List ℕ) (c s : ℕ) → c < 2 ^ 16 → s < 2 ^ 64 → FitsBehind rest (Answer.cheapestIs c s)
 cheapest-fits rest c s h l = ((h, l), λ b. (omega arith, all-append (λ (b : ℕ). b < 256) (low 2 c) (low 8 s) (low-bytes 2 c) (low-bytes 8 s)))
 
@@ -155,10 +163,10 @@ record LawfulAt (t : Context) (k : Kind) : Type 0 where
   fits : NoneApplies (refusalsOf t k) → Sound (t .problem) → FitsBehind (t .rest) (answerFor t k)
 
 sound-at : (place : ℕ) (q : Problem) → Sound q → Sound (atPlace place q)
-sound-at place q s = record { inputs = s .inputs; outputs = s .outputs; prices = s .prices; few = s .few; small = s .small }
+sound-at place q s = record { inputs = s .inputs; outputs = s .outputs; prices = s .prices; few = s .few; small = s .small; each-range = s .each-range; ranged = s .ranged; most = s .most }
 
 pub sound-row : (q : Problem) (w : Row) → Sound q → Sound (addRow q w)
-sound-row q w s = record { inputs = s .inputs; outputs = s .outputs; prices = s .prices; few = s .few; small = s .small }
+sound-row q w s = record { inputs = s .inputs; outputs = s .outputs; prices = s .prices; few = s .few; small = s .small; each-range = s .each-range; ranged = s .ranged; most = s .most }
 
 sound-I : (t : Context) → NoneApplies (refusalsOf t Kind.I) → Sound (problemAfter t Kind.I)
 unfolding refusalsOf problemAfter
@@ -170,6 +178,9 @@ sound-I t a =
       prices = usual-moderate;
       few = omega arith;
       small = tt;
+      each-range = refl;
+      ranged = tt;
+      most = tt;
     }
 
 -- one candidate more
@@ -180,7 +191,13 @@ sound-more q c l a s = record {
   prices = s .prices;
   few = omega (arith, nleb→lt 64 (length (q .cands)) l, length-append (q .cands) (c ∷ []));
   small = all-append SmallCandidate (q .cands) (c ∷ []) (s .small) (a, tt);
+  each-range = omega (arith, length-append (q .cands) (c ∷ []), length-append (q .ranges) (fixed w ∷ []), s .each-range);
+  ranged = all-append (λ (r : Range). r .low ≤ r .high) (q .ranges) (fixed w ∷ []) (s .ranged) (le-refl w, tt);
+  most = all-append (λ (r : Range). r .high ≤ 850) (q .ranges) (fixed w ∷ []) (s .most) (weight-small (pricesOf q) (s .prices) c a, tt);
 }
+  where
+    w : ℕ
+    w = candidateCost (pricesOf q) c
 
 -- T and A
 sound-term : (t : Context) → NoneApplies (termRefusals t) → Sound (t .problem) → Sound (addCandidate (t .problem) (Candidate.term (operandTerm t)))
@@ -220,12 +237,41 @@ fits-N t a s =
     let k = coveringOf t in
     products-fit (t .rest) (products k) (few-products k (a .1 .0)) (subst⁻¹ (All (λ s. s < 2 ^ 64)) (products-irredundants k) (listed-small k (s .few)))
 
+abbrev primesFound : Context → List Candidate
+primesFound t = termsAlone (primes (tableOf (t .problem)))
+
+primes-are-small : (t : Context) → Sound (t .problem) → All SmallCandidate (primesFound t)
+primes-are-small t s =
+    let p = tableOf (t .problem) in
+    all-map SmallCandidate Candidate.term (primes p) (primes-small p (s .inputs) (s .outputs))
+
+fixed-ranged : (ws : List ℕ) → Ranged (map fixed ws)
+fixed-ranged [] = tt
+fixed-ranged (w ∷ ws) = (le-refl w, fixed-ranged ws)
+
+sound-G : (t : Context) → NoneApplies (refusalsOf t Kind.G) → Sound (t .problem) → Sound (problemAfter t Kind.G)
+unfolding refusalsOf problemAfter
+sound-G t a s =
+    let r = rangeOfG (t .rest) in
+    let k = operandNumber t in
+    let rs = t .problem .ranges in
+    record {
+      inputs = s .inputs;
+      outputs = s .outputs;
+      prices = s .prices;
+      few = s .few;
+      small = s .small;
+      each-range = length-set rs k r ∙ s .each-range;
+      ranged = all-set (λ (r : Range). r .low ≤ r .high) k r rs (nltb→le (r .high) (r .low) (not-or-l (ltb (r .high) (r .low)) (ltb 850 (r .high)) (a .1 .0))) (s .ranged);
+      most = all-set (λ (r : Range). r .high ≤ 850) k r rs (nltb→le 850 (r .high) (not-or-r (ltb (r .high) (r .low)) (ltb 850 (r .high)) (a .1 .0))) (s .most);
+    }
+
 lawful-at : (t : Context) (k : Kind) → LawfulAt t k
 unfolding refusalsOf problemAfter answerFor
 lawful-at t Kind.I = record { numbered = (omega arith, tt); sound = λ a s. sound-I t a; fits = λ a s. (tt, λ b. tt) }
 lawful-at t Kind.W = record {
   numbered = (omega arith, tt);
-  sound = λ a s. record { inputs = s .inputs; outputs = s .outputs; prices = moderate (operandPrices t) (a .0); few = s .few; small = s .small };
+  sound = λ a s. record { inputs = s .inputs; outputs = s .outputs; prices = moderate (operandPrices t) (a .0); few = s .few; small = s .small; each-range = s .each-range; ranged = s .ranged; most = s .most };
   fits = λ a s. (tt, λ b. tt);
 }
 lawful-at t Kind.R = record { numbered = (omega arith, (omega arith, tt)); sound = λ a s. sound-row (t .problem) (rowOfR (t .rest)) s; fits = λ a s. (tt, λ b. tt) }
@@ -243,7 +289,11 @@ lawful-at t Kind.P = record {
     outputs = s .outputs;
     prices = s .prices;
     few = omega (arith, length-map (primes (tableOf (t .problem))) Candidate.term, nltb→le 64 (length (primes (tableOf (t .problem)))) (a .0));
-    small = all-map SmallCandidate Candidate.term (primes (tableOf (t .problem))) (primes-small (tableOf (t .problem)) (s .inputs) (s .outputs));
+    small = primes-are-small t s;
+    each-range = length-map (map (weigh (basisOf (t .problem))) (primesFound t)) fixed ∙ length-map (primesFound t) (weigh (basisOf (t .problem)));
+    ranged = fixed-ranged (map (weigh (basisOf (t .problem))) (primesFound t));
+    most = all-map (λ (r : Range). r .high ≤ 850) fixed (map (weigh (basisOf (t .problem))) (primesFound t))
+        (all-map (λ (w : ℕ). w ≤ 850) (weigh (basisOf (t .problem))) (primesFound t) (costs-small (pricesOf (t .problem)) (s .prices) (primesFound t) (primes-are-small t s)));
   };
   fits = fits-P t;
 }
@@ -256,8 +306,26 @@ lawful-at t Kind.D = record {
     prices = s .prices;
     few = omega (arith, length-without (operandNumber t) (t .problem .cands) (nleb→lt (length (t .problem .cands)) (operandNumber t) (a .0)), s .few);
     small = all-without SmallCandidate (operandNumber t) (t .problem .cands) (s .small);
+    each-range =
+        let lt = nleb→lt (length (t .problem .cands)) (operandNumber t) (a .0) in
+        omega (
+          arith,
+          length-without (operandNumber t) (t .problem .cands) lt,
+          length-without (operandNumber t) (t .problem .ranges) (omega (arith, lt, s .each-range)),
+          s .each-range,
+        );
+    ranged = all-without (λ (r : Range). r .low ≤ r .high) (operandNumber t) (t .problem .ranges) (s .ranged);
+    most = all-without (λ (r : Range). r .high ≤ 850) (operandNumber t) (t .problem .ranges) (s .most);
   };
   fits = λ a s. (tt, λ b. tt);
+}
+lawful-at t Kind.G = record { numbered = (omega arith, (omega arith, tt)); sound = sound-G t; fits = λ a s. (tt, λ b. tt) }
+lawful-at t Kind.«V» = record {
+  numbered = (omega arith, tt);
+  sound = λ a s. sound-at queried (t .problem) s;
+  fits = λ a s.
+      let all = possibles (coveringOf t) (t .problem .ranges) in
+      possible-page-fits t all (more all (start t) (count t)) (possibles-small (coveringOf t) (t .problem .ranges) (s .few));
 }
 lawful-at t Kind.L = record {
   numbered = (omega arith, tt);
@@ -315,7 +383,7 @@ module _ (rules : Rules) (law : Lawful rules) where
       (λ r. All Fits (r .answers) × (Bytes job → Bytes (join (map bytesOf (r .answers))))) job room (λ l. (tt, λ y. tt)) (λ l m r f. f none)
     where
       none : Sound empty
-      none = record { inputs = omega arith; outputs = omega arith; prices = usual-moderate; few = omega arith; small = tt }
+      none = record { inputs = omega arith; outputs = omega arith; prices = usual-moderate; few = omega arith; small = tt; each-range = refl; ranged = tt; most = tt }
 
   pub run-fits : (job : List ℕ) (room : ℕ) → All Fits (runBy rules job room .answers)
   run-fits job room = fine job room .0

@@ -1,5 +1,5 @@
 -- K2: what each command of a job finds is what the commands before it set, its place the highest that they raise the job to; the queries
--- among them may be left out. So demand 3 of all L, C and N behind the same commands.
+-- among them may be left out. So demand 3 of all L, V, C and N behind the same commands.
 use Prim.Native.Nat.{ℕ, _≤_, _<_, max}
 use native.Mathlib.Omega.{arith}
 use mathlib.Core.Path.{_≡_, refl, sym, ap, ap₂, _∙_, subst, subst⁻¹}
@@ -45,7 +45,9 @@ sets-by x Kind.F g = ap (λ (b : Block). priced (pricesOf (x .problem)) (tableOf
 sets-by x Kind.P g = refl
 sets-by x Kind.A g = rw (g 0 (omega arith), g 1 (omega arith), g 2 (omega arith))
 sets-by x Kind.D g = rw (g 0 (omega arith))
+sets-by x Kind.G g = refl
 sets-by x Kind.L g = refl
+sets-by x Kind.«V» g = refl
 sets-by x Kind.C g = refl
 sets-by x Kind.N g = refl
 sets-by x Kind.E g = refl
@@ -95,6 +97,8 @@ raised x Kind.F a = omega arith
 raised x Kind.P a = omega (arith, place-last Kind.P (x .problem .place) a)
 raised x Kind.A a = omega arith
 raised x Kind.D a = omega (arith, place-one Kind.D (x .problem .place) tt a)
+raised x Kind.G a = omega (arith, place-last Kind.G (x .problem .place) a)
+raised x Kind.«V» a = omega (arith, place-last Kind.«V» (x .problem .place) a)
 raised x Kind.L a = omega (arith, place-last Kind.L (x .problem .place) a)
 raised x Kind.C a = omega (arith, place-last Kind.C (x .problem .place) a)
 raised x Kind.N a = omega (arith, place-last Kind.N (x .problem .place) a)
@@ -102,7 +106,7 @@ raised x Kind.E a = omega arith
 raised x Kind.none a = omega arith
 
 pub query-raises : (k : Kind) → T (isQueryKind k) → raises k ≡ queried
-query-raises = any-query (λ k. raises k ≡ queried) (refl, (refl, (refl, tt)))
+query-raises = any-query (λ k. raises k ≡ queried) (refl, (refl, (refl, (refl, tt))))
 
 abbrev At : Problem → List Context → Context → Type 0
 At q before x = x .problem .place ≡ max (highest before) (q .place)
@@ -122,17 +126,17 @@ raises-as-R = refl
 
 -- in the paper's words: which kinds raise the place beyond that of I, of a row, and of a term
 
-beyond-start : (k : Kind) → leb (raises k) begun ≡ not (some (is k) (Kind.W ∷ Kind.R ∷ Kind.B ∷ Kind.T ∷ Kind.F ∷ Kind.A ∷ Kind.P ∷ Kind.L ∷ Kind.C ∷ Kind.N ∷ []))
-beyond-start k = all-e (λ (k : Kind). leb (raises k) begun ≡ not (some (is k) (Kind.W ∷ Kind.R ∷ Kind.B ∷ Kind.T ∷ Kind.F ∷ Kind.A ∷ Kind.P ∷ Kind.L ∷ Kind.C ∷ Kind.N ∷ []))) (Kind.none ∷ kinds)
-    (refl, (refl, (refl, (refl, (refl, (refl, (refl, (refl, (refl, (refl, (refl, (refl, (refl, (refl, tt)))))))))))))) (kind-among k)
+beyond-start : (k : Kind) → leb (raises k) begun ≡ not (some (is k) (Kind.W ∷ Kind.R ∷ Kind.B ∷ Kind.T ∷ Kind.F ∷ Kind.A ∷ Kind.P ∷ Kind.G ∷ Kind.L ∷ Kind.«V» ∷ Kind.C ∷ Kind.N ∷ []))
+beyond-start k = all-e (λ (k : Kind). leb (raises k) begun ≡ not (some (is k) (Kind.W ∷ Kind.R ∷ Kind.B ∷ Kind.T ∷ Kind.F ∷ Kind.A ∷ Kind.P ∷ Kind.G ∷ Kind.L ∷ Kind.«V» ∷ Kind.C ∷ Kind.N ∷ []))) (Kind.none ∷ kinds)
+    (refl, (refl, (refl, (refl, (refl, (refl, (refl, (refl, (refl, (refl, (refl, (refl, (refl, (refl, (refl, (refl, tt)))))))))))))))) (kind-among k)
 
-beyond-rows : (k : Kind) → leb (raises k) inRows ≡ not (some (is k) (Kind.T ∷ Kind.F ∷ Kind.A ∷ Kind.P ∷ Kind.L ∷ Kind.C ∷ Kind.N ∷ []))
-beyond-rows k = all-e (λ (k : Kind). leb (raises k) inRows ≡ not (some (is k) (Kind.T ∷ Kind.F ∷ Kind.A ∷ Kind.P ∷ Kind.L ∷ Kind.C ∷ Kind.N ∷ []))) (Kind.none ∷ kinds)
-    (refl, (refl, (refl, (refl, (refl, (refl, (refl, (refl, (refl, (refl, (refl, (refl, (refl, (refl, tt)))))))))))))) (kind-among k)
+beyond-rows : (k : Kind) → leb (raises k) inRows ≡ not (some (is k) (Kind.T ∷ Kind.F ∷ Kind.A ∷ Kind.P ∷ Kind.G ∷ Kind.L ∷ Kind.«V» ∷ Kind.C ∷ Kind.N ∷ []))
+beyond-rows k = all-e (λ (k : Kind). leb (raises k) inRows ≡ not (some (is k) (Kind.T ∷ Kind.F ∷ Kind.A ∷ Kind.P ∷ Kind.G ∷ Kind.L ∷ Kind.«V» ∷ Kind.C ∷ Kind.N ∷ []))) (Kind.none ∷ kinds)
+    (refl, (refl, (refl, (refl, (refl, (refl, (refl, (refl, (refl, (refl, (refl, (refl, (refl, (refl, (refl, (refl, tt)))))))))))))))) (kind-among k)
 
-beyond-terms : (k : Kind) → leb (raises k) inCandidates ≡ not (some (is k) (Kind.P ∷ Kind.L ∷ Kind.C ∷ Kind.N ∷ []))
-beyond-terms k = all-e (λ (k : Kind). leb (raises k) inCandidates ≡ not (some (is k) (Kind.P ∷ Kind.L ∷ Kind.C ∷ Kind.N ∷ []))) (Kind.none ∷ kinds)
-    (refl, (refl, (refl, (refl, (refl, (refl, (refl, (refl, (refl, (refl, (refl, (refl, (refl, (refl, tt)))))))))))))) (kind-among k)
+beyond-terms : (k : Kind) → leb (raises k) inCandidates ≡ not (some (is k) (Kind.P ∷ Kind.G ∷ Kind.L ∷ Kind.«V» ∷ Kind.C ∷ Kind.N ∷ []))
+beyond-terms k = all-e (λ (k : Kind). leb (raises k) inCandidates ≡ not (some (is k) (Kind.P ∷ Kind.G ∷ Kind.L ∷ Kind.«V» ∷ Kind.C ∷ Kind.N ∷ []))) (Kind.none ∷ kinds)
+    (refl, (refl, (refl, (refl, (refl, (refl, (refl, (refl, (refl, (refl, (refl, (refl, (refl, (refl, (refl, (refl, tt)))))))))))))))) (kind-among k)
 
 max-leb : (a b m : ℕ) → leb (max a b) m ≡ leb a m && leb b m
 max-leb a b m = bool-ext (leb (max a b) m) (leb a m && leb b m)
@@ -156,12 +160,12 @@ pub places : Places
 places job room before x g l =
     let e = placed job room before x g in
     record {
-      prices = place-in-words Kind.W (Kind.W ∷ Kind.R ∷ Kind.B ∷ Kind.T ∷ Kind.F ∷ Kind.A ∷ Kind.P ∷ Kind.L ∷ Kind.C ∷ Kind.N ∷ []) beyond-start before (x .problem .place) e l;
-      row = place-in-words Kind.R (Kind.T ∷ Kind.F ∷ Kind.A ∷ Kind.P ∷ Kind.L ∷ Kind.C ∷ Kind.N ∷ []) beyond-rows before (x .problem .place) e l;
-      rows = place-in-words Kind.B (Kind.T ∷ Kind.F ∷ Kind.A ∷ Kind.P ∷ Kind.L ∷ Kind.C ∷ Kind.N ∷ []) beyond-rows before (x .problem .place) e l;
-      primes = place-in-words Kind.P (Kind.T ∷ Kind.F ∷ Kind.A ∷ Kind.P ∷ Kind.L ∷ Kind.C ∷ Kind.N ∷ []) beyond-rows before (x .problem .place) e l;
-      term = place-in-words Kind.T (Kind.P ∷ Kind.L ∷ Kind.C ∷ Kind.N ∷ []) beyond-terms before (x .problem .place) e l;
-      block = place-in-words Kind.F (Kind.P ∷ Kind.L ∷ Kind.C ∷ Kind.N ∷ []) beyond-terms before (x .problem .place) e l;
+      prices = place-in-words Kind.W (Kind.W ∷ Kind.R ∷ Kind.B ∷ Kind.T ∷ Kind.F ∷ Kind.A ∷ Kind.P ∷ Kind.G ∷ Kind.L ∷ Kind.«V» ∷ Kind.C ∷ Kind.N ∷ []) beyond-start before (x .problem .place) e l;
+      row = place-in-words Kind.R (Kind.T ∷ Kind.F ∷ Kind.A ∷ Kind.P ∷ Kind.G ∷ Kind.L ∷ Kind.«V» ∷ Kind.C ∷ Kind.N ∷ []) beyond-rows before (x .problem .place) e l;
+      rows = place-in-words Kind.B (Kind.T ∷ Kind.F ∷ Kind.A ∷ Kind.P ∷ Kind.G ∷ Kind.L ∷ Kind.«V» ∷ Kind.C ∷ Kind.N ∷ []) beyond-rows before (x .problem .place) e l;
+      primes = place-in-words Kind.P (Kind.T ∷ Kind.F ∷ Kind.A ∷ Kind.P ∷ Kind.G ∷ Kind.L ∷ Kind.«V» ∷ Kind.C ∷ Kind.N ∷ []) beyond-rows before (x .problem .place) e l;
+      term = place-in-words Kind.T (Kind.P ∷ Kind.G ∷ Kind.L ∷ Kind.«V» ∷ Kind.C ∷ Kind.N ∷ []) beyond-terms before (x .problem .place) e l;
+      block = place-in-words Kind.F (Kind.P ∷ Kind.G ∷ Kind.L ∷ Kind.«V» ∷ Kind.C ∷ Kind.N ∷ []) beyond-terms before (x .problem .place) e l;
     }
 
 -- ---- no A and no D between
@@ -176,7 +180,9 @@ settled x Kind.B p a n = absurd (omega (arith, place-last Kind.B (x .problem .pl
 settled x Kind.T p a n = absurd (omega (arith, place-last Kind.T (x .problem .place) a))
 settled x Kind.F p a n = absurd (omega (arith, place-last Kind.F (x .problem .place) a))
 settled x Kind.P p a n = absurd (omega (arith, place-last Kind.P (x .problem .place) a))
+settled x Kind.G p a n = refl
 settled x Kind.L p a n = refl
+settled x Kind.«V» p a n = refl
 settled x Kind.C p a n = refl
 settled x Kind.N p a n = refl
 settled x Kind.E p a n = refl
@@ -215,11 +221,11 @@ same-between job room before x between y g q s =
 
 -- ---- the same commands
 
-query-sets : (c : Command) (b : Basis) (k : Kind) → T (isQueryKind k) → setsTo c k b ≡ b
+pub query-sets : (c : Command) (b : Basis) (k : Kind) → T (isQueryKind k) → setsTo c k b ≡ b
 unfolding setsTo
-query-sets c b = any-query (λ k. setsTo c k b ≡ b) (refl, (refl, (refl, tt)))
+query-sets c b = any-query (λ k. setsTo c k b ≡ b) (refl, (refl, (refl, (refl, tt))))
 
-abbrev noQuery : Command → Bool
+abbrev pub noQuery : Command → Bool
 noQuery c = not (isQueryKind (c .kind))
 
 -- the queries may be left out

@@ -1,4 +1,4 @@
--- K6: a job with zeros for W's operands, command by command, and a command that finds its problem without prices and weights.
+-- K6: a job with zeros for W's operands, command by command, and a command that finds its problem without prices, weights and ranges.
 use Prim.Native.Nat.{ℕ, _≤_}
 use native.Mathlib.Omega.{arith}
 use mathlib.Core.Path.{_≡_, refl, sym, ap, _∙_}
@@ -75,10 +75,10 @@ behind-own b bs n = rw (T-false {b = is (kindOf b) Kind.W} n) (go (all-or-within
         let e = reach-width b bs i bs in
         rw e (take-at (take w bs) (unpriced (drop w bs)) w (length-take-le w bs (i .operands)))
 
--- ---- a problem without its prices and weights
+-- ---- a problem without its prices, weights and ranges
 
 abbrev pub erased : Problem → Problem
-erased q = withPrices usual (withCands (q .cands) [] q)
+erased q = withPrices usual (withCands (q .cands) [] [] q)
 
 -- a command that finds it so
 abbrev pub plain : Context → Context
@@ -92,34 +92,37 @@ rows-same : (ws : List Row) (q : Problem) → erased (addRows (erased q) ws) ≡
 rows-same [] q = refl
 rows-same (w ∷ ws) q = rows-same ws (addRow q w)
 
--- a command of kind k answers the same but for what the cheapest costs, and leaves the same but for prices and weights
+-- a command of kind k answers the same but for what the cheapest costs, and leaves the same but for prices, weights and ranges
 pub record Unpriced (x : Context) (k : Kind) : Type 0 where
   pub refusals : refusalsOf (plain x) k ≡ refusalsOf x k
   pub answer : uncosted (answerFor (plain x) k) ≡ uncosted (answerFor x k)
   pub after : erased (problemAfter (plain x) k) ≡ erased (problemAfter x k)
 
-pub unpriced-by : (x : Context) (k : Kind) → Unpriced x k
+pub unpriced-by : (x : Context) (k : Kind) → T (not (is k Kind.«V»)) → Unpriced x k
 unfolding refusalsOf answerFor problemAfter coverable irredundants irredundant redundant cover products tooMany productsUpTo kept joined holders
-unpriced-by x Kind.I = record { refusals = refl; answer = refl; after = refl }
-unpriced-by x Kind.W = record { refusals = refl; answer = refl; after = refl }
-unpriced-by x Kind.R = record { refusals = refl; answer = refl; after = refl }
-unpriced-by x Kind.B = record { refusals = rows-refused (rowsOfB (x .rest)) (x .problem); answer = refl; after = rows-same (rowsOfB (x .rest)) (x .problem) }
-unpriced-by x Kind.T = record { refusals = refl; answer = refl; after = refl }
-unpriced-by x Kind.F = record { refusals = refl; answer = refl; after = refl }
-unpriced-by x Kind.P = record { refusals = refl; answer = refl; after = refl }
-unpriced-by x Kind.A = record { refusals = refl; answer = refl; after = refl }
-unpriced-by x Kind.D = record { refusals = refl; answer = refl; after = refl }
-unpriced-by x Kind.L = record { refusals = refl; answer = refl; after = refl }
-unpriced-by x Kind.C = record { refusals = refl; answer = refl; after = refl }
-unpriced-by x Kind.N = record { refusals = refl; answer = refl; after = refl }
-unpriced-by x Kind.E = record { refusals = refl; answer = refl; after = refl }
-unpriced-by x Kind.none = record { refusals = refl; answer = refl; after = refl }
+unpriced-by x Kind.I n = record { refusals = refl; answer = refl; after = refl }
+unpriced-by x Kind.W n = record { refusals = refl; answer = refl; after = refl }
+unpriced-by x Kind.R n = record { refusals = refl; answer = refl; after = refl }
+unpriced-by x Kind.B n = record { refusals = rows-refused (rowsOfB (x .rest)) (x .problem); answer = refl; after = rows-same (rowsOfB (x .rest)) (x .problem) }
+unpriced-by x Kind.T n = record { refusals = refl; answer = refl; after = refl }
+unpriced-by x Kind.F n = record { refusals = refl; answer = refl; after = refl }
+unpriced-by x Kind.P n = record { refusals = refl; answer = refl; after = refl }
+unpriced-by x Kind.A n = record { refusals = refl; answer = refl; after = refl }
+unpriced-by x Kind.D n = record { refusals = refl; answer = refl; after = refl }
+unpriced-by x Kind.G n = record { refusals = refl; answer = refl; after = refl }
+unpriced-by x Kind.«V» n = absurd n
+unpriced-by x Kind.L n = record { refusals = refl; answer = refl; after = refl }
+unpriced-by x Kind.C n = record { refusals = refl; answer = refl; after = refl }
+unpriced-by x Kind.N n = record { refusals = refl; answer = refl; after = refl }
+unpriced-by x Kind.E n = record { refusals = refl; answer = refl; after = refl }
+unpriced-by x Kind.none n = record { refusals = refl; answer = refl; after = refl }
 
 -- its answer is as long
 pub uncosted-length : (a : Answer) → length (bytesOf (uncosted a)) ≡ length (bytesOf a)
 uncosted-length Answer.nothing = refl
 uncosted-length (Answer.primesAre ts) = refl
 uncosted-length (Answer.paged ss m) = refl
+uncosted-length (Answer.possiblePaged ss m) = refl
 uncosted-length (Answer.cheapestIs c s) = refl
 uncosted-length (Answer.productsAre ss) = refl
 uncosted-length Answer.ended = refl
@@ -128,6 +131,7 @@ pub uncosted-bytes : (a : Answer) → hasBytes (uncosted a) ≡ hasBytes a
 uncosted-bytes Answer.nothing = refl
 uncosted-bytes (Answer.primesAre ts) = refl
 uncosted-bytes (Answer.paged ss m) = refl
+uncosted-bytes (Answer.possiblePaged ss m) = refl
 uncosted-bytes (Answer.cheapestIs c s) = refl
 uncosted-bytes (Answer.productsAre ss) = refl
 uncosted-bytes Answer.ended = refl

@@ -14,6 +14,7 @@ use Rattle.model.specs.Base.{some, without, All}
 use Rattle.model.specs.Table.{Table, Term, formed, holdsNoOff, legal}
 use Rattle.model.specs.Primes.{primes}
 use Rattle.model.specs.Blocks.{blockFormed, blockHoldsNoOff}
+use Rattle.model.specs.Ranges.{Range}
 use Rattle.model.specs.Candidates.{Candidate, termsAlone, candidateLegal}
 use Rattle.model.specs.Commands.{atStart, begun, inRows, inCandidates, queried, Kind, formOf, is, allowed, Problem, Context, operand, operandTerm, operandBlock}
 use Rattle.model.specs.Commands.{operandNumber, Row, rowOfR, rowsOfB, withRow, withRows, atPlace, withCands, addRow, addRows, addCandidate, problemAfter, empty, tableOf}
@@ -125,9 +126,9 @@ valid-rows : (q : Problem) (ws : List Row) → begun ≤ q .place → q .place �
 valid-rows q ws o m a s = rows-keep InRows (λ r w b v. (omega arith, omega arith, valid-row r w (v .0) (v .1) b (v .2))) ws q a (o, m, s) .2
 
 -- other candidates, behind the rows
-valid-cands : (q : Problem) (place : ℕ) (cs : List Candidate) (ws : List ℕ) → inCandidates ≤ place → begun ≤ q .place → Valid q → All (λ c. T (candidateLegal (tableOf q) c)) cs
-    → Sound (atPlace place (withCands cs ws q)) → Valid (atPlace place (withCands cs ws q))
-valid-cands q place cs ws i o v l s = record { sound = s; sizes = λ h. v .sizes o; rows = λ h. v .rows o; good = v .good; early = λ h. absurd (omega (arith, h)); legal = l }
+valid-cands : (q : Problem) (place : ℕ) (cs : List Candidate) (ws : List ℕ) (rs : List Range) → inCandidates ≤ place → begun ≤ q .place → Valid q → All (λ c. T (candidateLegal (tableOf q) c)) cs
+    → Sound (atPlace place (withCands cs ws rs q)) → Valid (atPlace place (withCands cs ws rs q))
+valid-cands q place cs ws rs i o v l s = record { sound = s; sizes = λ h. v .sizes o; rows = λ h. v .rows o; good = v .good; early = λ h. absurd (omega (arith, h)); legal = l }
 
 legal-term : (t : Context) → NoneApplies (termRefusals t) → T (legal (tableOf (t .problem)) (operandTerm t))
 unfolding legal
@@ -143,7 +144,7 @@ legal-block t a =
 
 -- one candidate more: T, F and A
 valid-more : (q : Problem) (c : Candidate) → begun ≤ q .place → T (candidateLegal (tableOf q) c) → Valid q → Sound (addCandidate q c) → Valid (addCandidate q c)
-valid-more q c o l s = valid-cands q (max (q .place) inCandidates) (q .cands ++ (c ∷ [])) _ (omega arith) o s
+valid-more q c o l s = valid-cands q (max (q .place) inCandidates) (q .cands ++ (c ∷ [])) _ _ (omega arith) o s
     (all-append (λ (c : Candidate). T (candidateLegal (tableOf q) c)) (q .cands) (c ∷ []) (s .legal) (l, tt))
 
 primes-legal : (p : Table) → All (λ u. T (legal p u)) (primes p)
@@ -160,7 +161,7 @@ after-valid t Kind.F p a s = valid-more (t .problem) (Candidate.block (operandBl
 after-valid t Kind.P i a s =
     let p = tableOf (t .problem) in
     let ts = primes p in
-    valid-cands (t .problem) queried (termsAlone ts) _ (omega arith) (place-one Kind.P (t .problem .place) tt i) s
+    valid-cands (t .problem) queried (termsAlone ts) _ _ (omega arith) (place-one Kind.P (t .problem .place) tt i) s
     (all-map (λ (c : Candidate). T (candidateLegal p c)) Candidate.term ts (primes-legal p)) (after-sound t Kind.P a (s .sound))
 after-valid t Kind.A p a s = valid-more (t .problem) (Candidate.term (operandTerm t)) (place-one Kind.A (t .problem .place) tt p) (legal-term t a) s (after-sound t Kind.A a (s .sound))
 after-valid t Kind.D p a s = record {
@@ -171,9 +172,11 @@ after-valid t Kind.D p a s = record {
   early = λ l. ap (without (operandNumber t)) (s .early l);
   legal = all-without (λ (c : Candidate). T (candidateLegal (tableOf (t .problem)) c)) (operandNumber t) (t .problem .cands) (s .legal);
 }
-after-valid t Kind.L p a s = valid-cands (t .problem) queried (t .problem .cands) _ (omega arith) (place-one Kind.L (t .problem .place) tt p) s (s .legal) (after-sound t Kind.L a (s .sound))
-after-valid t Kind.N p a s = valid-cands (t .problem) queried (t .problem .cands) _ (omega arith) (place-one Kind.N (t .problem .place) tt p) s (s .legal) (after-sound t Kind.N a (s .sound))
-after-valid t Kind.C p a s = valid-cands (t .problem) queried (t .problem .cands) _ (omega arith) (place-one Kind.C (t .problem .place) tt p) s (s .legal) (after-sound t Kind.C a (s .sound))
+after-valid t Kind.G p a s = valid-cands (t .problem) queried (t .problem .cands) _ _ (omega arith) (place-one Kind.G (t .problem .place) tt p) s (s .legal) (after-sound t Kind.G a (s .sound))
+after-valid t Kind.«V» p a s = valid-cands (t .problem) queried (t .problem .cands) _ _ (omega arith) (place-one Kind.«V» (t .problem .place) tt p) s (s .legal) (after-sound t Kind.«V» a (s .sound))
+after-valid t Kind.L p a s = valid-cands (t .problem) queried (t .problem .cands) _ _ (omega arith) (place-one Kind.L (t .problem .place) tt p) s (s .legal) (after-sound t Kind.L a (s .sound))
+after-valid t Kind.N p a s = valid-cands (t .problem) queried (t .problem .cands) _ _ (omega arith) (place-one Kind.N (t .problem .place) tt p) s (s .legal) (after-sound t Kind.N a (s .sound))
+after-valid t Kind.C p a s = valid-cands (t .problem) queried (t .problem .cands) _ _ (omega arith) (place-one Kind.C (t .problem .place) tt p) s (s .legal) (after-sound t Kind.C a (s .sound))
 after-valid t Kind.E p a s = s
 after-valid t Kind.none p a s = s
 
@@ -181,7 +184,7 @@ after-valid t Kind.none p a s = s
 
 pub valid-empty : Valid empty
 valid-empty = record {
-  sound = record { inputs = omega arith; outputs = omega arith; prices = usual-moderate; few = omega arith; small = tt };
+  sound = record { inputs = omega arith; outputs = omega arith; prices = usual-moderate; few = omega arith; small = tt; each-range = refl; ranged = tt; most = tt };
   sizes = λ l. absurd (omega (arith, l));
   rows = λ l. absurd (omega (arith, l));
   good = λ v. zeros-good 0;

@@ -144,7 +144,7 @@ blockStops =
 
 -- ---- jobs with the bytes that they write
 
-abbrev oddRows : List ℕ → List ℕ
+abbrev pub oddRows : List ℕ → List ℕ
 oddRows bs = 0x49 ∷ 2 ∷ 1 ∷ row 1 1 0 (row 2 1 0 bs)
 
 abbrev pub blockJobs : List AnsweredJob

@@ -23,14 +23,15 @@ abbrev pub readSets : ℕ → List ℕ → List ℕ
 readSets zero bs = []
 readSets (suc k) bs = number (take 8 bs) ∷ readSets k (drop 8 bs)
 
--- the answer that begins with byte b, with these bytes behind it: 0x70 a P's, 0x6C an L's, 0x63 a C's, 0x6E an N's, 0x65 an E's
+-- the answer that begins with byte b, with these bytes behind it: 0x70 a P's, 0x6C an L's, 0x76 a V's, 0x63 a C's, 0x6E an N's, 0x65 an E's
 unfoldable pub decoded : ℕ → List ℕ → Answer
 decoded b bs =
     let primes = Answer.primesAre (readTerms (getD bs 0 0) (drop 1 bs)) in
     let page = Answer.paged (readSets (getD bs 0 0) (drop 2 bs)) (eqb (getD bs 1 0) 1) in
     let cheapest = Answer.cheapestIs (number (take 2 bs)) (number (take 8 (drop 2 bs))) in
     let products = Answer.productsAre (readSets (number (take 2 bs)) (drop 2 bs)) in
-    let e = cond (eqb b 0x65) Answer.ended Answer.nothing in
+    let possible = Answer.possiblePaged (readSets (getD bs 0 0) (drop 2 bs)) (eqb (getD bs 1 0) 1) in
+    let e = cond (eqb b 0x65) Answer.ended (cond (eqb b 0x76) possible Answer.nothing) in
     let c = cond (eqb b 0x63) cheapest (cond (eqb b 0x6e) products e) in
     let l = cond (eqb b 0x6c) page c in
     cond (eqb b 0x70) primes l

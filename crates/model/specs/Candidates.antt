@@ -53,7 +53,7 @@ abbrev pub candidateCost : Prices → Candidate → ℕ
 candidateCost w (term t) = termCost w t
 candidateCost w (block b) = b .weight
 
--- what the commands L, C and N stand on: "one table and the candidates", and "the prices set"
+-- what the commands L, V, C and N stand on: "one table and the candidates", and "the prices set"
 pub record Basis : Type 0 where
   pub table : Table
   pub prices : Prices

@@ -324,7 +324,7 @@ abbrev pub ask : List ℕ → List ℕ
 ask bs = l 255 (0x43 ∷ bs)
 
 -- the rows of the example job, and its terms put in by A
-abbrev exampleRows : List ℕ → List ℕ
+abbrev pub exampleRows : List ℕ → List ℕ
 exampleRows bs = 0x49 ∷ 2 ∷ 2 ∷ row 0 0 1 (row 1 1 2 (row 2 3 0 (row 3 2 0 bs)))
 
 abbrev sixAdded : List ℕ → List ℕ

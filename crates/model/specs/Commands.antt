@@ -1,4 +1,4 @@
--- Paper 01, "Job stream", and K2, K3, K5, K6, K8 and K10: the commands, the problem so far, and what a command makes of it.
+-- Paper 01, "Job stream", and K2, K3, K5, K6, K8, K10 and K11: the commands, the problem so far, and what a command makes of it.
 use Prim.Native.Nat.{ℕ, zero, suc, _+_, _*_, _/_, _%_, _^_, max}
 use mathlib.Core.Bool.{Bool, true, false, cond, _&&_}
 use mathlib.Core.List.{List, [], _∷_, _++_, map}
@@ -9,6 +9,7 @@ use Rattle.model.specs.Table.{Table, Cell, Term, term}
 use Rattle.model.specs.Primes.{primes}
 use Rattle.model.specs.Blocks.{Block}
 use Rattle.model.specs.Sets.{Covering}
+use Rattle.model.specs.Ranges.{Range, between, fixed}
 use Rattle.model.specs.Candidates.{Candidate, termsAlone, Prices, prices, usual, candidateCost, Basis, priced, covering}
 
 -- ---- numbers as bytes
@@ -24,7 +25,8 @@ number (b ∷ bs) = b + 256 * number bs
 
 -- ---- places
 
--- the place in a job, by the furthest that came: nothing, I, W, a row (R or B), a candidate (T, F or A), or a P, L, C or N. Each is behind those before it
+-- the place in a job, by the furthest that came: nothing, I, W, a row (R or B), a candidate (T, F or A), or a P, L, C, N, G or V. Each is behind
+-- those before it
 abbrev pub atStart : ℕ
 atStart = 0
 
@@ -45,9 +47,9 @@ queried = 5
 
 -- ---- commands
 
--- "commands of one byte"; `none` is a byte that is no command
+-- "commands of one byte"; `none` is a byte that is no command. V is «V»: the letter alone is a word of the prover's
 pub data Kind : Type 0 where
-  I W R B T F P A D L C N E none : Kind
+  I W R B T F P A D G L «V» C N E none : Kind
 
 -- "one byte with operands of fixed widths": the byte, the width, the last place at which the command may stand, and whether it is a
 -- query, which asks for covers
@@ -62,7 +64,9 @@ form code width last query = record { code = code; width = width; last = last; q
 
 -- I "first, once"; W "may stand once, after I and before any R, B, T, A, P, L or C"; R "after I, before any T, P, L or C"; B "stands where R may
 -- stand"; T "after I and any R, not after P, L or C"; F "where T may stand", and "For the place of every other command an F counts as a T"; P "at
--- most once, no T before it, not after L or C"; A and D "may stand anywhere after I and before E"; L, C and E "after I"; N "where L may stand", and "for the place of the other commands it counts as an L"
+-- most once, no T before it, not after L or C"; A and D "may stand anywhere after I and before E"; L, C and E "after I"; N "where L may stand", and
+-- "for the place of the other commands it counts as an L"; G "where L may stand", V "has L's operands and place", and "for the place of the other
+-- commands G and V count as an L"
 abbrev pub formOf : Kind → Form
 formOf I = form 0x49 2 atStart false
 formOf W = form 0x57 3 begun false
@@ -73,7 +77,9 @@ formOf F = form 0x46 35 inCandidates false
 formOf P = form 0x50 0 inRows false
 formOf A = form 0x41 3 queried false
 formOf D = form 0x44 1 queried false
+formOf G = form 0x47 5 queried false
 formOf L = form 0x4c 9 queried true
+formOf «V» = form 0x56 9 queried true
 formOf C = form 0x43 0 queried true
 formOf N = form 0x4e 0 queried true
 formOf E = form 0x45 0 queried false
@@ -95,7 +101,7 @@ firstKind b (k ∷ ks) = let r = firstKind b ks in cond (eqb b (formOf k .code))
 
 -- all commands
 abbrev pub kinds : List Kind
-kinds = I ∷ W ∷ R ∷ B ∷ T ∷ F ∷ P ∷ A ∷ D ∷ L ∷ C ∷ N ∷ E ∷ []
+kinds = I ∷ W ∷ R ∷ B ∷ T ∷ F ∷ P ∷ A ∷ D ∷ G ∷ L ∷ «V» ∷ C ∷ N ∷ E ∷ []
 
 unfoldable pub kindOf : ℕ → Kind
 kindOf b = firstKind b kinds
@@ -121,13 +127,15 @@ pub record TableRows : Type 0 where
   pub dc : List ℕ
   pub given : List ℕ
 
--- "the problem so far is one record that holds its rows and its candidates", and K5: "the weight written beside each candidate"
+-- "the problem so far is one record that holds its rows and its candidates"; K5: "the weight written beside each candidate"; and K11: the
+-- range of each weight
 pub record Problem : Type 0 where
   pub place : ℕ
   pub settings : Settings
   pub rows : TableRows
   pub cands : List Candidate
   pub weights : List ℕ
+  pub ranges : List Range
 
 -- no row yet
 abbrev pub emptyRows : ℕ → TableRows
@@ -135,7 +143,7 @@ emptyRows k = record { on = replicate k 0; dc = replicate k 0; given = [] }
 
 -- n inputs and m outputs, with no row for any of so many vertices. K6: "Without it the prices are 1, 1 and 0"
 abbrev pub started : ℕ → ℕ → ℕ → ℕ → Problem
-started place n m vertices = record { place = place; settings = record { n = n; m = m; prices = usual }; rows = emptyRows vertices; cands = []; weights = [] }
+started place n m vertices = record { place = place; settings = record { n = n; m = m; prices = usual }; rows = emptyRows vertices; cands = []; weights = []; ranges = [] }
 
 abbrev pub empty : Problem
 empty = started atStart 0 0 0
@@ -159,7 +167,7 @@ pub record Context : Type 0 where
   pub rest : List ℕ
   pub free : ℕ
 
--- the covering problem that an L, a C or an N finds
+-- the covering problem that an L, a V, a C or an N finds
 abbrev pub coveringOf : Context → Covering Candidate Cell
 coveringOf x = covering (basisOf (x .problem))
 
@@ -204,7 +212,11 @@ operandBlock x = blockOfF (x .rest)
 abbrev pub operandNumber : Context → ℕ
 operandNumber x = operand x 0
 
--- L: "start (8 bytes), count (1)"
+-- G: "a candidate's number, a low and a high weight of two bytes each"
+abbrev pub rangeOfG : List ℕ → Range
+rangeOfG bs = between (number (getD bs 1 0 ∷ getD bs 2 0 ∷ [])) (number (getD bs 3 0 ∷ getD bs 4 0 ∷ []))
+
+-- L: "start (8 bytes), count (1)"; V "has L's operands"
 abbrev pub start : Context → ℕ
 start x = number (take 8 (x .rest))
 
@@ -218,10 +230,10 @@ abbrev pub withRow : TableRows → ℕ → ℕ → ℕ → TableRows
 withRow rows v x y = record { on = set (rows .on) v x; dc = set (rows .dc) v y; given = v ∷ rows .given }
 
 abbrev pub atPlace : ℕ → Problem → Problem
-atPlace place q = record { place = place; settings = q .settings; rows = q .rows; cands = q .cands; weights = q .weights }
+atPlace place q = record { place = place; settings = q .settings; rows = q .rows; cands = q .cands; weights = q .weights; ranges = q .ranges }
 
 abbrev pub withRows : TableRows → Problem → Problem
-withRows rows q = record { place = q .place; settings = q .settings; rows = rows; cands = q .cands; weights = q .weights }
+withRows rows q = record { place = q .place; settings = q .settings; rows = rows; cands = q .cands; weights = q .weights; ranges = q .ranges }
 
 abbrev pub withPrices : Prices → Problem → Problem
 withPrices w q = record {
@@ -230,11 +242,12 @@ withPrices w q = record {
   rows = q .rows;
   cands = q .cands;
   weights = q .weights;
+  ranges = q .ranges;
 }
 
--- with other candidates, and other weights beside them
-abbrev pub withCands : List Candidate → List ℕ → Problem → Problem
-withCands cs ws q = record { place = q .place; settings = q .settings; rows = q .rows; cands = cs; weights = ws }
+-- with other candidates, and other weights and ranges beside them
+abbrev pub withCands : List Candidate → List ℕ → List Range → Problem → Problem
+withCands cs ws rs q = record { place = q .place; settings = q .settings; rows = q .rows; cands = cs; weights = ws; ranges = rs }
 
 -- what R makes of a problem
 abbrev pub addRow : Problem → Row → Problem
@@ -246,9 +259,11 @@ addRows q [] = q
 addRows q (w ∷ ws) = addRows (addRow q w) ws
 
 -- T, F, and A, which "adds a candidate at the end, also after P, L or C". "For the place of R and P, an A counts as a T, even if its candidate
--- has gone again": the place is that of a candidate at least, and D leaves it
+-- has gone again": the place is that of a candidate at least, and D leaves it. "A new candidate has both ends equal to its weight"
 abbrev pub addCandidate : Problem → Candidate → Problem
-addCandidate q c = atPlace (max (q .place) inCandidates) (withCands (q .cands ++ (c ∷ [])) (q .weights ++ (candidateCost (pricesOf q) c ∷ [])) q)
+addCandidate q c =
+    let w = candidateCost (pricesOf q) c in
+    atPlace (max (q .place) inCandidates) (withCands (q .cands ++ (c ∷ [])) (q .weights ++ (w ∷ [])) (q .ranges ++ (fixed w ∷ [])) q)
 
 abbrev pub addTerm : Problem → Term → Problem
 addTerm q t = addCandidate q (Candidate.term t)
@@ -258,11 +273,17 @@ addBlock q b = addCandidate q (Candidate.block b)
 
 -- P, which puts the primes in the place of the candidates
 abbrev pub withPrimes : Problem → List Term → Problem
-withPrimes q ts = atPlace queried (withCands (termsAlone ts) (map (candidateCost (pricesOf q)) (termsAlone ts)) q)
+withPrimes q ts =
+    let ws = map (candidateCost (pricesOf q)) (termsAlone ts) in
+    atPlace queried (withCands (termsAlone ts) ws (map fixed ws) q)
 
--- D "takes it out; those above move down by one", each with its weight
+-- D "takes it out; those above move down by one", each with its weight and its range: "taking out a candidate leaves the others' ranges with them"
 abbrev pub takeOut : Problem → ℕ → Problem
-takeOut q k = withCands (without k (q .cands)) (without k (q .weights)) q
+takeOut q k = withCands (without k (q .cands)) (without k (q .weights)) (without k (q .ranges)) q
+
+-- G: "A later G for a candidate replaces its earlier one"
+abbrev pub withRange : Problem → ℕ → Range → Problem
+withRange q k r = atPlace queried (withCands (q .cands) (q .weights) (set (q .ranges) k r) q)
 
 unfoldable pub problemAfter : Context → Kind → Problem
 problemAfter x I = started begun (operand x 0) (operand x 1) (2 ^ operand x 0)
@@ -274,7 +295,9 @@ problemAfter x F = addBlock (x .problem) (operandBlock x)
 problemAfter x P = withPrimes (x .problem) (primes (tableOf (x .problem)))
 problemAfter x A = addTerm (x .problem) (operandTerm x)
 problemAfter x D = takeOut (x .problem) (operandNumber x)
+problemAfter x G = withRange (x .problem) (operandNumber x) (rangeOfG (x .rest))
 problemAfter x L = atPlace queried (x .problem)
+problemAfter x «V» = atPlace queried (x .problem)
 problemAfter x C = atPlace queried (x .problem)
 problemAfter x N = atPlace queried (x .problem)
 problemAfter x E = x .problem

@@ -69,11 +69,12 @@ module _ (rules : Rules) where
 
 -- ---- pages
 
--- "a page is an L that is answered": the page in a reply, if it is one
+-- "a page is an L that is answered", or a V: the page in a reply, if it is one
 abbrev pub pageIn : Context → Answer → List Page
 pageIn x Answer.nothing = []
 pageIn x (Answer.primesAre ts) = []
 pageIn x (Answer.paged ss m) = record { start = start x; count = count x; sets = ss; above = m } ∷ []
+pageIn x (Answer.possiblePaged ss m) = record { start = start x; count = count x; sets = ss; above = m } ∷ []
 pageIn x (Answer.cheapestIs c s) = []
 pageIn x (Answer.productsAre ss) = []
 pageIn x Answer.ended = []

@@ -8,6 +8,7 @@ use lib.ListN.{length}
 use Rattle.model.specs.Base.{All}
 use Rattle.model.specs.Table.{Term}
 use Rattle.model.specs.Blocks.{Block}
+use Rattle.model.specs.Ranges.{Ranged}
 use Rattle.model.specs.Candidates.{Candidate, candidateLegal, Prices}
 use Rattle.model.specs.Commands.{begun, inRows, Problem, tableOf, pricesOf}
 use Rattle.model.specs.Refusals.{size}
@@ -40,6 +41,9 @@ pub record Sound (q : Problem) : Type 0 where
   pub prices : Moderate (pricesOf q)
   pub few : length (q .cands) ≤ 64
   pub small : All SmallCandidate (q .cands)
+  pub each-range : length (q .ranges) ≡ length (q .cands)
+  pub ranged : Ranged (q .ranges)
+  pub most : All (λ r. r .high ≤ 850) (q .ranges)
 
 -- from I on there is a row for each vertex; rows are well formed, there is no candidate while rows may come, and candidates are legal
 pub record Valid (q : Problem) : Type 0 where

@@ -9,6 +9,7 @@ pub mod Presence
 pub mod Products
 pub mod Candidates
 pub mod Pages
+pub mod Ranges
 pub mod Commands
 pub mod Answers
 pub mod Refusals
@@ -19,6 +20,7 @@ pub mod Exchanges
 pub mod Demand3
 pub mod Standing
 pub mod Records
+pub mod Ranging
 pub mod Pieces
 pub mod Expanded
 pub mod Pricing
@@ -29,4 +31,5 @@ pub mod Library
 pub mod Spelling
 pub mod Cases
 pub mod BlockCases
+pub mod RangeCases
 pub mod Invariants

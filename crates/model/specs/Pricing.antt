@@ -1,5 +1,5 @@
--- Paper 02, K6: the prices that a command finds; and "Listing is untouched by prices": two jobs that differ in W's operands alone give the same
--- answers but at C, and pages are joined whatever prices were set before each.
+-- Paper 02, K6: the prices that a command finds; and "Listing is untouched by prices": two jobs without V that differ in W's operands alone give
+-- the same answers but at C, and pages are joined whatever prices were set before each.
 use Prim.Native.Nat.{ℕ}
 use mathlib.Core.Path.{_≡_}
 use mathlib.Core.Bool.{Bool, true, false, not, cond}
@@ -8,14 +8,15 @@ use lib.Dec.{T}
 use lib.ListN.{length, replicate}
 use Rattle.model.specs.Base.{every, filter, join, All}
 use Rattle.model.specs.Table.{Table}
+use Rattle.model.specs.Ranges.{Range}
 use Rattle.model.specs.Candidates.{Candidate, Prices, prices, priced, basis}
 use Rattle.model.specs.Commands.{Kind, is, Context, tableOf, pricesOf, basisOf}
 use Rattle.model.specs.Answers.{Answer, bytesOf}
 use Rattle.model.specs.Rules.{engine}
 use Rattle.model.specs.Job.{Run, run}
-use Rattle.model.specs.Calls.{Call, Met, numberOf, offsetOf, writtenOf, replies}
+use Rattle.model.specs.Calls.{Call, ran, Met, numberOf, offsetOf, writtenOf, replies}
 use Rattle.model.specs.Exchanges.{Exchange, answers, readIn, pagesOf, Gives, EqualsPages, Claim}
-use Rattle.model.specs.Demand3.{isAsked, HasBasis, coversOf, CorrectExchange}
+use Rattle.model.specs.Demand3.{isAsked, HasBasis, coversOf, possiblesOf, CorrectExchange, FindsRanges}
 use Rattle.model.specs.Standing.{Command, commandOf, Behind, pricesIn, noneCame}
 use Rattle.model.specs.Pieces.{Piece, pieceKind, pieces}
 
@@ -48,6 +49,7 @@ abbrev pub uncosted : Answer → Answer
 uncosted Answer.nothing = Answer.nothing
 uncosted (Answer.primesAre ts) = Answer.primesAre ts
 uncosted (Answer.paged ss m) = Answer.paged ss m
+uncosted (Answer.possiblePaged ss m) = Answer.possiblePaged ss m
 uncosted (Answer.cheapestIs c s) = Answer.cheapestIs 0 0
 uncosted (Answer.productsAre ss) = Answer.productsAre ss
 uncosted Answer.ended = Answer.ended
@@ -66,15 +68,21 @@ pub record SameListing (r s : Run) : Type 0 where
   pub answers : map uncosted (r .answers) ≡ map uncosted (s .answers)
   pub asked : listing r ≡ listing s
 
--- of any two jobs, damaged ones too, unless one "has a price above 50" (law `untouched`)
+-- the job reads no V
+abbrev pub noV : Run → Bool
+noV r = every (λ x. not (is (x .kind) Kind.«V»)) (r .contexts)
+
+-- of any two jobs, damaged ones too, unless one "has a price above 50" (law `untouched`). V goes by the
+-- prices at each candidate that no G has named, so none is read, in either (where one reads none, the other reads none)
 abbrev pub Untouched : Type 0
-Untouched = (j k : List ℕ) (room : ℕ) → SameButPrices j k → (run j room .number ≡ 16 → ⊥) → (run k room .number ≡ 16 → ⊥) → SameListing (run j room) (run k room)
+Untouched = (j k : List ℕ) (room : ℕ) → SameButPrices j k → T (noV (run j room)) → T (noV (run k room)) → (run j room .number ≡ 16 → ⊥) → (run k room .number ≡ 16 → ⊥) → SameListing (run j room) (run k room)
 
 -- an answer to C
 abbrev pub isCheapest : Answer → Bool
 isCheapest Answer.nothing = false
 isCheapest (Answer.primesAre ts) = false
 isCheapest (Answer.paged ss m) = false
+isCheapest (Answer.possiblePaged ss m) = false
 isCheapest (Answer.cheapestIs c s) = true
 isCheapest (Answer.productsAre ss) = false
 isCheapest Answer.ended = false
@@ -92,20 +100,22 @@ pub record SamePages (c d : Call) : Type 0 where
 
 -- in buffers of the same length (law `untouched-read`)
 abbrev pub UntouchedRead : Type 0
-UntouchedRead = (c d : Call) → Met c → Met d → SameButPrices (c .job) (d .job) → length (c .before) ≡ length (d .before)
+UntouchedRead = (c d : Call) → Met c → Met d → SameButPrices (c .job) (d .job) → T (noV (ran c)) → T (noV (ran d)) → length (c .before) ≡ length (d .before)
     → (numberOf c ≡ 16 → ⊥) → (numberOf d ≡ 16 → ⊥) → SamePages c d
 
 -- ---- any jobs, whatever prices each set
 
--- an L, a C or an N that finds this table and these candidates, at some prices
+-- an L, a V, a C or an N that finds this table and these candidates, at some prices
 abbrev pub StandsAtAnyPrices : Table → List Candidate → Exchange → Type 0
 StandsAtAnyPrices p cs e = T (isAsked e) × ((w : Prices) × HasBasis (priced w p cs) (e .context))
 
--- each by itself at the prices that it finds, and the pages joined over all of them, which each N equals
+-- each by itself at the prices that it finds, and the pages of L joined over all of them, which each N equals, and those of V
 pub record DemandAtAnyPrices (p : Table) (cs : List Candidate) (es : List Exchange) : Type 0 where
   pub each : All (λ e. CorrectExchange (basisOf (e .context .problem)) e) es
   pub pages : Gives Kind.L (coversOf (basis p cs)) es
   pub products : All (EqualsPages (pagesOf Kind.L es)) es
+  -- V's too, "over pages that find the same table, candidates, weights and ranges": whatever prices gave the weights
+  pub possible-pages : (rs : List Range) → All (FindsRanges rs) es → Gives Kind.«V» (possiblesOf (basis p cs) rs) es
 
 -- demand 3 over all prices together (law `at-any-prices`)
 abbrev pub AtAnyPrices : Type 0

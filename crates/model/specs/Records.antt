@@ -57,7 +57,7 @@ LastWeighed = (job : List ℕ) (room : ℕ) → Weighed (lastRecord (run job roo
 
 -- a record whose weights are gone, and the engine's rules with no weight in any record
 abbrev pub unweighted : Problem → Problem
-unweighted q = withCands (q .cands) [] q
+unweighted q = withCands (q .cands) [] (q .ranges) q
 
 abbrev pub withoutWeights : Rules
 withoutWeights = record { own = engine .own; answer = engine .answer; after = λ x. unweighted (engine .after x) }

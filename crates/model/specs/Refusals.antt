@@ -1,4 +1,4 @@
--- Paper 01, "When a job stops", and K2, K3, K6, K8 and K10: the refusals of a command, as data. 1 and 2 are the job's own (`Job`).
+-- Paper 01, "When a job stops", and K2, K3, K6, K8, K10 and K11: the refusals of a command, as data. 1 and 2 are the job's own (`Job`).
 use Prim.Native.Nat.{ℕ, _^_}
 use mathlib.Core.Bool.{Bool, not, cond, _&&_, _||_}
 use mathlib.Core.List.{List, [], _∷_, _++_}
@@ -11,12 +11,13 @@ use Rattle.model.specs.Primes.{primes}
 use Rattle.model.specs.Blocks.{Block, blockFormed, blockHoldsNoOff}
 use Rattle.model.specs.Sets.{coverable}
 use Rattle.model.specs.Products.{tooMany}
+use Rattle.model.specs.Ranges.{Range}
 use Rattle.model.specs.Candidates.{Prices}
-use Rattle.model.specs.Commands.{Kind, Problem, Context, operand, Row, rowOfR, rowsOfB, addRow, operandTerm, operandBlock, operandNumber, coveringOf, tableOf, operandPrices}
+use Rattle.model.specs.Commands.{Kind, Problem, Context, operand, Row, rowOfR, rowsOfB, addRow, operandTerm, operandBlock, operandNumber, rangeOfG, coveringOf, tableOf, operandPrices}
 
 -- the largest number
 abbrev pub largestNumber : ℕ
-largestNumber = 18
+largestNumber = 19
 
 -- a refusal's number, and whether it applies
 pub record Refusal : Type 0 where
@@ -71,11 +72,20 @@ blockRefusals q b =
     ∷ refuse 11 (leb 64 (length (q .cands)))
     ∷ []
 
--- 6 to 13 and 15 to 18, by command:
+-- "low above high or high above 850"
+abbrev pub badRange : Range → Bool
+badRange r = ltb (r .high) (r .low) || ltb 850 (r .high)
+
+-- a number that is not standing
+abbrev pub notStanding : Context → Bool
+notStanding x = leb (length (x .problem .cands)) (operandNumber x)
+
+-- 6 to 13 and 15 to 19, by command:
 -- 6 "I has n or m outside 1 to 8"; 16 "after 6, W has a price above 50"
 -- 7 and 8 of R's row, and of B's eight; "missing operands of B itself give 5 before any of these" (`Rules`)
--- 11 ".. or there are more than 64 primes"; 15 "after 5, D names a number that is not standing"
--- 12 "at L or C a wanted cell is held by no candidate", and "N meets 12 as L does"; 17 "after 12, more than 1,024 products remain at some
+-- 11 ".. or there are more than 64 primes"; 15 "after 5, D names a number that is not standing", and "G meets 15 for its
+-- number"; 19 "after 15, low above high or high above 850"
+-- 12 "at L or C a wanted cell is held by no candidate", "N meets 12 as L does", "V meets 12 as L does"; 17 "after 12, more than 1,024 products remain at some
 -- cell"; 13 "bytes follow E"
 unfoldable pub refusalsOf : Context → Kind → List Refusal
 refusalsOf x Kind.I = refuse 6 (not (size (operand x 0) && size (operand x 1))) ∷ []
@@ -86,8 +96,10 @@ refusalsOf x Kind.T = termRefusals x
 refusalsOf x Kind.F = blockRefusals (x .problem) (operandBlock x)
 refusalsOf x Kind.P = refuse 11 (ltb 64 (length (primes (tableOf (x .problem))))) ∷ []
 refusalsOf x Kind.A = termRefusals x
-refusalsOf x Kind.D = refuse 15 (leb (length (x .problem .cands)) (operandNumber x)) ∷ []
+refusalsOf x Kind.D = refuse 15 (notStanding x) ∷ []
+refusalsOf x Kind.G = refuse 15 (notStanding x) ∷ refuse 19 (badRange (rangeOfG (x .rest))) ∷ []
 refusalsOf x Kind.L = refuse 12 (not (coverable (coveringOf x))) ∷ []
+refusalsOf x Kind.«V» = refuse 12 (not (coverable (coveringOf x))) ∷ []
 refusalsOf x Kind.C = refuse 12 (not (coverable (coveringOf x))) ∷ []
 refusalsOf x Kind.N = refuse 12 (not (coverable (coveringOf x))) ∷ refuse 17 (tooMany (coveringOf x)) ∷ []
 refusalsOf x Kind.E = refuse 13 (ltb 0 (length (x .rest))) ∷ []

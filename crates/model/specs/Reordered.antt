@@ -70,7 +70,7 @@ EveryOrder = (a b : List ℕ) → DifferInOrder a b ↔ ((r : Renumbering) × Re
 
 -- ---- what their queries are answered
 
--- the L, C and N of a call with their replies, from the first on
+-- the L, V, C and N of a call with their replies, from the first on
 abbrev pub queriesIn : Call → List Exchange
 queriesIn c = filter isAsked (readIn engine c)
 
@@ -85,7 +85,8 @@ pub record AllPages (b : Basis) (ps : List Page) : Type 0 where
   pub in-order : InOrder [] ps
   pub no-more : T (some isLast ps)
 
--- the same command in both, L, C or N
+-- the same command in both. Of a V only that, the covers of what it finds and L's pages: G names a number, so ranges do not go with their
+-- candidates
 pub record SameQuery (r : Renumbering) (e f : Exchange) : Type 0 where
   pub command : commandOf (e .context) ≡ commandOf (f .context)
   -- the covers of what they find

@@ -1,4 +1,4 @@
--- Commands as the tables of jobs in `Cases` and `BlockCases` write them: their operands, and the bytes behind them.
+-- Commands as the tables of jobs in `Cases`, `BlockCases` and `RangeCases` write them: their operands, and the bytes behind them.
 use Prim.Native.Nat.{ℕ, zero, suc}
 use mathlib.Core.List.{List, _∷_, _++_}
 use lib.ListN.{replicate}
@@ -34,6 +34,13 @@ f outputs first last weight bs = 0x46 ∷ outputs ∷ first ∷ (replicate 30 0 
 -- an L from 0 on
 abbrev pub l : ℕ → List ℕ → List ℕ
 l count bs = 0x4c ∷ 0 ∷ 0 ∷ 0 ∷ 0 ∷ 0 ∷ 0 ∷ 0 ∷ 0 ∷ count ∷ bs
+
+-- a G, and a V from 0 on
+abbrev pub g : ℕ → ℕ → ℕ → List ℕ → List ℕ
+g k lowest highest bs = 0x47 ∷ k ∷ (low 2 lowest ++ (low 2 highest ++ bs))
+
+abbrev pub v : ℕ → List ℕ → List ℕ
+v count bs = 0x56 ∷ 0 ∷ 0 ∷ 0 ∷ 0 ∷ 0 ∷ 0 ∷ 0 ∷ 0 ∷ count ∷ bs
 
 -- a W
 abbrev pub w : ℕ → ℕ → ℕ → List ℕ → List ℕ

@@ -1,8 +1,9 @@
--- Paper 02, K2, with K3's B, K6's W, K8's N and K10's F: the standing candidates, the place behind an A, pages behind the same commands, and the fresh job of a query.
+-- Paper 02, K2, with K3's B, K6's W, K8's N, K10's F and K11's G and V: the standing candidates (their ranges: `Ranging`), the place behind an A, pages behind the
+-- same commands, and the fresh job of a query.
 use Prim.Native.Nat.{ℕ, suc, _^_, _≤_, _<_, max}
 use mathlib.Core.Path.{_≡_}
 use mathlib.Core.Logic.{_↔_}
-use mathlib.Core.Bool.{Bool, not, _||_}
+use mathlib.Core.Bool.{Bool, not, _&&_, _||_}
 use mathlib.Core.List.{List, [], _∷_, _++_, map, List·Memᴰ}
 use lib.Dec.{T}
 use lib.ListN.{getD, getElem?, length, take, set, replicate}
@@ -69,7 +70,7 @@ rowsSet p [] = p
 rowsSet p (w ∷ ws) = rowsSet (rowSet p w) ws
 
 -- I, R and B set the table, W the prices; T, F and A add a candidate "at the end", P puts the primes in their place, D takes one out and "those above move down
--- by one"; the others set nothing
+-- by one"; the others set none of these, G a range (`rangesTo`)
 unfoldable pub setsTo : Command → Kind → Basis → Basis
 setsTo c Kind.I b = basis (noRowsYet (operandOf c 0) (operandOf c 1)) []
 setsTo c Kind.W b = priced (pricesIn c) (b .table) (b .cands)
@@ -80,7 +81,9 @@ setsTo c Kind.F b = priced (b .prices) (b .table) (b .cands ++ (Candidate.block 
 setsTo c Kind.P b = priced (b .prices) (b .table) (termsAlone (primes (b .table)))
 setsTo c Kind.A b = priced (b .prices) (b .table) (b .cands ++ (Candidate.term (termOf c) ∷ []))
 setsTo c Kind.D b = priced (b .prices) (b .table) (without (operandOf c 0) (b .cands))
+setsTo c Kind.G b = b
 setsTo c Kind.L b = b
+setsTo c Kind.«V» b = b
 setsTo c Kind.C b = b
 setsTo c Kind.N b = b
 setsTo c Kind.E b = b
@@ -100,7 +103,7 @@ abbrev pub FindsStanding : Type 0
 FindsStanding = (job : List ℕ) (room : ℕ) (before : List Context) (x : Context) → Behind (run job room) before x → basisOf (x .problem) ≡ standing (map commandOf before)
 
 -- what a D that is not refused leaves, entry by entry (law `taken-out`)
-pub record TakenOut (k : ℕ) (old new : List Candidate) : Type 0 where
+pub record TakenOut {A : Type 0} (k : ℕ) (old new : List A) : Type 0 where
   pub fewer : suc (length new) ≡ length old
   pub before : (i : ℕ) → i < k → getElem? new i ≡ getElem? old i
   pub behind : (i : ℕ) → k ≤ i → getElem? new i ≡ getElem? old (suc i)
@@ -121,7 +124,9 @@ raises Kind.F = inCandidates
 raises Kind.P = queried
 raises Kind.A = inCandidates
 raises Kind.D = begun
+raises Kind.G = queried
 raises Kind.L = queried
+raises Kind.«V» = queried
 raises Kind.C = queried
 raises Kind.N = queried
 raises Kind.E = atStart
@@ -139,15 +144,15 @@ Placed = (job : List ℕ) (room : ℕ) (before : List Context) (x : Context) →
 abbrev pub noneCame : List Kind → List Context → Bool
 noneCame ks before = every (λ y. not (some (is (y .kind)) ks)) before
 
--- so, behind I: W stands where no W came and no R, B, T, F, A, P, L, C or N; R, B and P stand where no T, F, A, P, L, C or N came, T and F where no
--- P, L, C or N came (law `places`)
+-- so, behind I: W stands where no W came and no R, B, T, F, A, P, L, C, N, G or V; R, B and P stand where no T, F, A, P, L, C, N, G or V came, T
+-- and F where no P, L, C, N, G or V came (law `places`)
 pub record PlacesBehind (before : List Context) (place : ℕ) : Type 0 where
-  pub prices : T (allowed Kind.W place) ↔ T (noneCame (Kind.W ∷ Kind.R ∷ Kind.B ∷ Kind.T ∷ Kind.F ∷ Kind.A ∷ Kind.P ∷ Kind.L ∷ Kind.C ∷ Kind.N ∷ []) before)
-  pub row : T (allowed Kind.R place) ↔ T (noneCame (Kind.T ∷ Kind.F ∷ Kind.A ∷ Kind.P ∷ Kind.L ∷ Kind.C ∷ Kind.N ∷ []) before)
-  pub rows : T (allowed Kind.B place) ↔ T (noneCame (Kind.T ∷ Kind.F ∷ Kind.A ∷ Kind.P ∷ Kind.L ∷ Kind.C ∷ Kind.N ∷ []) before)
-  pub primes : T (allowed Kind.P place) ↔ T (noneCame (Kind.T ∷ Kind.F ∷ Kind.A ∷ Kind.P ∷ Kind.L ∷ Kind.C ∷ Kind.N ∷ []) before)
-  pub term : T (allowed Kind.T place) ↔ T (noneCame (Kind.P ∷ Kind.L ∷ Kind.C ∷ Kind.N ∷ []) before)
-  pub block : T (allowed Kind.F place) ↔ T (noneCame (Kind.P ∷ Kind.L ∷ Kind.C ∷ Kind.N ∷ []) before)
+  pub prices : T (allowed Kind.W place) ↔ T (noneCame (Kind.W ∷ Kind.R ∷ Kind.B ∷ Kind.T ∷ Kind.F ∷ Kind.A ∷ Kind.P ∷ Kind.G ∷ Kind.L ∷ Kind.«V» ∷ Kind.C ∷ Kind.N ∷ []) before)
+  pub row : T (allowed Kind.R place) ↔ T (noneCame (Kind.T ∷ Kind.F ∷ Kind.A ∷ Kind.P ∷ Kind.G ∷ Kind.L ∷ Kind.«V» ∷ Kind.C ∷ Kind.N ∷ []) before)
+  pub rows : T (allowed Kind.B place) ↔ T (noneCame (Kind.T ∷ Kind.F ∷ Kind.A ∷ Kind.P ∷ Kind.G ∷ Kind.L ∷ Kind.«V» ∷ Kind.C ∷ Kind.N ∷ []) before)
+  pub primes : T (allowed Kind.P place) ↔ T (noneCame (Kind.T ∷ Kind.F ∷ Kind.A ∷ Kind.P ∷ Kind.G ∷ Kind.L ∷ Kind.«V» ∷ Kind.C ∷ Kind.N ∷ []) before)
+  pub term : T (allowed Kind.T place) ↔ T (noneCame (Kind.P ∷ Kind.G ∷ Kind.L ∷ Kind.«V» ∷ Kind.C ∷ Kind.N ∷ []) before)
+  pub block : T (allowed Kind.F place) ↔ T (noneCame (Kind.P ∷ Kind.G ∷ Kind.L ∷ Kind.«V» ∷ Kind.C ∷ Kind.N ∷ []) before)
 
 abbrev pub Places : Type 0
 Places = (job : List ℕ) (room : ℕ) (before : List Context) (x : Context) → Behind (run job room) before x → begun ≤ x .problem .place → PlacesBehind before (x .problem .place)
@@ -165,7 +170,7 @@ SameBetween = (job : List ℕ) (room : ℕ) (before : List Context) (x : Context
     → basisOf (y .problem) ≡ basisOf (x .problem)
 
 -- in one job or two: some job reads x, and cs are the commands before it that are no queries, with their operands. Where two commands
--- stand so behind the same, they find the same table, candidates and prices (laws `same-set`, `same-found`)
+-- stand so behind the same, they find the same table, candidates and prices (laws `same-set`, `same-found`), and the same ranges (law `same-ranges`)
 pub record SetBy (cs : List Command) (x : Context) : Type 0 where
   pub job : List ℕ
   pub room : ℕ
@@ -173,11 +178,11 @@ pub record SetBy (cs : List Command) (x : Context) : Type 0 where
   pub behind : Behind (run job room) before x
   pub same : filter (λ c. not (isQueryKind (c .kind))) (map commandOf before) ≡ cs
 
--- an L, a C or an N that stands so
+-- an L, a V, a C or an N that stands so
 abbrev pub AskedBehind : List Command → Exchange → Type 0
 AskedBehind cs e = T (isAsked e) × SetBy cs (e .context)
 
--- "pages are joined only where the same A and D commands stand before each, in a further job too": demand 3 of any such L, C and N, in one job
+-- "pages are joined only where the same A and D commands stand before each, in a further job too": demand 3 of any such L, V, C and N, in one job
 -- or several, a corollary of `Demand3` (law `standing-demand-3`). Its rival is met only where the standing candidates are the primes
 abbrev pub StandingDemand3 : Type 0
 StandingDemand3 = (cs : List Command) (calls : List Call) → All Met calls → Claim engine (AskedBehind cs) (Demand (standing cs)) calls
@@ -210,14 +215,19 @@ pub record GivesAlone (a : Answer) (r : Run) : Type 0 where
   pub answers : filter hasBytes (r .answers) ≡ a ∷ Answer.ended ∷ []
   pub bytes : written r ≡ bytesOf a ++ bytesOf Answer.ended
 
--- "in an accepted job, L and C answer as they would in a fresh job", and so does N: in every buffer that is no shorter (law `fresh`)
+-- an L, a C or an N: by table, candidates and prices alone. V goes by the ranges too
+abbrev pub byBasis : Context → Bool
+byBasis x = isQuery x && not (is (x .kind) Kind.«V»)
+
+-- "in an accepted job, L and C answer as they would in a fresh job", and so does N: in every buffer that is no shorter (law `fresh`).
+-- The fresh job has no G: K11, "C keeps the weights without ranges"
 abbrev pub Fresh : Type 0
-Fresh = (job : List ℕ) (room : ℕ) → run job room .number ≡ 0 → (before : List Context) (x : Context) → Behind (run job room) before x → T (isQuery x)
+Fresh = (job : List ℕ) (room : ℕ) → run job room .number ≡ 0 → (before : List Context) (x : Context) → Behind (run job room) before x → T (byBasis x)
     → (larger : ℕ) → room ≤ larger → larger ≤ 32768 → GivesAlone (answer x) (run (freshJob (map commandOf before) (commandOf x)) larger)
 
 -- and in any job that answers it, a refused one too, in room for the answer and E's (law `fresh-answered`)
 abbrev pub FreshAnswered : Type 0
-FreshAnswered = (job : List ℕ) (room : ℕ) (before : List Context) (x : Context) → Behind (run job room) before x → T (isQuery x) → refusal x ≡ 0
+FreshAnswered = (job : List ℕ) (room : ℕ) (before : List Context) (x : Context) → Behind (run job room) before x → T (byBasis x) → refusal x ≡ 0
     → (enough : ℕ) → suc (length (bytesOf (answer x))) ≤ enough → enough ≤ 32768 → GivesAlone (answer x) (run (freshJob (map commandOf before) (commandOf x)) enough)
 
 -- what a caller reads: from c the reply to x, from f the same, with E's and no other
@@ -229,5 +239,5 @@ pub record SameReply (c f : Call) (x : Context) : Type 0 where
 
 -- of two calls that meet their contract, the second with the fresh job of a query of the first (law `fresh-read`)
 abbrev pub FreshRead : Type 0
-FreshRead = (c f : Call) → Met c → Met f → numberOf c ≡ 0 → (before : List Context) (x : Context) → Behind (ran c) before x → T (isQuery x)
+FreshRead = (c f : Call) → Met c → Met f → numberOf c ≡ 0 → (before : List Context) (x : Context) → Behind (ran c) before x → T (byBasis x)
     → f .job ≡ freshJob (map commandOf before) (commandOf x) → length (c .before) ≤ length (f .before) → length (f .before) ≤ 32768 → SameReply c f x

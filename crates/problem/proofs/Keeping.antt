@@ -4,7 +4,7 @@ use native.Mathlib.Omega.{arith}
 use native.Mathlib.Decide.{ℕ-discrete}
 use mathlib.Core.Path.{_≡_, refl, sym, ap, _∙_, subst, subst⁻¹}
 use mathlib.Core.Bool.{false}
-use mathlib.Core.List.{List, [], _∷_, _++_, map, map-map, map-append}
+use mathlib.Core.List.{List, [], _∷_, _++_, map, map-map, map-id, map-append}
 use borrow.Author.Tests.{eq-eqb, ne-eqb}
 use lib.Dec.{T, leb, ltb, eqb, nleb→lt}
 use lib.Bits.{bitOr}
@@ -17,9 +17,10 @@ use Rattle.model.specs.declared.Block.{Block}
 use Rattle.model.specs.declared.Prices.{Prices}
 use Rattle.model.specs.Primes.{primes}
 use Rattle.model.specs.Sets.{rowOf}
+use Rattle.model.specs.Ranges.{Range, between, fixed}
 use Rattle.model.specs.Candidates.{Candidate, termsAlone, usual, termCost, candidateCost}
 use Rattle.model.specs.Commands as model
-use Rattle.model.specs.Commands.{Context, operand, operandNumber, operandPrices, Row, tableOf, isQueryKind, addRow, addRows, addCandidate, addTerm, addBlock, problemAfter}
+use Rattle.model.specs.Commands.{Context, operand, operandNumber, rangeOfG, operandPrices, Row, tableOf, isQueryKind, addRow, addRows, addCandidate, addTerm, addBlock, problemAfter}
 use Rattle.model.specs.Refusals.{rowRefusals, rowsRefusals}
 use Rattle.model.specs.Records.{Weighed}
 use Rattle.model.specs.Invariants.{Valid}
@@ -38,8 +39,8 @@ use Rattle.primes.specs.declared.prime_list.PrimeList.{PrimeList}
 use Rattle.problem.specs.declared.TableRows.{TableRows}
 use Rattle.problem.specs.declared.Candidates.{Candidates}
 use Rattle.problem.specs.declared.Problem.{Problem}
-use Rattle.problem.specs.Problems.{noRows, listed, startedWith, noProblem, atPlace, withPrices, withRows, withCandidates, rowPut, rowsPut, entryPut, termPut, blockPut}
-use Rattle.problem.specs.Problems.{entriesWithout, candidateTaken, WithPrimes, Sized, HoldsRows, HoldsCands, Holds, Reached, ReachedWith}
+use Rattle.problem.specs.Problems.{noRows, alone, startedWith, noProblem, atPlace, withPrices, withRows, withCandidates, rowPut, rowsPut, entryPut, termPut, blockPut}
+use Rattle.problem.specs.Problems.{entriesWithout, candidateTaken, rangePut, WithPrimes, Sized, HoldsRows, HoldsCands, Holds, Reached, ReachedWith}
 
 sized : (p : Problem) (q : model.Problem) → Holds p q → Valid q → Sized p
 sized p q h v = record {
@@ -62,16 +63,24 @@ held-weighed p q h = rw (← h .settings .prices) (h .cands .weighed)
 
 -- terms alone, with what they cost
 pub holds-alone : (w : Prices) {terms ts : List Term} {weights : List ℕ} {count : ℕ} → Filled 64 ts terms count → Filled 64 (map (termCost w) ts) weights count
-    → HoldsCands w (listed terms weights 0 count) (termsAlone ts) (map (candidateCost w) (termsAlone ts))
+    → HoldsCands w (alone terms weights count) (termsAlone ts) (map (candidateCost w) (termsAlone ts)) (map fixed (map (candidateCost w) (termsAlone ts)))
 holds-alone w {terms} {ts} {weights} {count} f g = record {
   entries = subst⁻¹ (λ (us : List Term). Filled 64 us terms count) (entries-alone ts) f;
-  weights = subst⁻¹ (λ (ws : List ℕ). Filled 64 ws weights count) (map-map (candidateCost w) Candidate.term ts) g;
+  weights = beside;
+  lows = subst⁻¹ (λ (vs : List ℕ). Filled 64 vs weights count) (map-map (λ r. r .low) fixed ws ∙ map-id ws) beside;
+  highs = subst⁻¹ (λ (vs : List ℕ). Filled 64 vs weights count) (map-map (λ r. r .high) fixed ws ∙ map-id ws) beside;
   blocks = sym (which-alone ts);
   weighed = refl;
 }
+  where
+    ws : List ℕ
+    ws = map (candidateCost w) (termsAlone ts)
+
+    beside : Filled 64 (map (candidateCost w) (termsAlone ts)) weights count
+    beside = subst⁻¹ (λ (vs : List ℕ). Filled 64 vs weights count) (map-map (candidateCost w) Candidate.term ts) g
 
 -- and so each term by itself
-module _ (w : Prices) (cs : Candidates) (ks : List Candidate) (ws : List ℕ) (h : HoldsCands w cs ks ws) where
+module _ (w : Prices) (cs : Candidates) (ks : List Candidate) (ws : List ℕ) (rs : List Range) (h : HoldsCands w cs ks ws rs) where
   weights-of : take (cs .count) (cs .weights) ≡ map (candidateCost w) ks
   weights-of = h .weights .same ∙ h .weighed
 
@@ -131,7 +140,7 @@ after-W x p w h none e = record {
   place = refl;
   settings = record { inputs = h .settings .inputs; outputs = h .settings .outputs; prices = sym e };
   rows = h .rows;
-  cands = record { entries = h .cands .entries; weights = h .cands .weights; blocks = h .cands .blocks; weighed = held-weighed p (x .problem) h ∙ rw none refl };
+  cands = record { entries = h .cands .entries; weights = h .cands .weights; lows = h .cands .lows; highs = h .cands .highs; blocks = h .cands .blocks; weighed = held-weighed p (x .problem) h ∙ rw none refl };
 }
 
 -- ---- R and B
@@ -191,9 +200,9 @@ after-rows (w ∷ ws) p q h v o m a =
 
 -- ---- other candidates: T, F and A, P, D
 
-holds-candidates : (place : ℕ) (p : Problem) (q : model.Problem) (cs : Candidates) (ks : List Candidate) (ws : List ℕ) → Holds p q → HoldsCands (p .settings .prices) cs ks ws
-    → Holds (atPlace place (withCandidates cs p)) (model.atPlace place (model.withCands ks ws q))
-holds-candidates place p q cs ks ws h c = record { place = refl; settings = h .settings; rows = h .rows; cands = c }
+holds-candidates : (place : ℕ) (p : Problem) (q : model.Problem) (cs : Candidates) (ks : List Candidate) (ws : List ℕ) (rs : List Range) → Holds p q
+    → HoldsCands (p .settings .prices) cs ks ws rs → Holds (atPlace place (withCandidates cs p)) (model.atPlace place (model.withCands ks ws rs q))
+holds-candidates place p q cs ks ws rs h c = record { place = refl; settings = h .settings; rows = h .rows; cands = c }
 
 -- one candidate more, with its entry and its cost
 after-more : (p : Problem) (q : model.Problem) (c : Candidate) (blocks : ℕ) → Holds p q → p .candidates .count < 64 → blocks ≡ rowOf isBlock (q .cands ++ (c ∷ [])) 0
@@ -205,16 +214,20 @@ after-more p q c blocks h l e =
     let ks = q .cands ++ (c ∷ []) in
     let place = max (q .place) model.inCandidates in
     let new = entryPut cs (entryOf c) (candidateCost w c) blocks in
-    let beside : HoldsCands w new ks (q .weights ++ (candidateCost w c ∷ [])) = record {
+    let beside : HoldsCands w new ks (q .weights ++ (candidateCost w c ∷ [])) (q .ranges ++ (fixed (candidateCost w c) ∷ [])) = record {
       entries = subst⁻¹ (λ (ts : List Term). Filled 64 ts (set (cs .terms) (cs .count) (entryOf c)) (cs .count + 1)) (map-append entryOf (q .cands) (c ∷ []))
           (filled-next 64 (cs .terms) (cs .count) (map entryOf (q .cands)) (entryOf c) (h .cands .entries) l);
       weights = filled-next 64 (cs .weights) (cs .count) (q .weights) (candidateCost w c) (h .cands .weights) l;
+      lows = subst⁻¹ (λ (vs : List ℕ). Filled 64 vs (set (cs .lows) (cs .count) (candidateCost w c)) (cs .count + 1)) (map-append (λ r. r .low) (q .ranges) (fixed (candidateCost w c) ∷ []))
+          (filled-next 64 (cs .lows) (cs .count) (map (λ r. r .low) (q .ranges)) (candidateCost w c) (h .cands .lows) l);
+      highs = subst⁻¹ (λ (vs : List ℕ). Filled 64 vs (set (cs .highs) (cs .count) (candidateCost w c)) (cs .count + 1)) (map-append (λ r. r .high) (q .ranges) (fixed (candidateCost w c) ∷ []))
+          (filled-next 64 (cs .highs) (cs .count) (map (λ r. r .high) (q .ranges)) (candidateCost w c) (h .cands .highs) l);
       blocks = e;
       weighed = subst⁻¹ (λ (v : Prices). q .weights ++ (candidateCost v c ∷ []) ≡ map (candidateCost v) ks) (h .settings .prices) (weighed-added q c (held-weighed p q h));
     } in
     rw (h .place)
-    (subst (λ (v : Prices). Holds (atPlace place (withCandidates new p)) (model.atPlace place (model.withCands ks (q .weights ++ (candidateCost v c ∷ [])) q)))
-    (h .settings .prices) (holds-candidates place p q new ks (q .weights ++ (candidateCost w c ∷ [])) h beside))
+    (subst (λ (v : Prices). Holds (atPlace place (withCandidates new p)) (model.atPlace place (model.withCands ks (q .weights ++ (candidateCost v c ∷ [])) (q .ranges ++ (fixed (candidateCost v c) ∷ [])) q)))
+    (h .settings .prices) (holds-candidates place p q new ks _ _ h beside))
 
 pub after-term : (p : Problem) (q : model.Problem) (t : Term) → Holds p q → p .candidates .count < 64
     → Holds (atPlace (max (p .place) model.inCandidates) (withCandidates (termPut (p .settings .prices) (p .candidates) t) p)) (addTerm q t)
@@ -238,11 +251,11 @@ after-P x p list r h f w =
     let ts = primes (tableOf (x .problem)) in
     let ks = termsAlone ts in
     let cost = termCost (p .settings .prices) in
-    let cs = listed (list .terms) (r .candidates .weights) 0 (list .count) in
+    let cs = alone (list .terms) (r .candidates .weights) (list .count) in
     let beside = holds-alone (p .settings .prices) f (subst (λ (us : List Term). Filled 64 (map cost us) (r .candidates .weights) (list .count)) (f .same) (w .weights)) in
     subst⁻¹ (λ (y : Problem). Holds y (problemAfter x model.Kind.P)) (w .is)
-    (subst (λ (v : Prices). Holds (atPlace model.queried (withCandidates cs p)) (model.atPlace model.queried (model.withCands ks (map (candidateCost v) ks) (x .problem))))
-    (h .settings .prices) (holds-candidates model.queried p (x .problem) cs ks (map (candidateCost (p .settings .prices)) ks) h beside))
+    (subst (λ (v : Prices). Holds (atPlace model.queried (withCandidates cs p)) (model.atPlace model.queried (model.withCands ks (map (candidateCost v) ks) (map fixed (map (candidateCost v) ks)) (x .problem))))
+    (h .settings .prices) (holds-candidates model.queried p (x .problem) cs ks _ _ h beside))
 
 pub after-D : (x : Context) (p : Problem) (k : ℕ) → Holds p (x .problem) → operandNumber x ≡ k → k < p .candidates .count → p .candidates .count ≤ 64
     → Holds (withCandidates (candidateTaken (p .candidates) k) p) (problemAfter x model.Kind.D)
@@ -258,16 +271,61 @@ after-D x p k h e l m =
         entries = subst⁻¹ (λ (ts : List Term). Filled 64 ts (entriesWithout k (cs .count) (cs .terms)) (cs .count - 1)) (map-without entryOf k (q .cands))
             (filled-without 64 (cs .terms) (cs .count) (map entryOf (q .cands)) k (h .cands .entries) l m);
         weights = filled-without 64 (cs .weights) (cs .count) (q .weights) k (h .cands .weights) l m;
+        lows = subst⁻¹ (λ (vs : List ℕ). Filled 64 vs (entriesWithout k (cs .count) (cs .lows)) (cs .count - 1)) (map-without (λ r. r .low) k (q .ranges))
+            (filled-without 64 (cs .lows) (cs .count) (map (λ r. r .low) (q .ranges)) k (h .cands .lows) l m);
+        highs = subst⁻¹ (λ (vs : List ℕ). Filled 64 vs (entriesWithout k (cs .count) (cs .highs)) (cs .count - 1)) (map-without (λ r. r .high) k (q .ranges))
+            (filled-without 64 (cs .highs) (cs .count) (map (λ r. r .high) (q .ranges)) k (h .cands .highs) l m);
         blocks = ap (removed k) (h .cands .blocks) ∙ sym (which-without k (q .cands) (omega (arith, held-count p q h)));
         weighed = rw (h .settings .prices) (weighed-without q k (held-weighed p q h));
       };
     }
 
+-- ---- G
+
+take-set : (xs : List ℕ) (n k y : ℕ) → take n (set xs k y) ≡ set (take n xs) k y
+take-set [] zero k y = refl
+take-set [] (suc n) k y = refl
+take-set (x ∷ xs) zero k y = refl
+take-set (x ∷ xs) (suc n) zero y = refl
+take-set (x ∷ xs) (suc n) (suc k) y = ap (λ (zs : List ℕ). x ∷ zs) (take-set xs n k y)
+
+-- one entry in front of an array
+filled-put : (cap : ℕ) (xs array : List ℕ) (count k y : ℕ) → Filled cap xs array count → k < count → Filled cap (set xs k y) (set array k y) count
+filled-put cap xs array count k y f l = record {
+  size = length-set array k y ∙ f .size;
+  counted = f .counted ∙ sym (length-set xs k y);
+  same = take-set array count k y ∙ ap (λ (zs : List ℕ). set zs k y) (f .same);
+}
+
+map-set : (f : Range → ℕ) (rs : List Range) (k : ℕ) (r : Range) → map f (set rs k r) ≡ set (map f rs) k (f r)
+map-set f [] k r = refl
+map-set f (x ∷ rs) zero r = refl
+map-set f (x ∷ rs) (suc k) r = ap (λ (zs : List ℕ). f x ∷ zs) (map-set f rs k r)
+
+pub after-G : (x : Context) (p : Problem) (k low high : ℕ) → Holds p (x .problem) → operandNumber x ≡ k → rangeOfG (x .rest) ≡ between low high → k < p .candidates .count
+    → Holds (atPlace model.queried (withCandidates (rangePut (p .candidates) k low high) p)) (problemAfter x model.Kind.G)
+unfolding problemAfter
+after-G x p k low high h e g l =
+    let q = x .problem in
+    let cs = p .candidates in
+    let rs = q .ranges in
+    let put : (f : Range → ℕ) (array : List ℕ) (y : ℕ) → Filled 64 (map f rs) array (cs .count) → f (between low high) ≡ y → Filled 64 (map f (set rs k (between low high))) (set array k y) (cs .count) =
+    λ f array y a b. subst⁻¹ (λ (vs : List ℕ). Filled 64 vs (set array k y) (cs .count)) (map-set f rs k (between low high) ∙ ap (set (map f rs) k) b) (filled-put 64 (map f rs) array (cs .count) k y a l) in
+    rw (e, g) (holds-candidates model.queried p q (rangePut cs k low high) (q .cands) (q .weights) (set rs k (between low high)) h
+    record {
+      entries = h .cands .entries;
+      weights = h .cands .weights;
+      lows = put (λ r. r .low) (cs .lows) low (h .cands .lows) refl;
+      highs = put (λ r. r .high) (cs .highs) high (h .cands .highs) refl;
+      blocks = h .cands .blocks;
+      weighed = h .cands .weighed;
+    })
+
 -- ---- queries
 
 pub after-query : (x : Context) (p : Problem) (k : model.Kind) → T (isQueryKind k) → Holds p (x .problem) → Holds (atPlace model.queried p) (problemAfter x k)
 unfolding problemAfter
-after-query x p k t h = any-query (λ k. Holds (atPlace model.queried p) (problemAfter x k)) (kept, (kept, (kept, tt))) k t
+after-query x p k t h = any-query (λ k. Holds (atPlace model.queried p) (problemAfter x k)) (kept, (kept, (kept, (kept, tt)))) k t
   where
     kept : Holds (atPlace model.queried p) (model.atPlace model.queried (x .problem))
-    kept = holds-candidates model.queried p (x .problem) (p .candidates) (x .problem .cands) (x .problem .weights) h (h .cands)
+    kept = holds-candidates model.queried p (x .problem) (p .candidates) (x .problem .cands) (x .problem .weights) (x .problem .ranges) h (h .cands)

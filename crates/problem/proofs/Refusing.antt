@@ -15,10 +15,11 @@ use Rattle.model.specs.declared.Block.{Block}
 use Rattle.model.specs.declared.Prices.{Prices}
 use Rattle.model.specs.Table.{Table, formed, holdsNoOff}
 use Rattle.model.specs.Blocks.{blockFormed, blockHoldsNoOff}
+use Rattle.model.specs.Ranges.{between}
 use Rattle.model.specs.Commands as model
 use Rattle.model.specs.Commands.{Context, Row, tableOf}
 use Rattle.model.specs.Refusals as model·refusals
-use Rattle.model.specs.Refusals.{refuse, firstOf, size, dear, badRow}
+use Rattle.model.specs.Refusals.{refuse, firstOf, size, dear, badRange, badRow}
 use Rattle.model.specs.Invariants.{Valid}
 use Rattle.model.specs.Library.{badVertex}
 use Rattle.model.proofs.Cubes.{formed-e}
@@ -60,6 +61,18 @@ module _ (w : Prices) where
 
   pub dear-none : w .term ≤ 50 → w .literal ≤ 50 → w .connection ≤ 50 → 0 ≡ firstOf (refuse 16 (dear w) ∷ [])
   dear-none k h l = rw (le-ltb 50 (w .term) k, le-ltb 50 (w .literal) h, le-ltb 50 (w .connection) l)
+
+-- ---- ranges
+
+module _ (low high : ℕ) where
+  pub range-crossed : high < low → 19 ≡ firstOf (refuse 19 (badRange (between low high)) ∷ [])
+  range-crossed l = rw (lt-ltb high low l)
+
+  pub range-high : low ≤ high → 850 < high → 19 ≡ firstOf (refuse 19 (badRange (between low high)) ∷ [])
+  range-high k l = rw (le-ltb high low k, lt-ltb 850 high l)
+
+  pub range-good : low ≤ high → high ≤ 850 → 0 ≡ firstOf (refuse 19 (badRange (between low high)) ∷ [])
+  range-good k l = rw (le-ltb high low k, le-ltb 850 high l)
 
 -- ---- rows
 

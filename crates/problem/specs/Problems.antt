@@ -11,6 +11,7 @@ use Rattle.model.specs.declared.Block.{Block}
 use Rattle.model.specs.declared.Prices.{Prices}
 use Rattle.model.specs.Table.{term}
 use Rattle.model.specs.Sets.{rowOf}
+use Rattle.model.specs.Ranges.{Range}
 use Rattle.model.specs.Candidates.{Candidate, usual, termCost, candidateCost}
 use Rattle.model.specs.Commands as model
 use Rattle.model.specs.Commands.{Row}
@@ -29,12 +30,17 @@ use Rattle.problem.specs.declared.Problem.{Problem}
 abbrev pub noRows : TableRows
 noRows = record { on = replicate 256 0; dc = replicate 256 0; given = replicate 256 0 }
 
--- so many terms of an array, weights beside them, and which of them are blocks
-abbrev pub listed : List Term → List ℕ → ℕ → ℕ → Candidates
-listed terms weights blocks count = record { terms = terms; weights = weights; blocks = blocks; count = count }
+-- so many terms of an array, weights and ends of ranges beside them, and which of them are blocks
+abbrev pub listed : List Term → List ℕ → List ℕ → List ℕ → ℕ → ℕ → Candidates
+listed terms weights lows highs blocks count = record { terms = terms; weights = weights; lows = lows; highs = highs; blocks = blocks; count = count }
 
 unfoldable pub startedWith : ℕ → ℕ → ℕ → Problem
-startedWith n m place = record { place = place; settings = record { n = n; m = m; prices = usual }; rows = noRows; candidates = listed (replicate 64 (term 0 0 0)) (replicate 64 0) 0 0 }
+startedWith n m place = record {
+  place = place;
+  settings = record { n = n; m = m; prices = usual };
+  rows = noRows;
+  candidates = listed (replicate 64 (term 0 0 0)) (replicate 64 0) (replicate 64 0) (replicate 64 0) 0 0;
+}
 
 abbrev pub noProblem : Problem
 noProblem = startedWith 0 0 0
@@ -61,9 +67,11 @@ abbrev pub rowsPut : TableRows → List Row → TableRows
 rowsPut rows [] = rows
 rowsPut rows (w ∷ ws) = rowsPut (rowPut rows (w .vertex) (w .on) (w .dc)) ws
 
--- one entry more, with its weight
+-- one entry more, with its weight, which both ends of its range equal
 unfoldable pub entryPut : Candidates → Term → ℕ → ℕ → Candidates
-entryPut cs t weight blocks = listed (set (cs .terms) (cs .count) t) (set (cs .weights) (cs .count) weight) blocks (cs .count + 1)
+entryPut cs t weight blocks =
+    let k = cs .count in
+    listed (set (cs .terms) k t) (set (cs .weights) k weight) (set (cs .lows) k weight) (set (cs .highs) k weight) blocks (k + 1)
 
 abbrev pub termPut : Prices → Candidates → Term → Candidates
 termPut w cs t = entryPut cs t (termCost w t) (cs .blocks)
@@ -77,11 +85,21 @@ unfoldable pub entriesWithout : {A : Type 0} → ℕ → ℕ → List A → List
 entriesWithout k count xs = without k (take count xs) ++ drop (count - 1) xs
 
 abbrev pub candidateTaken : Candidates → ℕ → Candidates
-candidateTaken cs k = listed (entriesWithout k (cs .count) (cs .terms)) (entriesWithout k (cs .count) (cs .weights)) (removed k (cs .blocks)) (cs .count - 1)
+candidateTaken cs k =
+    let n = cs .count in
+    listed (entriesWithout k n (cs .terms)) (entriesWithout k n (cs .weights)) (entriesWithout k n (cs .lows)) (entriesWithout k n (cs .highs)) (removed k (cs .blocks)) (n - 1)
 
--- r is p behind a P: the primes of the list are its candidates, and their weights stand beside them
+-- another range for entry k
+abbrev pub rangePut : Candidates → ℕ → ℕ → ℕ → Candidates
+rangePut cs k low high = listed (cs .terms) (cs .weights) (set (cs .lows) k low) (set (cs .highs) k high) (cs .blocks) (cs .count)
+
+-- terms alone, each range with both ends at the weight
+abbrev pub alone : List Term → List ℕ → ℕ → Candidates
+alone terms weights count = listed terms weights weights weights 0 count
+
+-- r is p behind a P: the primes of the list are its candidates, and their weights stand beside them, at both ends of their ranges too
 pub record WithPrimes (p : Problem) (list : PrimeList) (r : Problem) : Type 0 where
-  pub is : r ≡ atPlace model.queried (withCandidates (listed (list .terms) (r .candidates .weights) 0 (list .count)) p)
+  pub is : r ≡ atPlace model.queried (withCandidates (alone (list .terms) (r .candidates .weights) (list .count)) p)
   pub weights : Filled 64 (map (termCost (p .settings .prices)) (take (list .count) (list .terms))) (r .candidates .weights) (list .count)
 
 -- ---- what it holds
@@ -106,11 +124,13 @@ pub record HoldsRows (r : TableRows) (t : model.TableRows) : Type 0 where
   pub dc-bytes : (v : ℕ) → v < 256 → getD (r .dc) v 0 ≡ getD (t .dc) v 0
   pub given : (v : ℕ) → v < 256 → ltb 0 (getD (r .given) v 0) ≡ some (eqb v) (t .given)
 
--- the candidates ks, but for the vertices of blocks, and the weights beside them. K5: "each weight equals the cost rule for its term", at these
+-- the candidates ks, but for the vertices of blocks, and the weights and ranges beside them. K5: "each weight equals the cost rule for its term", at these
 -- prices, and that of a block is its own
-pub record HoldsCands (w : Prices) (cs : Candidates) (ks : List Candidate) (ws : List ℕ) : Type 0 where
+pub record HoldsCands (w : Prices) (cs : Candidates) (ks : List Candidate) (ws : List ℕ) (rs : List Range) : Type 0 where
   pub entries : Filled 64 (map entryOf ks) (cs .terms) (cs .count)
   pub weights : Filled 64 ws (cs .weights) (cs .count)
+  pub lows : Filled 64 (map (λ r. r .low) rs) (cs .lows) (cs .count)
+  pub highs : Filled 64 (map (λ r. r .high) rs) (cs .highs) (cs .count)
   pub blocks : cs .blocks ≡ rowOf isBlock ks 0
   pub weighed : ws ≡ map (candidateCost w) ks
 
@@ -119,7 +139,7 @@ pub record Holds (p : Problem) (q : model.Problem) : Type 0 where
   pub place : p .place ≡ q .place
   pub settings : HoldsSettings (p .settings) (q .settings)
   pub rows : HoldsRows (p .rows) (q .rows)
-  pub cands : HoldsCands (p .settings .prices) (p .candidates) (q .cands) (q .weights)
+  pub cands : HoldsCands (p .settings .prices) (p .candidates) (q .cands) (q .weights) (q .ranges)
 
 -- some candidates stand in p and in the sets lent beside it
 pub record Stocked (p : Problem) (held : List ℕ) : Type 0 where

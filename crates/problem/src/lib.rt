@@ -1,14 +1,14 @@
 // The problem so far: one record by value with its settings, its rows and its candidates. The vertices of its blocks stand beside it, in sets
 // that are lent and not copied with it (`held`, crate `incidence`).
 //
-// `refusals` has the refusals that operands can meet in it, `weights` what stands beside a candidate, `cells` the rows of its cells, `matrix`
+// `refusals` has the refusals that operands can meet in it, `weights` what a term costs, `cells` the rows of its cells, `matrix`
 // its covering matrix, `products` the multiplication of its cells.
 // proofs/Keeping says that the record goes on holding the problem of the definitions.
 ghost use mathlib.Core.Path.{_≡_};
 ghost use Prim.Native.Nat.{_≤_, _<_, max};
 ghost use Rattle.model.specs.Candidates.{usual};
 ghost use Rattle.model.specs.Commands as model;
-ghost use Rattle.problem.specs.Problems.{noProblem, startedWith, atPlace, withPrices, withRows, withCandidates, listed, entryPut, termPut, blockPut, candidateTaken, WithPrimes};
+ghost use Rattle.problem.specs.Problems.{noProblem, startedWith, atPlace, withPrices, withRows, withCandidates, termPut, blockPut, rangePut, entriesWithout, candidateTaken, WithPrimes};
 use bits::set;
 use model::Block;
 use model::Prices;
@@ -35,11 +35,13 @@ pub struct TableRows {
     pub given: [u8; 256],
 }
 
-// The candidates: the first `count` terms, beside each its weight, and the set of those that are blocks. The term of a block has its outputs
-// alone.
+// The candidates: the first `count` terms, beside each its weight and the ends of the weight's range, and the set of those that are blocks. The
+// term of a block has its outputs alone.
 pub struct Candidates {
     pub terms: [Term; 64],
     pub weights: [u16; 64],
+    pub lows: [u16; 64],
+    pub highs: [u16; 64],
     pub blocks: u64,
     pub count: usize,
 }
@@ -93,6 +95,8 @@ pub fn started(n: u8, m: u8, place: u8) -> Problem
                 outputs: 0,
             }; 64],
             weights: [0; 64],
+            lows: [0; 64],
+            highs: [0; 64],
             blocks: 0,
             count: 0,
         },
@@ -138,8 +142,8 @@ fn candidate_place(place: u8) -> u8
     place
 }
 
-// With one candidate more, a term and what it costs: what T and A leave. (The same lines as in `with_block`: a function for both copies the
-// candidates once more.)
+// With one candidate more, a term and what it costs, which both ends of its range equal: what T and A leave. (The same lines as in
+// `with_block`: a function for both copies the candidates once more.)
 pub fn with_term(p: Problem, t: Term) -> Problem
     requires { ⌜ p .candidates .count < 64 ⌝ }
     ensures { λ r. ⌜ r ≡ atPlace (max (p .place) model.inCandidates) (withCandidates (termPut (p .settings .prices) (p .candidates) t) p) ⌝ }
@@ -148,7 +152,10 @@ pub fn with_term(p: Problem, t: Term) -> Problem
     let mut candidates = p.candidates;
     let i = candidates.count;
     candidates.terms[i] = t;
-    candidates.weights[i] = weights::weight(prices, t);
+    let w = weights::weight(prices, t);
+    candidates.weights[i] = w;
+    candidates.lows[i] = w;
+    candidates.highs[i] = w;
     candidates.count = i + 1;
     let place = candidate_place(p.place);
     let mut q = p;
@@ -171,6 +178,8 @@ pub fn with_block(p: Problem, b: Block) -> Problem
     let i = candidates.count;
     candidates.terms[i] = entry;
     candidates.weights[i] = b.weight;
+    candidates.lows[i] = b.weight;
+    candidates.highs[i] = b.weight;
     candidates.blocks = candidates.blocks | set::power(i as u64);
     candidates.count = i + 1;
     let place = candidate_place(p.place);
@@ -180,47 +189,77 @@ pub fn with_block(p: Problem, b: Block) -> Problem
     q
 }
 
-// `count` candidates without candidate k: those above it move down by one, each with its weight.
-fn moved_down(
-    terms: [Term; 64],
-    weights: [u16; 64],
-    blocks: u64,
-    count: usize,
-    k: usize,
-) -> Candidates
+// The first `count` terms without term k: those above it move down by one.
+fn terms_without(terms: [Term; 64], count: usize, k: usize) -> [Term; 64]
     requires { ⌜ (k < count) × (count ≤ 64) ⌝ }
-    ensures { λ r. ⌜ r ≡ candidateTaken (listed terms weights blocks count) k ⌝ }
+    ensures { λ r. ⌜ r ≡ entriesWithout k count terms ⌝ }
 {
     let mut ts = terms;
-    let mut ws = weights;
     let mut i = k;
     while i + 1 < count {
         ts[i] = ts[i + 1];
+        i += 1;
+    }
+    ts
+}
+
+// The same of weights, or of one end of their ranges.
+fn weights_without(weights: [u16; 64], count: usize, k: usize) -> [u16; 64]
+    requires { ⌜ (k < count) × (count ≤ 64) ⌝ }
+    ensures { λ r. ⌜ r ≡ entriesWithout k count weights ⌝ }
+{
+    let mut ws = weights;
+    let mut i = k;
+    while i + 1 < count {
         ws[i] = ws[i + 1];
         i += 1;
     }
-    Candidates {
-        terms: ts,
-        weights: ws,
-        blocks: set::removed(blocks, k as u64),
-        count: count - 1,
-    }
+    ws
 }
 
-// Without candidate k: what D leaves.
+// Without candidate k: those above move down by one, each with its weight and its range. What D leaves.
 pub fn without_candidate(p: Problem, k: usize) -> Problem
     requires { ⌜ (k < p .candidates .count) × (p .candidates .count ≤ 64) ⌝ }
     ensures { λ r. ⌜ r ≡ withCandidates (candidateTaken (p .candidates) k) p ⌝ }
 {
+    let count = p.candidates.count;
+    let blocks = set::removed(p.candidates.blocks, k as u64);
     let terms = p.candidates.terms;
     let weights = p.candidates.weights;
-    let candidates = moved_down(terms, weights, p.candidates.blocks, p.candidates.count, k);
+    let lows = p.candidates.lows;
+    let highs = p.candidates.highs;
+    let ts = terms_without(terms, count, k);
+    let ws = weights_without(weights, count, k);
+    let ls = weights_without(lows, count, k);
+    let hs = weights_without(highs, count, k);
+    let candidates = Candidates {
+        terms: ts,
+        weights: ws,
+        lows: ls,
+        highs: hs,
+        blocks: blocks,
+        count: count - 1,
+    };
     let mut q = p;
     q.candidates = candidates;
     q
 }
 
-// With the primes as its candidates, and their weights: what P leaves.
+// With another range for candidate k: what G leaves.
+pub fn with_range(p: Problem, k: usize, low: u16, high: u16) -> Problem
+    requires { ⌜ k < 64 ⌝ }
+    ensures { λ r. ⌜ r ≡ atPlace model.queried (withCandidates (rangePut (p .candidates) k low high) p) ⌝ }
+{
+    let mut candidates = p.candidates;
+    candidates.lows[k] = low;
+    candidates.highs[k] = high;
+    let mut q = p;
+    q.candidates = candidates;
+    q.place = 5;
+    q
+}
+
+// With the primes as its candidates, and their weights, which both ends of each range equal: what P leaves.
 pub fn with_primes(p: Problem, primes: PrimeList) -> Problem
     requires { ⌜ primes .count ≤ 64 ⌝ }
     ensures { λ r. ⌜ WithPrimes p primes r ⌝ }
@@ -237,13 +276,15 @@ pub fn with_primes(p: Problem, primes: PrimeList) -> Problem
         candidates: Candidates {
             terms: terms,
             weights: weights,
+            lows: weights,
+            highs: weights,
             blocks: 0,
             count: count,
         },
     }
 }
 
-// Behind an L, a C or an N.
+// Behind an L, a V, a C or an N.
 pub fn after_query(p: Problem) -> Problem
     ensures { λ r. ⌜ r ≡ atPlace model.queried p ⌝ }
 {

@@ -1,4 +1,4 @@
-// The covering matrix of a problem: what L and C search, and refusal 12.
+// The covering matrix of a problem: what L, V and C search, and refusal 12.
 ghost use mathlib.Core.Path.{_≡_};
 ghost use lib.ListN.{length};
 ghost use Rattle.problem.specs.Problems.{Sized};

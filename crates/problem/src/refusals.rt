@@ -1,7 +1,8 @@
 // The refusals that a command's operands can meet, each tested in the paper's order. 0 is none. A test takes what it reads of the record.
 ghost use mathlib.Core.Path.{_≡_};
 ghost use Prim.Native.Nat.{_≤_};
-ghost use Rattle.model.specs.Refusals.{badRow, dear, firstOf, refuse, size};
+ghost use Rattle.model.specs.Ranges.{between};
+ghost use Rattle.model.specs.Refusals.{badRow, badRange, dear, firstOf, refuse, size};
 ghost use mathlib.Core.Bool.{not, _&&_};
 ghost use mathlib.Core.List.{[], _∷_};
 ghost use Rattle.problem.specs.Refusing.{isTaken, rowRefusals, TermRefusal, BlockRefusal};
@@ -48,6 +49,19 @@ pub fn prices_refusal(w: Prices) -> u8
     }
     if 50 < w.connection {
         return 16;
+    }
+    0
+}
+
+// A range of G: 19.
+pub fn range_refusal(low: u16, high: u16) -> u8
+    ensures { λ r. ⌜ r ≡ firstOf (refuse 19 (badRange (between low high)) ∷ []) ⌝ }
+{
+    if high < low {
+        return 19;
+    }
+    if 850 < high {
+        return 19;
     }
     0
 }

@@ -1,17 +1,18 @@
--- The laws behind L, C and N.
-use Prim.Native.Nat.{ℕ, _/_, _≤_}
+-- The laws behind L, V, C and N.
+use Prim.Native.Nat.{ℕ, zero, suc, _/_, _≤_}
 use native.Mathlib.Omega.{arith}
 use mathlib.Core.Path.{_≡_, refl, sym, ap, ap₂, _∙_, subst, subst⁻¹}
 use mathlib.Core.Bool.{Bool, true, false, not, cond}
 use mathlib.Core.List.{List, [], _∷_, map, append-nil, List·Memᴰ, List·Memᴰ·head, List·Memᴰ·tail}
 use lib.Dec.{T, T-not}
-use lib.ListN.{length, take, drop, length-take, length-append}
+use lib.ListN.{getD, length, take, drop, replicate, length-take, length-append, length-map}
 use denote.Ref.{RefT, now}
 use lib.Seq.{take-at}
 use Rattle.model.specs.Base.{bit}
 use Rattle.model.specs.Sets.{Covering, members, Best, cover, coverable, cheapest, cost, ofRows}
 use Rattle.model.specs.Products.{products, tooMany}
 use Rattle.model.specs.Pages.{page, atOrAbove}
+use Rattle.model.specs.Ranges.{Range, Ranged, possibles}
 use Rattle.model.specs.declared.Prices.{Prices}
 use Rattle.model.specs.Candidates.{candidateCost, weigh}
 use Rattle.model.specs.Commands as model
@@ -21,6 +22,7 @@ use Rattle.model.specs.Refusals.{firstOf, refusalsOf}
 use Rattle.model.proofs.Demand3.{manyAt, refusals-query}
 use Rattle.model.proofs.Sets.{covers-more}
 use Rattle.model.proofs.Cheapest.{best-cheapest}
+use Rattle.model.proofs.Ranges.{possibles-same}
 use Rattle.model.proofs.Matrix.{rows-cost}
 use Rattle.cheapest.specs.declared.search.Optimum.{Optimum}
 use Rattle.cheapest.specs.declared.search.Optimum.the-variants.{Cover as AtCover, Nothing}
@@ -28,17 +30,18 @@ use Rattle.lister.specs.declared.cursor.PageFill.{PageFill}
 use Rattle.rows.specs.Covers.{rowCovers}
 use Rattle.lister.specs.Lister.{Paged}
 use Rattle.cheapest.specs.Optimum.{Optimal}
+use Rattle.ranges.specs.Listed.{ranges, rowPossibles}
 use Rattle.incidence.specs.Stored.{BlocksAt}
 use Rattle.answers.specs.declared.writers.Reply.{Reply}
 use Rattle.answers.specs.declared.writers.Reply.the-variants.{Written, TooLong}
 use Rattle.answers.specs.Writers.{Replied}
 use Rattle.problem.specs.declared.Problem.{Problem}
-use Rattle.problem.specs.Problems.{atPlace, Holds}
-use Rattle.problem.specs.Matrix.{Multiplies}
+use Rattle.problem.specs.Problems.{atPlace, Holds, Reached}
+use Rattle.problem.specs.Matrix.{RowsOf, Multiplies}
 use Rattle.problem.proofs.Keeping.{after-query}
 use Rattle.problem.proofs.Preparing.{rows-listed}
 use Rattle.commands.specs.declared.Effect.{Effect}
-use Rattle.commands.specs.Effects.{refusedAs, repliedAs, answerBytes, pageBytes, Handled, Found, HandlesL, HandlesC, HandlesN}
+use Rattle.commands.specs.Effects.{refusedAs, repliedAs, answerBytes, pageBytes, possibleBytes, Handled, Found, HandlesL, HandlesV, HandlesC, HandlesN}
 use Rattle.commands.proofs.Handling.{late-own, handled-refused, handled-written, handled-long}
 
 -- ---- covers by all candidates, and costs without rows
@@ -77,6 +80,10 @@ module _ (all : List ℕ) (s : ℕ) (old new : List ℕ) (f : PageFill) (p : Pag
 
   pub page-answer : (free free' : List ℕ) (r : Reply) → Replied (bytesOf (Answer.paged (take (f .count) new) (f .more))) free free' r → Replied (pageBytes all s (length old)) free free' r
   page-answer free free' r w = subst (λ (a : Answer). Replied (bytesOf a) free free' r) (ap₂ Answer.paged page-front (p .more)) w
+
+  pub possible-answer : (free free' : List ℕ) (r : Reply) → Replied (bytesOf (Answer.possiblePaged (take (f .count) new) (f .more))) free free' r
+      → Replied (possibleBytes all s (length old)) free free' r
+  possible-answer free free' r w = subst (λ (a : Answer). Replied (bytesOf a) free free' r) (ap₂ Answer.possiblePaged page-front (p .more)) w
 
 -- ---- queries by their replies
 
@@ -121,6 +128,61 @@ module _ (p : Problem) (rows : List ℕ) (b : Bool) (s k : ℕ) where
       handled-reply x model.Kind.L p old new r
       (subst (λ (all : List ℕ). Replied (pageBytes all (start x) (count x)) old new r) (rows-listed p (x .problem) rows n (f .holds) (d .rows-of) m) (rw (i, j, ← v) w))
       l (query-covered p b x model.Kind.L tt f (d .told) z refl) (f .holds) (after-query x p model.Kind.L tt (f .holds)) e q
+
+-- ---- V
+
+-- the ends of ranges, taken apart and put together again
+ranges-back : (rs : List Range) → ranges (map (λ r. r .low) rs) (map (λ r. r .high) rs) ≡ rs
+ranges-back [] = refl
+ranges-back (r ∷ rs) = ap (λ (qs : List Range). r ∷ qs) (ranges-back rs)
+
+ends-ordered : (rs : List Range) → Ranged rs → (i : ℕ) → getD (map (λ r. r .low) rs) i 0 ≤ getD (map (λ r. r .high) rs) i 0
+ends-ordered [] a i = omega arith
+ends-ordered (r ∷ rs) a zero = a .0
+ends-ordered (r ∷ rs) a (suc i) = ends-ordered rs (a .1) i
+
+-- the ends that stand in the record
+module _ (p : Problem) (lows highs : List ℕ) (l : lows ≡ take (p .candidates .count) (p .candidates .lows)) (h : highs ≡ take (p .candidates .count) (p .candidates .highs)) where
+  lows-of : (q : model.Problem) → Holds p q → lows ≡ map (λ r. r .low) (q .ranges)
+  lows-of q g = l ∙ g .cands .lows .same
+
+  highs-of : (q : model.Problem) → Holds p q → highs ≡ map (λ r. r .high) (q .ranges)
+  highs-of q g = h ∙ g .cands .highs .same
+
+  pub ends-sized : Reached p → (length lows ≤ 64) × (length highs ≡ length lows)
+  ends-sized r =
+      let q = r .problem in
+      let a = ap length (lows-of q (r .holds)) ∙ length-map (q .ranges) (λ r. r .low) in
+      let b = ap length (highs-of q (r .holds)) ∙ length-map (q .ranges) (λ r. r .high) in
+      (omega (arith, a, r .valid .sound .each-range, r .valid .sound .few), omega (arith, a, b))
+
+  pub ends-rise : Reached p → (i : ℕ) → getD lows i 0 ≤ getD highs i 0
+  ends-rise r i =
+      let q = r .problem in
+      subst⁻¹ (λ (x : List ℕ). getD x i 0 ≤ getD highs i 0) (lows-of q (r .holds))
+      (subst⁻¹ (λ (y : List ℕ). getD (map (λ r. r .low) (q .ranges)) i 0 ≤ getD y i 0) (highs-of q (r .holds)) (ends-ordered (q .ranges) (r .valid .sound .ranged) i))
+
+  possibles-of : (rows : List ℕ) (x : Context) → Found p x → RowsOf (basisOf (x .problem)) rows → rowPossibles (length lows) rows lows highs ≡ possibles (coveringOf x) (x .problem .ranges)
+  unfolding rowPossibles
+  possibles-of rows x f d =
+      let q = x .problem in
+      let rs = q .ranges in
+      let n : length lows ≡ length (q .cands) = ap length (lows-of q (f .holds)) ∙ length-map rs (λ r. r .low) ∙ f .valid .sound .each-range in
+      ap (λ (i : ℕ). possibles (ofRows (replicate i 0) rows) (ranges lows highs)) n
+      ∙ ap (possibles (ofRows (replicate (length (q .cands)) 0) rows)) (ap₂ ranges (lows-of q (f .holds)) (highs-of q (f .holds)) ∙ ranges-back rs)
+      ∙ sym (possibles-same (coveringOf x) rs (ofRows (replicate (length (q .cands)) 0) rows) (d .listed))
+
+  module _ (rows : List ℕ) (b : Bool) (s k : ℕ) where
+    pub possible-answered : (c : ℕ) (old new : List ℕ) (r : Reply) (e : Effect) → b ≡ true → c ≡ k → Replied (possibleBytes (rowPossibles (length lows) rows lows highs) s c) old new r
+        → e ≡ repliedAs p r → HandlesV p rows b s k old new e
+    unfolding answerFor
+    possible-answered c old new r e z v w q x f d i j l =
+        handled-reply x model.Kind.«V» p old new r
+        (subst (λ (all : List ℕ). Replied (possibleBytes all (start x) (count x)) old new r) (possibles-of rows x f (d .rows-of)) (rw (i, j, ← v) w))
+        l (query-covered p b x model.Kind.«V» tt f (d .told) z refl) (f .holds) (after-query x p model.Kind.«V» tt (f .holds)) e q
+
+pub possible-uncovered : (p : Problem) (rows : List ℕ) (b : Bool) (s k : ℕ) (old : List ℕ) (e : Effect) → b ≡ false → e ≡ refusedAs p 12 → HandlesV p rows b s k old old e
+possible-uncovered p rows b s k old e z q x f d i j l = query-uncovered p b x model.Kind.«V» tt f (d .told) old e z q
 
 -- ---- C
 

@@ -1,11 +1,12 @@
-// L and C over the rows of a problem, and N, which multiplies those of its cells.
+// L, V and C over the rows of a problem, and N, which multiplies those of its cells.
 ghost use mathlib.Core.Path.{_≡_};
-ghost use Prim.Native.Nat.{_≤_};
-ghost use lib.ListN.{length};
+ghost use Prim.Native.Nat.{ℕ, _≤_};
+ghost use lib.ListN.{getD, length};
 ghost use Rattle.rows.specs.Covers.{rowCovers};
+ghost use Rattle.ranges.specs.Listed.{rowPossibles};
 ghost use Rattle.answers.specs.Writers.{Replied};
 ghost use Rattle.problem.specs.Problems.{Reached, ReachedWith};
-ghost use Rattle.commands.specs.Effects.{repliedAs, pageBytes, HandlesL, HandlesC, HandlesN};
+ghost use Rattle.commands.specs.Effects.{repliedAs, pageBytes, possibleBytes, HandlesL, HandlesV, HandlesC, HandlesN};
 use answers::writers;
 use answers::writers::Reply;
 use bits::byte;
@@ -58,6 +59,58 @@ pub fn list(
         let k = byte::wide(count);
         let mut row = [0u64; 255];
         return replied(p, page_into(rows, n, start, &mut row[..k], free));
+    }
+    refused(p, 12)
+}
+
+// Fills the row with the covers from `start` on that cost no more than any other for some weights between
+// the ends, and answers with them.
+fn possible_into(
+    rows: &[u64],
+    lows: &[u16],
+    highs: &[u16],
+    start: u64,
+    row: &mut [u64],
+    free: &mut [u8],
+) -> Reply
+    requires { ⌜ (length (now rows) ≤ 2048) × (length (now row) ≤ 255) ⌝ }
+    requires { ⌜ (length (now lows) ≤ 64) × (length (now highs) ≡ length (now lows)) ⌝ }
+    requires { ⌜ ((i : ℕ) → getD (now lows) i 0 ≤ getD (now highs) i 0) ⌝ }
+    ensures { λ r. ⌜ Replied (possibleBytes (rowPossibles (length (now (lows .entry))) (now (rows .entry)) (now (lows .entry)) (now (highs .entry))) start (length (now (row .entry)))) (now (free .entry)) (now (free .exit)) r ⌝ }
+{
+    let page = ranges::cursor::fill(rows, lows, highs, start, row);
+    let filled = page.count;
+    writers::put_possible_page(free, row, filled, page.more)
+}
+
+// V: the sets for a row of `count` entries from `start` on, by the ranges of the record. `rows` and `covered` are the covering matrix.
+pub fn possible(
+    p: Problem,
+    rows: &[u64],
+    covered: bool,
+    start: u64,
+    count: u8,
+    free: &mut [u8],
+) -> Effect
+    requires { ⌜ Reached p ⌝ }
+    requires { ⌜ length (now rows) ≤ 2048 ⌝ }
+    ensures { λ r. ⌜ HandlesV p (now (rows .entry)) covered start count (now (free .entry)) (now (free .exit)) r ⌝ }
+{
+    if covered {
+        let lows = p.candidates.lows;
+        let highs = p.candidates.highs;
+        let n = p.candidates.count;
+        let wanted = byte::wide(count);
+        let mut row = [0u64; 255];
+        let reply = possible_into(
+            rows,
+            &lows[..n],
+            &highs[..n],
+            start,
+            &mut row[..wanted],
+            free,
+        );
+        return replied(p, reply);
     }
     refused(p, 12)
 }

@@ -16,6 +16,18 @@ mul-candidates c = search needs
 element-write-candidates : tie.Need-element-write-candidates
 element-write-candidates c = search needs
 
+mul-candidates-2 : tie.Need-mul-candidates-2
+mul-candidates-2 c = search needs
+
+element-write-candidates-2 : tie.Need-element-write-candidates-2
+element-write-candidates-2 c = search needs
+
+mul-candidates-3 : tie.Need-mul-candidates-3
+mul-candidates-3 c = search needs
+
+element-write-candidates-3 : tie.Need-element-write-candidates-3
+element-write-candidates-3 c = search needs
+
 power-requires : tie.Need-power-requires
 power-requires c κs = search needs
 
@@ -31,4 +43,17 @@ returns c = rw (c .candidate-place .ensures, c .before .power .ensures)
 
 pub with-block-spec : {M : Type 1} → statement M
 with-block-spec =
-    tie.close (tie.spec mul-entry element-set-from-entry mul-candidates element-write-candidates power-requires add-candidates candidate-place-requires returns)
+    tie.close
+    (tie.spec
+    mul-entry
+    element-set-from-entry
+    mul-candidates
+    element-write-candidates
+    mul-candidates-2
+    element-write-candidates-2
+    mul-candidates-3
+    element-write-candidates-3
+    power-requires
+    add-candidates
+    candidate-place-requires
+    returns)

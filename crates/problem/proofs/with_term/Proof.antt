@@ -19,6 +19,18 @@ mul-candidates c = search needs
 element-write-candidates : tie.Need-element-write-candidates
 element-write-candidates c = search needs
 
+mul-candidates-2 : tie.Need-mul-candidates-2
+mul-candidates-2 c = search needs
+
+element-write-candidates-2 : tie.Need-element-write-candidates-2
+element-write-candidates-2 c = search needs
+
+mul-candidates-3 : tie.Need-mul-candidates-3
+mul-candidates-3 c = search needs
+
+element-write-candidates-3 : tie.Need-element-write-candidates-3
+element-write-candidates-3 c = search needs
+
 add-candidates : tie.Need-add-candidates
 add-candidates c = search needs
 
@@ -30,5 +42,18 @@ unfolding entryPut
 returns c = rw (c .candidate-place .ensures, c .before .weight .ensures)
 
 pub with-term-spec : {M : Type 1} → statement M
-with-term-spec = tie.close (tie.spec mul-t element-set-from-t weight-requires mul-candidates element-write-candidates add-candidates
-    candidate-place-requires returns)
+with-term-spec =
+    tie.close
+    (tie.spec
+    mul-t
+    element-set-from-t
+    weight-requires
+    mul-candidates
+    element-write-candidates
+    mul-candidates-2
+    element-write-candidates-2
+    mul-candidates-3
+    element-write-candidates-3
+    add-candidates
+    candidate-place-requires
+    returns)

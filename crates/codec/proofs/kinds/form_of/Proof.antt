@@ -88,6 +88,18 @@ enum-told-14 c = search needs
 described-requires-14 : tie.Need-described-requires-14
 described-requires-14 c κs = search needs
 
+enum-told-15 : tie.Need-enum-told-15
+enum-told-15 c = search needs
+
+described-requires-15 : tie.Need-described-requires-15
+described-requires-15 c κs = search needs
+
+enum-told-16 : tie.Need-enum-told-16
+enum-told-16 c = search needs
+
+described-requires-16 : tie.Need-described-requires-16
+described-requires-16 c κs = search needs
+
 returns : tie.Need-returns
 returns c = described-as _ _ _ (c .before .enum-told .given .1) (c .described .ensures)
 
@@ -130,9 +142,16 @@ returns-13 c = described-as _ _ _ (c .before .enum-told13 .given .1) (c .describ
 returns-14 : tie.Need-returns-14
 returns-14 c = described-as _ _ _ (c .before .enum-told14 .given .1) (c .described14 .ensures)
 
+returns-15 : tie.Need-returns-15
+returns-15 c = described-as _ _ _ (c .before .enum-told15 .given .1) (c .described15 .ensures)
+
+returns-16 : tie.Need-returns-16
+returns-16 c = described-as _ _ _ (c .before .enum-told16 .given .1) (c .described16 .ensures)
+
 pub form-of-spec : {M : Type 1} → statement M
 form-of-spec = tie.close (tie.spec enum-told described-requires enum-told-2 described-requires-2 enum-told-3 described-requires-3 enum-told-4
     described-requires-4 enum-told-5 described-requires-5 enum-told-6 described-requires-6 enum-told-7 described-requires-7 enum-told-8
     described-requires-8 enum-told-9 described-requires-9 enum-told-10 described-requires-10 enum-told-11 described-requires-11 enum-told-12
-    described-requires-12 enum-told-13 described-requires-13 enum-told-14 described-requires-14 returns returns-2 returns-3 returns-4 returns-5 returns-6 returns-7 returns-8 returns-9 returns-10
-    returns-11 returns-12 returns-13 returns-14)
+    described-requires-12 enum-told-13 described-requires-13 enum-told-14 described-requires-14 enum-told-15 described-requires-15 enum-told-16
+    described-requires-16 returns returns-2 returns-3 returns-4 returns-5 returns-6 returns-7 returns-8 returns-9 returns-10 returns-11 returns-12
+    returns-13 returns-14 returns-15 returns-16)

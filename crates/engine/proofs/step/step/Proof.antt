@@ -9,7 +9,7 @@ use Rattle.codec.specs.Kinds.{kindIs}
 use Rattle.problem.specs.Problems.{Sized}
 use Rattle.problem.proofs.Keeping.{reached-sized, reached-alone}
 use Rattle.engine.proofs.Dispatching.{Read, operands-there, term-there, rows-may-come, step-early, step-I, step-W, step-R, step-B, step-term}
-use Rattle.engine.proofs.Dispatching.{step-F, step-P, step-D, step-L, step-C, step-N, step-E, step-none}
+use Rattle.engine.proofs.Dispatching.{step-F, step-P, step-D, step-G, step-L, step-V, step-C, step-N, step-E, step-none}
 use borrow.Author.Needs.{needs}
 use Rattle.engine.proofs.step.step.Statement.{statement}
 use Rattle.engine.proofs.step.step.Tie as tie
@@ -158,41 +158,83 @@ remove-requires c κs = sized (c .before .before .before .before)
 enum-told-8 : tie.Need-enum-told-8
 enum-told-8 c = search needs
 
+add-range : tie.Need-add-range
+add-range c = search needs
+
+shared-slice-read-range : tie.Need-shared-slice-read-range
+shared-slice-read-range c = omega (arith, room (c .before .before .before), ap width (ap kindIs (c .before .enum-told8 .given .1)))
+
+add-short-at : tie.Need-add-short-at
+add-short-at c = search needs
+
+short-at-requires : tie.Need-short-at-requires
+short-at-requires c κs = omega (arith, room (c .before .before .before), ap width (ap kindIs (c .before .enum-told8 .given .1)))
+
+add-short-at-2 : tie.Need-add-short-at-2
+add-short-at-2 c = search needs
+
+short-at-requires-2 : tie.Need-short-at-requires-2
+short-at-requires-2 c κs = omega (arith, room (c .before .before .before .before), ap width (ap kindIs (c .before .before .enum-told8 .given .1)))
+
+range-requires : tie.Need-range-requires
+range-requires c κs = sized (c .before .before .before .before .before)
+
+enum-told-9 : tie.Need-enum-told-9
+enum-told-9 c = search needs
+
 add-number-at : tie.Need-add-number-at
 add-number-at c = search needs
 
 number-at-requires : tie.Need-number-at-requires
-number-at-requires c κs = omega (arith, room (c .before .before), ap width (ap kindIs (c .enum-told8 .given .1)))
+number-at-requires c κs = omega (arith, room (c .before .before), ap width (ap kindIs (c .enum-told9 .given .1)))
 
 add-list : tie.Need-add-list
 add-list c = search needs
 
 shared-slice-read-list : tie.Need-shared-slice-read-list
-shared-slice-read-list c = omega (arith, room (c .before .before .before .before), ap width (ap kindIs (c .before .before .enum-told8 .given .1)))
+shared-slice-read-list c = omega (arith, room (c .before .before .before .before), ap width (ap kindIs (c .before .before .enum-told9 .given .1)))
 
 list-requires : tie.Need-list-requires
 list-requires c κs = search needs
 
-enum-told-9 : tie.Need-enum-told-9
-enum-told-9 c = search needs
-
-least-cost-requires : tie.Need-least-cost-requires
-least-cost-requires c κs = search needs
-
 enum-told-10 : tie.Need-enum-told-10
 enum-told-10 c = search needs
 
-multiply-requires : tie.Need-multiply-requires
-multiply-requires c κs = search needs
+add-number-at-2 : tie.Need-add-number-at-2
+add-number-at-2 c = search needs
+
+number-at-requires-2 : tie.Need-number-at-requires-2
+number-at-requires-2 c κs = omega (arith, room (c .before .before), ap width (ap kindIs (c .enum-told10 .given .1)))
+
+add-possible : tie.Need-add-possible
+add-possible c = search needs
+
+shared-slice-read-possible : tie.Need-shared-slice-read-possible
+shared-slice-read-possible c = omega (arith, room (c .before .before .before .before), ap width (ap kindIs (c .before .before .enum-told10 .given .1)))
+
+possible-requires : tie.Need-possible-requires
+possible-requires c κs = search needs
 
 enum-told-11 : tie.Need-enum-told-11
 enum-told-11 c = search needs
 
-end-requires : tie.Need-end-requires
-end-requires c κs = search needs
+least-cost-requires : tie.Need-least-cost-requires
+least-cost-requires c κs = search needs
 
 enum-told-12 : tie.Need-enum-told-12
 enum-told-12 c = search needs
+
+multiply-requires : tie.Need-multiply-requires
+multiply-requires c κs = search needs
+
+enum-told-13 : tie.Need-enum-told-13
+enum-told-13 c = search needs
+
+end-requires : tie.Need-end-requires
+end-requires c κs = search needs
+
+enum-told-14 : tie.Need-enum-told-14
+enum-told-14 c = search needs
 
 refused-requires-2 : tie.Need-refused-requires-2
 refused-requires-2 c κs = search needs
@@ -232,43 +274,56 @@ returns-9 : tie.Need-returns-9
 returns-9 c = let c3 = c .before .before .before in let c5 = c3 .before .before in
     step-D (read (c5 .before)) (c5 .if1 .left) (ap kindIs (c3 .enum-told7 .given .1)) (c .remove .ensures)
 
+returns-10 : tie.Need-returns-10
+returns-10 c = let c2 = c .before .before in let c4 = c2 .before .before in let c6 = c4 .before .before in
+    step-G (read (c6 .before)) (c6 .if1 .left) (ap kindIs (c4 .enum-told8 .given .1)) (c2 .short-at .ensures) (c .before .short-at2 .ensures) (c .range .ensures)
+
 same-length-2 : tie.Need-same-length-2
 same-length-2 c = search needs
 
-returns-10 : tie.Need-returns-10
-returns-10 c = let c5 = c .before .before .before .before .before in let c8 = c5 .before .before .before in
-    step-L (read (c8 .before)) (c8 .if1 .left) (ap kindIs (c5 .before .enum-told8 .given .1)) (c5 .number-at .ensures) refl (c .before .before .list .ensures)
+returns-11 : tie.Need-returns-11
+returns-11 c = let c5 = c .before .before .before .before .before in let c8 = c5 .before .before .before in
+    step-L (read (c8 .before)) (c8 .if1 .left) (ap kindIs (c5 .before .enum-told9 .given .1)) (c5 .number-at .ensures) refl (c .before .before .list .ensures)
 
 same-length-3 : tie.Need-same-length-3
 same-length-3 c = search needs
 
-returns-11 : tie.Need-returns-11
-returns-11 c = let c4 = c .before .before .before .before in let c6 = c4 .before .before in
-    step-C (read (c6 .before)) (c6 .if1 .left) (ap kindIs (c4 .enum-told9 .given .1)) (c .before .before .least-cost .ensures)
+returns-12 : tie.Need-returns-12
+returns-12 c = let c5 = c .before .before .before .before .before in let c8 = c5 .before .before .before in
+    step-V (read (c8 .before)) (c8 .if1 .left) (ap kindIs (c5 .before .enum-told10 .given .1)) (c5 .number-at2 .ensures) refl (c .before .before .possible .ensures)
 
 same-length-4 : tie.Need-same-length-4
 same-length-4 c = search needs
 
-returns-12 : tie.Need-returns-12
-returns-12 c = let c5 = c .before .before .before .before .before in let c7 = c5 .before .before in
-    step-N (read (c7 .before)) (c7 .if1 .left) (ap kindIs (c5 .enum-told10 .given .1)) (c .before .before .multiply .ensures)
+returns-13 : tie.Need-returns-13
+returns-13 c = let c4 = c .before .before .before .before in let c6 = c4 .before .before in
+    step-C (read (c6 .before)) (c6 .if1 .left) (ap kindIs (c4 .enum-told11 .given .1)) (c .before .before .least-cost .ensures)
 
 same-length-5 : tie.Need-same-length-5
 same-length-5 c = search needs
 
-returns-13 : tie.Need-returns-13
-returns-13 c = let c4 = c .before .before .before .before in let c6 = c4 .before .before in
-    step-E (read (c6 .before)) (c6 .if1 .left) (ap kindIs (c4 .enum-told11 .given .1)) (c .before .before .end .ensures)
-
 returns-14 : tie.Need-returns-14
-returns-14 c = step-none (read (c .before .before .before .before)) (c .before .before .before .if1 .left) (ap kindIs (c .before .enum-told12 .given .1))
+returns-14 c = let c5 = c .before .before .before .before .before in let c7 = c5 .before .before in
+    step-N (read (c7 .before)) (c7 .if1 .left) (ap kindIs (c5 .enum-told12 .given .1)) (c .before .before .multiply .ensures)
+
+same-length-6 : tie.Need-same-length-6
+same-length-6 c = search needs
+
+returns-15 : tie.Need-returns-15
+returns-15 c = let c4 = c .before .before .before .before in let c6 = c4 .before .before in
+    step-E (read (c6 .before)) (c6 .if1 .left) (ap kindIs (c4 .enum-told13 .given .1)) (c .before .before .end .ensures)
+
+returns-16 : tie.Need-returns-16
+returns-16 c = step-none (read (c .before .before .before .before)) (c .before .before .before .if1 .left) (ap kindIs (c .before .enum-told14 .given .1))
 
 pub step-spec : {M : Type 1} → statement M
 step-spec = tie.close (tie.spec shared-slice-read-kind-of kind-of-requires sub-rest sub-rest-2 early-refusal-requires refused-requires returns
     enum-told add-init shared-slice-read-init add-init-2 shared-slice-read-init-2 init-requires enum-told-2 add-prices-at prices-at-requires
     prices-requires enum-told-3 add-wide shared-slice-read-wide wide-requires add-row shared-slice-read-row add-row-2 shared-slice-read-row-2
     row-requires enum-told-4 add-eight-rows eight-rows-requires add-term-at term-at-requires term-requires enum-told-5 add-block-at block-at-requires
-    block-requires enum-told-6 primes-requires enum-told-7
-    add-remove shared-slice-read-remove remove-requires enum-told-8 add-number-at number-at-requires add-list shared-slice-read-list list-requires
-    enum-told-9 least-cost-requires enum-told-10 multiply-requires enum-told-11 end-requires enum-told-12 refused-requires-2 returns-2 returns-3 returns-4 returns-5 returns-6
-    returns-7 same-length returns-8 returns-9 same-length-2 returns-10 same-length-3 returns-11 same-length-4 returns-12 same-length-5 returns-13 returns-14)
+    block-requires enum-told-6 primes-requires enum-told-7 add-remove shared-slice-read-remove remove-requires enum-told-8 add-range
+    shared-slice-read-range add-short-at short-at-requires add-short-at-2 short-at-requires-2 range-requires enum-told-9 add-number-at
+    number-at-requires add-list shared-slice-read-list list-requires enum-told-10 add-number-at-2 number-at-requires-2 add-possible
+    shared-slice-read-possible possible-requires enum-told-11 least-cost-requires enum-told-12 multiply-requires enum-told-13 end-requires enum-told-14
+    refused-requires-2 returns-2 returns-3 returns-4 returns-5 returns-6 returns-7 same-length returns-8 returns-9 returns-10 same-length-2 returns-11
+    same-length-3 returns-12 same-length-4 returns-13 same-length-5 returns-14 same-length-6 returns-15 returns-16)
