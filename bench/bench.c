@@ -5,22 +5,23 @@
  *   bench [-t SECONDS] [-r ROUNDS] [-m] [-c FILE] FOLDER
  *   bench -a [-t SECONDS] FOLDER
  *
- * For every *.job of the folder: the whole job, the commands before its first query, then each of its L, C and N
+ * For every *.job of the folder: the whole job, the commands before its first query, then each of its L, V, C and N
  * commands. A command is timed by a job of its own, the commands before it that are no queries, the one query and E,
  * less the time of that job without the query; so it counts the making of the covering matrix, and has no ratio where
  * it is less than 5 % of that job. Each time is the best of many runs, in ROUNDS rounds that alternate between the
  * engines. Every measurement is a child process that is ended after SECONDS; what did not end is shown as "-".
- * The search nodes of a page and of C are counted in the plain C engine, which searches as the proved one.
+ * The search nodes of a page, of V and of C are counted in the plain C engine, which searches as the proved one.
  *
- * Then the stack that a call of cover_job uses, over all jobs, and the times of jobs of 32,768 bytes that ask L all
- * along, or A, L and D in turn (long_job.h). -m prints the jobs as a markdown table, -c writes the times to a file as
- * CSV. The last line sums up. -a runs every job once in both engines, compares the answers and measures nothing; so it
- * does for the jobs at other prices, by W, with N in the place of their queries, and with F in the place of their T,
- * which must leave the same bytes; and for drawn ones with W (priced_job.h), with P (prime_job.h), with N
- * (product_job.h) and with F (ready_job.h).
+ * Then the stack that a call of cover_job uses, over all jobs, also with V in the place of their queries, and the
+ * times of jobs of 32,768 bytes that ask L all along, or A, L and D in turn (long_job.h). -m prints the jobs as a
+ * markdown table, -c writes the times to a file as CSV. The last line sums up. -a runs every job once in both
+ * engines, compares the answers and measures nothing; so it does for the jobs at other prices, by W, with N in the
+ * place of their queries, with V in that place, at four kinds of ranges by G (range_modes.h), and with F in the
+ * place of their T, which must leave the same bytes; and for drawn ones with W (priced_job.h), with P (prime_job.h),
+ * with N (product_job.h), with F (ready_job.h) and with G and V (ranged_job.h).
  *
  * A job with a command that the other engine does not know (the plain C engine: one that is not of paper 01, K2, K3,
- * K6, K8 or K10) is newer than that engine, and is left out.
+ * K6, K8, K10 or K11) is newer than that engine, and is left out.
  *
  * The exit status is 1 where answers differ or the stack use reaches 256 KiB (with -a also where a job did not end), 2
  * where nothing was run.
@@ -46,6 +47,8 @@
 #include "priced_job.h"
 #include "prime_job.h"
 #include "product_job.h"
+#include "range_modes.h"
+#include "ranged_job.h"
 #include "ready_job.h"
 
 enum { MOST_JOBS = 4096, MOST_QUERIES = 64 };
@@ -101,7 +104,7 @@ static bool starts_with(const char *s, const char *head) { return strncmp(s, hea
 static bool natural(const char *name)
 {
     static const char *const made[] = {"adv",    "cheaphard", "listhard", "cyc64",    "dup",  "edges",
-                                       "ring64", "sub64",     "dupcyc",   "products", "ready"};
+                                       "ring64", "sub64",     "dupcyc",   "products", "ready", "ranges"};
     for (size_t i = 0; i < sizeof made / sizeof *made; i++)
         if (starts_with(name, made[i]))
             return false;
@@ -322,10 +325,10 @@ static void raise_to(Worst *w, double time, const char *name)
 }
 
 /* What is timed of a job. */
-enum { PAGE, CHEAPEST, PRODUCTS, HEAD, PARTS };
-static const char *const part_names[PARTS] = {"page", "C", "N", "before the queries"};
+enum { PAGE, CHEAPEST, PRODUCTS, POSSIBLE, HEAD, PARTS };
+static const char *const part_names[PARTS] = {"page", "C", "N", "V", "before the queries"};
 
-static Worst worst[2][HEAD];      /* of the engine: page, C, N; of natural tables, of the others */
+static Worst worst[2][HEAD];      /* of the engine: page, C, N, V; of natural tables, of the others */
 static int open_queries[2][HEAD]; /* how many of these did not end */
 static Worst worst_parts[PARTS]; /* by the ratio */
 static int newer = 0;            /* jobs that the other engine does not know */
@@ -389,7 +392,10 @@ static Pair before_queries(const Job *job, size_t head, const char *name)
 
 static int part_of(uint8_t query)
 {
-    return query == COVER_LIST ? PAGE : query == COVER_CHEAPEST ? CHEAPEST : PRODUCTS;
+    return query == COVER_LIST       ? PAGE
+           : query == COVER_CHEAPEST ? CHEAPEST
+           : query == COVER_POSSIBLE ? POSSIBLE
+                                     : PRODUCTS;
 }
 
 /* The query at `at`, behind the commands before it that are no queries. */
@@ -453,7 +459,7 @@ static void keep_most(Pair *most, const Pair *p)
         most->nodes = p->nodes;
 }
 
-/* Each L, C and N of the job; `most` gets the most of each. */
+/* Each L, V, C and N of the job; `most` gets the most of each. */
 static void run_queries(const Job *job, size_t head, const char *name, Pair most[HEAD])
 {
     int number = 0;
@@ -474,7 +480,7 @@ static void run_queries(const Job *job, size_t head, const char *name, Pair most
 static void run_job(Job *job, const char *name)
 {
     size_t head = head_of(job->bytes, job->len);
-    Pair none = {.ended = {true, true}}, most[HEAD] = {none, none, none}, whole = compare(job, NULL);
+    Pair none = {.ended = {true, true}}, most[HEAD] = {none, none, none, none}, whole = compare(job, NULL);
     differ |= whole.differ;
     newer += whole.newer;
     ended += whole.ended[0];
@@ -498,8 +504,9 @@ static void run_job(Job *job, const char *name)
     write_csv(name, part_names[HEAD], &first);
     write_csv(name, part_names[PAGE], &most[PAGE]);
     write_csv(name, part_names[CHEAPEST], &most[CHEAPEST]);
-    if (most[PRODUCTS].time[0] > 0 || !both_ended(&most[PRODUCTS])) /* few jobs have an N */
-        write_csv(name, part_names[PRODUCTS], &most[PRODUCTS]);
+    for (int part = PRODUCTS; part <= POSSIBLE; part++) /* few jobs have an N or a V */
+        if (most[part].time[0] > 0 || !both_ended(&most[part]))
+            write_csv(name, part_names[part], &most[part]);
 }
 
 /* One run in both engines at the same time; only the answers are looked at. */
@@ -517,7 +524,8 @@ static void run_answers(Job *job, const char *name)
         printf("%s: %s\n", name, p.differ ? "the answers differ" : "it did not end");
 }
 
-/* Both ended, with the same number and the same answers. The offsets are left, since F has more bytes than T. */
+/* Both ended, with the same number and the same answers. The offsets are left, since F has more bytes than T, and G has
+   some. */
 static bool answer_alike(const Run *a, const Run *b)
 {
     return a->ended && b->ended && cover_number(a->outcome) == cover_number(b->outcome) &&
@@ -570,6 +578,38 @@ static void run_product_answers(Job *job, const char *name)
     }
 }
 
+/* Where a page of V takes more than a second where both ends are the weight. */
+static bool is_late(const char *name)
+{
+    static const char *const late[] = {"cheaphard_s1_189", "cheaphard_s1_88", "cyc64_k4_all", "listhard_s1_180",
+                                       "listhard_s1_79"};
+    for (size_t i = 0; i < sizeof late / sizeof *late; i++)
+        if (strcmp(name, late[i]) == 0)
+            return true;
+    return false;
+}
+
+/* The same job with V in the place of its queries, at each kind of ranges. G with the weight at both ends changes no
+   answer. */
+static void run_ranged_answers(Job *job, const char *name)
+{
+    static Job ranged;
+    static Run known;
+    for (RangeMode mode = NO_RANGES; mode < RANGE_MODES; mode++) {
+        int before = same;
+        if (mode <= EQUAL_ENDS && is_late(name))
+            continue;
+        put_ranged(&ranged, job, mode, COVER_MOST_SETS);
+        run_answers(&ranged, name);
+        if (mode == NO_RANGES)
+            known = *shared[0];
+        if (mode != EQUAL_ENDS || answer_alike(shared[0], &known))
+            continue;
+        printf("%s: G with the weight at both ends changes the answer\n", name);
+        same = before;
+    }
+}
+
 static void run_drawn_answers(void)
 {
     static Job job;
@@ -589,6 +629,10 @@ static void run_drawn_answers(void)
         ready_job(&job, seed);
         run_with_blocks(&job, "a drawn job with F", all_and_some, 2);
     }
+    for (uint64_t seed = 1; seed <= RANGED_JOBS; seed++) {
+        ranged_job(&job, seed);
+        run_with_blocks(&job, "a drawn job with G and V", all_and_some, 1);
+    }
 }
 
 static void run_stack(Job *job, const char *name)
@@ -600,6 +644,14 @@ static void run_stack(Job *job, const char *name)
         deepest = use;
         deepest_name = name;
     }
+}
+
+/* With V in the place of its queries: its stack is another one, and few stored jobs have a V. */
+static void run_ranged_stack(Job *job, const char *name)
+{
+    static Job ranged;
+    put_ranged(&ranged, job, HALF_TO_DOUBLE, COVER_MOST_SETS);
+    run_stack(&ranged, name);
 }
 
 /* Jobs of 32,768 bytes of one kind: over eight drawn tables, or over the table of a stored job. */
@@ -681,6 +733,7 @@ static void print_longest(int other)
     print_worst("longest page", &worst[other][PAGE], open_queries[other][PAGE]);
     print_worst("; longest C", &worst[other][CHEAPEST], open_queries[other][CHEAPEST]);
     print_worst("; longest N", &worst[other][PRODUCTS], open_queries[other][PRODUCTS]);
+    print_worst("; longest V", &worst[other][POSSIBLE], open_queries[other][POSSIBLE]);
     printf("\n");
 }
 
@@ -773,6 +826,7 @@ static int compare_all(const char *folder)
     run_folder(folder, run_stored_answers);
     run_folder(folder, run_priced_answers);
     run_folder(folder, run_product_answers);
+    run_folder(folder, run_ranged_answers);
     run_drawn_answers();
     each_long_job(folder, run_long_answers);
     int failed = asked - newer - same;
@@ -789,6 +843,7 @@ static void measure_all(const char *folder)
     print_header();
     run_folder(folder, run_job);
     run_folder(folder, run_stack);
+    run_folder(folder, run_ranged_stack);
     each_long_job(folder, run_long_job);
     print_details();
     print_summary();

@@ -1,5 +1,5 @@
 /*
- * What single commands cost: I, R, B, T, F, A and D of 2, 3 and 8 inputs, in the engine and in the one that it is
+ * What single commands cost: I, R, B, T, F, A, D and G of 2, 3 and 8 inputs, in the engine and in the one that it is
  * compared with; and what a table of 256 rows costs by 256 R and by 32 B.
  *
  *   commands time ROUNDS        nanoseconds, the best of the rounds
@@ -10,7 +10,7 @@
  *
  * The jobs are those of samples.h. A command costs what a job with many of it takes above the one without them, divided
  * by their count; for I the call of the job of I and E is shown. A table of 256 rows is shown whole: the call, I, its
- * rows and E. What one of the two programs refuses is left out: a former library may not know A, D, B or F, and no B
+ * rows and E. What one of the two programs refuses is left out: a former library may not know A, D, B, F or G, and no B
  * fits into 2 inputs.
  */
 #define _GNU_SOURCE
@@ -84,8 +84,8 @@ static double timed(int program, const Sample *s)
 /* What the two programs take for a command, and their ratio. */
 static void print_commands(const char *unit)
 {
-    static const char *const command[KINDS] = {"I and E", "R", "B", "T", "F", "A", "D of A", "D of F"};
-    static const enum kind above[KINDS] = {CALL, CALL, CALL, ROW, ROW, ROW, ADD, BLOCK};
+    static const char *const command[KINDS] = {"I and E", "R", "B", "T", "F", "A", "D of A", "D of F", "G"};
+    static const enum kind above[KINDS] = {CALL, CALL, CALL, ROW, ROW, ROW, ADD, BLOCK, ADD};
     printf("%-12s %6s  %10s  %10s  %6s   %s\n", "command", "inputs", "engine", OTHER, "ratio", unit);
     for (int j = 0; j < FIRST_TABLE; j++) {
         int size = j / KINDS, kind = j % KINDS;

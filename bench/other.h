@@ -31,8 +31,8 @@ static inline uint64_t counted_nodes(void) { return 0; }
 #define OTHER "plain C"
 #define other_job baseline_job
 
-/* The commands of paper 01, of K2, of K3, of K6, of K8 and of K10. */
-static inline bool must_know(uint8_t command) { return command != 0 && strchr("IRTPLCEADBWNF", command) != NULL; }
+/* The commands of paper 01, of K2, of K3, of K6, of K8, of K10 and of K11. */
+static inline bool must_know(uint8_t command) { return command != 0 && strchr("IRTPLCEADBWNFGV", command) != NULL; }
 static inline void clear_nodes(void) { baseline_nodes = (BaselineNodes){0, 0}; }
 static inline uint64_t counted_nodes(void) { return baseline_nodes.pages + baseline_nodes.cheapest; }
 

@@ -6,8 +6,9 @@
 #include "job.h"
 
 /* What a job has between I and E: nothing; a row for each vertex, by R; the same by B; R and a T for each candidate;
-   the same by F and by A; and these two with as many D of the first candidate, so that all others move. */
-enum kind { CALL, ROW, ROWS, TERM, BLOCK, ADD, REMOVE, REMOVE_BLOCK, KINDS };
+   the same by F and by A; these two with as many D of the first candidate, so that all others move; and A with a G for
+   each candidate. */
+enum kind { CALL, ROW, ROWS, TERM, BLOCK, ADD, REMOVE, REMOVE_BLOCK, RANGE, KINDS };
 
 /* How a table of 256 rows is set; in turn: eight R, then a B. */
 enum table { R_IN_ORDER, B_IN_ORDER, R_SHUFFLED, B_SHUFFLED, IN_TURN, TABLES };
@@ -67,6 +68,8 @@ static void put_candidates(Job *job, enum kind kind, unsigned n, unsigned count)
                                  : cover_put_add(job->bytes + job->len, all, v, 1);
     for (unsigned v = 0; (kind == REMOVE || kind == REMOVE_BLOCK) && v < count; v++)
         job->len += cover_put_remove(job->bytes + job->len, 0);
+    for (unsigned v = 0; kind == RANGE && v < count; v++)
+        job->len += cover_put_range(job->bytes + job->len, v, v, COVER_MOST_WEIGHT);
 }
 
 /* As many outputs as inputs; at most 64 candidates. The count of B is 0 where there are fewer than eight vertices. */

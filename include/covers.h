@@ -5,7 +5,7 @@
  * answer buffer, and one number tells how it ended.
  *
  * What is promised
- *   - Every job ends: it is accepted, or it is refused with one of the numbers 1 to 18.
+ *   - Every job ends: it is accepted, or it is refused with one of the numbers 1 to 19.
  *   - Accepted: the number is 0, the offset is the job's length, and each command with an
  *     answer has put it into the answer buffer, in the order of the commands.
  *   - Refused: the offset is that of the first byte of the command that was refused, and
@@ -44,15 +44,19 @@
  *                                          primes or a query
  *   COVER_REMOVE    number                 takes this candidate out, and those above it move down
  *                                          by one; anywhere, as an add
+ *   COVER_RANGE     number, low (2),       the weight of this candidate is known only to lie from
+ *                   high (2)               low to high, 0 to 850; anywhere, as an add
  *   COVER_LIST      start (8 bytes), count (1)
+ *   COVER_POSSIBLE  start (8 bytes), count (1)
  *   COVER_CHEAPEST
  *   COVER_MULTIPLY
  *   COVER_END                              last
- * List, cheapest and multiply are the queries. An operand is one byte unless its width is given.
- * Where nothing else is said, a command may stand anywhere behind COVER_SIZES and before COVER_END.
- * For the places of row, rows and primes a term, block or add counts even if its candidate has
- * been taken out again. A term or block may follow an add or a remove as long as no primes or query
- * came.
+ * List, possible, cheapest and multiply are the queries, and for the places of the other commands a
+ * range counts as a query, too: no prices, row, rows, term, block or primes may follow it. An
+ * operand is one byte unless its width is given. Where nothing else is said, a command may stand
+ * anywhere behind COVER_SIZES and before COVER_END. For the places of row, rows and primes a term,
+ * block or add counts even if its candidate has been taken out again. A term or block may follow an
+ * add or a remove as long as no primes, query or range came.
  *
  * COVER_ROWS equals eight COVER_ROW commands, one by one; both kinds may stand in one job, in any
  * order of the vertices. A vertex above 255 counts as one of 2^n or more and does not wrap, so the
@@ -64,7 +68,13 @@
  * a time, and equal ones are allowed. A candidate is a product term or a block. A block holds cell
  * (v, j) when its bits of vertex v and of output j are set; it may hold no cell at all, and then it
  * is in no irredundant cover. Everything on sets goes by what the candidates hold and cost, so
- * that list, cheapest and multiply take blocks and terms alike; primes are terms.
+ * that list, possible, cheapest and multiply take blocks and terms alike; primes are terms.
+ *
+ * Each candidate has a range, of which COVER_POSSIBLE alone takes notice. Without COVER_RANGE both
+ * ends are the candidate's weight: what a term costs at the prices, and a block its own. A later
+ * range of a candidate replaces its earlier one. An add or a remove leaves the others their ranges,
+ * also those that move down, and both ends of a new candidate are its weight. The weight stays what
+ * it was, and may lie outside the range: the cheapest goes by the weights.
  *
  * The answers, numbers low byte first; the other commands have none:
  *   COVER_PRIMES    0x70, count (1 byte), then care, value and outputs of each prime
@@ -72,6 +82,10 @@
  *                   irredundant covers at or above start, rising, none skipped, at most count.
  *                   `more` tells whether one stands above those. With count 0 there are no
  *                   sets, and `more` tells whether one stands at or above start.
+ *   COVER_POSSIBLE  0x76, and all else as in the answer to COVER_LIST, of another list: the
+ *                   irredundant covers that for at least one choice of whole weights within the
+ *                   ranges cost no more than every other irredundant cover. `more` tells of this
+ *                   list.
  *   COVER_CHEAPEST  0x63, cost (2 bytes), set (8 bytes): the irredundant cover of least cost, the
  *                   smallest number among equals. A term costs the price of a term, plus the price
  *                   of a literal for each of its literals (the ones in care) where it has two or
@@ -84,15 +98,21 @@
  *   COVER_END       0x65
  * Bit i of a set stands for candidate i of those that stand at the command, as the terms, blocks,
  * primes, adds and removes before it leave them. The queries answer as in a fresh job that has the
- * same prices and rows, and these candidates, in this order, as its terms and blocks. The prices are
- * for the cheapest alone: primes, list and multiply answer the same bytes at any prices.
+ * same prices and rows, these candidates, in this order, as its terms and blocks, and then their
+ * ranges. The prices are for the cheapest, and for the ends of the terms that have no COVER_RANGE:
+ * primes, list and multiply answer the same bytes at any prices and ranges.
  *
- * COVER_MULTIPLY is for tables with few wanted cells: its sets are those of the pages joined until
- * no more is reported, in one answer. It takes the wanted cells by vertex, then output, and behind
- * each it has all products: the sets that hold every cell up to there, and of which no smaller part
- * does. With no wanted cell there is one product, 0. It is refused with number 17, after 12 and
- * before 14, where more than 1,024 products remain at some cell, even if few would remain at the
- * last one. Then ask for pages: they have no such limit.
+ * An irredundant cover is possible exactly when, with its members at their low ends and all other
+ * candidates at their high ends, no cover costs less. So there is a possible one wherever there is
+ * a cover; where the two ends of each candidate are equal, the possible ones are all those of least
+ * cost; and with all ranges from 0 to 850 the list is that of COVER_LIST.
+ *
+ * COVER_MULTIPLY is for tables with few wanted cells: its sets are those of the pages by COVER_LIST
+ * joined until no more is reported, in one answer. It takes the wanted cells by vertex, then
+ * output, and behind each it has all products: the sets that hold every cell up to there, and of
+ * which no smaller part does. With no wanted cell there is one product, 0. It is refused with
+ * number 17, after 12 and before 14, where more than 1,024 products remain at some cell, even if
+ * few would remain at the last one. Then ask for pages: they have no such limit.
  *
  * Paging: the first page starts at 0, each further one at one above the last set of the page
  * before; a page without sets leaves the start as it was. No page follows one that says no
@@ -100,8 +120,10 @@
  * table and the same candidates in the same order anew, by the same adds and removes, and goes
  * on. Pages are joined only where the same adds and removes stand before each, in a further job
  * too: behind one more of them the list is another one, and its first page starts at 0. For its
- * pages a further job need not set the prices, and may set others; where it asks for the cheapest
- * it sets them anew.
+ * pages by COVER_LIST a further job need not set the prices and ranges, and may set others; where
+ * it asks for the cheapest it sets the prices anew. Pages by COVER_POSSIBLE are joined by the same
+ * rules, with each other alone, and only where the weights and ranges are the same too: a further
+ * job sets the prices and the ranges anew.
  *
  * A job is put together by the cover_put functions, and its answers are read one by one:
  *
@@ -131,7 +153,7 @@ extern "C" {
 #define COVER_MOST_SETS 255u      /* on one page */
 #define COVER_MOST_PRODUCTS 1024u /* by one multiply */
 #define COVER_MOST_PRICE 50u
-#define COVER_MOST_WEIGHT 850u     /* of a block */
+#define COVER_MOST_WEIGHT 850u     /* of a block, and at an end of a range */
 #define COVER_VERTEX_BYTES 32u     /* of a block */
 
 /* The first byte of each command. */
@@ -145,7 +167,9 @@ enum cover_command {
     COVER_PRIMES = 0x50,   /* P */
     COVER_ADD = 0x41,      /* A */
     COVER_REMOVE = 0x44,   /* D */
+    COVER_RANGE = 0x47,    /* G */
     COVER_LIST = 0x4C,     /* L */
+    COVER_POSSIBLE = 0x56, /* V */
     COVER_CHEAPEST = 0x43, /* C */
     COVER_MULTIPLY = 0x4E, /* N */
     COVER_END = 0x45       /* E */
@@ -161,7 +185,9 @@ enum cover_command {
 #define COVER_PRIMES_BYTES 1u
 #define COVER_ADD_BYTES 4u
 #define COVER_REMOVE_BYTES 2u
+#define COVER_RANGE_BYTES 6u
 #define COVER_LIST_BYTES 10u
+#define COVER_POSSIBLE_BYTES 10u
 #define COVER_CHEAPEST_BYTES 1u
 #define COVER_MULTIPLY_BYTES 1u
 #define COVER_END_BYTES 1u
@@ -170,6 +196,7 @@ enum cover_command {
 enum cover_answer {
     COVER_PRIMES_ANSWER = 0x70,
     COVER_LIST_ANSWER = 0x6C,
+    COVER_POSSIBLE_ANSWER = 0x76,
     COVER_CHEAPEST_ANSWER = 0x63,
     COVER_MULTIPLY_ANSWER = 0x6E,
     COVER_END_ANSWER = 0x65
@@ -178,14 +205,15 @@ enum cover_answer {
 /* The bytes of each answer. */
 #define COVER_PRIMES_ANSWER_BYTES(count) (2u + 3u * (count))
 #define COVER_LIST_ANSWER_BYTES(sets) (3u + 8u * (sets))
+#define COVER_POSSIBLE_ANSWER_BYTES(sets) (3u + 8u * (sets))
 #define COVER_CHEAPEST_ANSWER_BYTES 11u
 #define COVER_MULTIPLY_ANSWER_BYTES(sets) (3u + 8u * (sets))
 #define COVER_END_ANSWER_BYTES 1u
 
 /*
  * How a job ended. At each command the refusals are tried in the order in which they stand here,
- * 15 right after 5, 16 right after 6, 18 right after 9 and 17 right after 12, and the first that
- * applies is given. At COVER_ROWS 7 and 8 are tried row by row: 8 of a row comes before 7 of a
+ * 15 and 19 right after 5, 16 right after 6, 18 right after 9 and 17 right after 12, and the first
+ * that applies is given. At COVER_ROWS 7 and 8 are tried row by row: 8 of a row comes before 7 of a
  * later one. The offset is that of the command, whichever row it was.
  */
 enum cover_refusal {
@@ -195,7 +223,8 @@ enum cover_refusal {
     COVER_NO_COMMAND = 3,         /* the byte is no command */
     COVER_WRONG_PLACE = 4,        /* the command is not allowed at this place */
     COVER_NO_OPERANDS = 5,        /* operand bytes are missing */
-    COVER_WRONG_CANDIDATE = 15,   /* no candidate has the number that is to be removed */
+    COVER_WRONG_CANDIDATE = 15,   /* no candidate has the number, at a remove or a range */
+    COVER_MALFORMED_RANGE = 19,   /* low is above high, or high is above 850 */
     COVER_WRONG_SIZES = 6,        /* n or m is outside 1 to 8 */
     COVER_WRONG_PRICES = 16,      /* a price is above 50 */
     COVER_WRONG_VERTEX = 7,       /* the vertex is 2^n or more, or has a row already */
@@ -212,7 +241,7 @@ enum cover_refusal {
     COVER_NO_ROOM = 14            /* the answer is longer than the free part of the buffer */
 };
 
-#define COVER_LAST_REFUSAL 18u /* the largest number */
+#define COVER_LAST_REFUSAL 19u /* the largest number */
 
 /* Runs a job. Gives number * 2^32 + offset * 2^16 + written. */
 uint64_t cover_job(const uint8_t *job, size_t job_len, uint8_t *answers, size_t answers_len);
@@ -337,12 +366,30 @@ static inline size_t cover_put_remove(uint8_t *at, unsigned number)
     return COVER_REMOVE_BYTES;
 }
 
+/* The range of candidate `number`. */
+static inline size_t cover_put_range(uint8_t *at, unsigned number, unsigned low, unsigned high)
+{
+    at[0] = COVER_RANGE;
+    at[1] = (uint8_t)number;
+    cover_put_number(at + 2, 2, low);
+    cover_put_number(at + 4, 2, high);
+    return COVER_RANGE_BYTES;
+}
+
 static inline size_t cover_put_list(uint8_t *at, uint64_t start, unsigned count)
 {
     at[0] = COVER_LIST;
     cover_put_number(at + 1, 8, start);
     at[9] = (uint8_t)count;
     return COVER_LIST_BYTES;
+}
+
+static inline size_t cover_put_possible(uint8_t *at, uint64_t start, unsigned count)
+{
+    at[0] = COVER_POSSIBLE;
+    cover_put_number(at + 1, 8, start);
+    at[9] = (uint8_t)count;
+    return COVER_POSSIBLE_BYTES;
 }
 
 /* The bytes of the command that begins with this byte, operands included; 0 where none does. */
@@ -358,7 +405,9 @@ static inline size_t cover_command_bytes(uint8_t byte)
     case COVER_PRIMES: return COVER_PRIMES_BYTES;
     case COVER_ADD: return COVER_ADD_BYTES;
     case COVER_REMOVE: return COVER_REMOVE_BYTES;
+    case COVER_RANGE: return COVER_RANGE_BYTES;
     case COVER_LIST: return COVER_LIST_BYTES;
+    case COVER_POSSIBLE: return COVER_POSSIBLE_BYTES;
     case COVER_CHEAPEST: return COVER_CHEAPEST_BYTES;
     case COVER_MULTIPLY: return COVER_MULTIPLY_BYTES;
     case COVER_END: return COVER_END_BYTES;
@@ -377,6 +426,7 @@ static inline size_t cover_answer_bytes(const uint8_t *answer)
     switch (answer[0]) {
     case COVER_PRIMES_ANSWER: return COVER_PRIMES_ANSWER_BYTES((size_t)answer[1]);
     case COVER_LIST_ANSWER: return COVER_LIST_ANSWER_BYTES((size_t)answer[1]);
+    case COVER_POSSIBLE_ANSWER: return COVER_POSSIBLE_ANSWER_BYTES((size_t)answer[1]);
     case COVER_CHEAPEST_ANSWER: return COVER_CHEAPEST_ANSWER_BYTES;
     case COVER_MULTIPLY_ANSWER:
         return COVER_MULTIPLY_ANSWER_BYTES((size_t)cover_get_number(answer + 1, 2));
@@ -396,7 +446,10 @@ static inline const uint8_t *cover_prime(const uint8_t *answer, size_t i)
     return answer + COVER_PRIMES_ANSWER_BYTES(i);
 }
 
-/* A page, the answer to COVER_LIST: how many sets it has, whether more stand above, set i. */
+/*
+ * A page, the answer to COVER_LIST or to COVER_POSSIBLE: how many sets it has, whether more of the
+ * same list stand above, set i.
+ */
 static inline size_t cover_page_sets(const uint8_t *answer)
 {
     return answer[1];

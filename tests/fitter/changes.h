@@ -224,7 +224,9 @@ static void add_letter(struct job *job, char letter)
     case 'F': add_ready(job, 1, vertices, 7); break;
     case 'A': add_late(job, 15, 0, 1); break;
     case 'D': add_remove(job, 0); break;
+    case 'G': add_range(job, 0, 1, 2); break;
     case 'L': add_list(job, 0, 1); break;
+    case 'V': add_possible(job, 0, 1); break;
     default: add(job, (enum cover_command)letter);
     }
 }

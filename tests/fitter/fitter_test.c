@@ -1,7 +1,8 @@
 /*
  * Links the engine as the fitter does and asks it for lists that are known: pages over several
  * jobs and buffers, joined, against the whole list; the marked cases; candidates that come and go;
- * eight rows in a command; prices; the whole list in one answer; ready-made blocks; every refusal once.
+ * eight rows in a command; prices; the whole list in one answer; ready-made blocks; ranges of weights; every refusal
+ * once.
  * Every call lies between guard bytes, and the bytes behind `written` are held to be unchanged.
  */
 #include "changes.h"
@@ -10,6 +11,8 @@
 #include "problems.h"
 #include "product_stand_ins.h"
 #include "products.h"
+#include "range_places.h"
+#include "range_stand_ins.h"
 #include "ready.h"
 #include "ready_stand_ins.h"
 #include "stand_ins.h"
@@ -68,7 +71,9 @@ static void test_widths(void)
     CHECK(cover_put_command(at, COVER_PRIMES) == 1 && cover_command_bytes(at[0]) == 1);
     CHECK(cover_put_add(at, 0, 0, 1) == 4 && cover_command_bytes(at[0]) == 4);
     CHECK(cover_put_remove(at, 0) == 2 && cover_command_bytes(at[0]) == 2);
+    CHECK(cover_put_range(at, 0, 0, 1) == 6 && cover_command_bytes(at[0]) == 6);
     CHECK(cover_put_list(at, 0, 1) == 10 && cover_command_bytes(at[0]) == 10);
+    CHECK(cover_put_possible(at, 0, 1) == 10 && cover_command_bytes(at[0]) == 10);
     CHECK(cover_put_command(at, COVER_CHEAPEST) == 1 && cover_command_bytes(at[0]) == 1);
     CHECK(cover_put_command(at, COVER_MULTIPLY) == 1 && cover_command_bytes(at[0]) == 1);
     CHECK(cover_put_command(at, COVER_END) == 1 && cover_command_bytes(at[0]) == 1);
@@ -105,6 +110,8 @@ static void test_reading(void)
     CHECK(cover_answer_bytes(no_sets) == 3 && cover_page_more(no_sets) == 1 && cover_page_next(no_sets, 7) == 7);
     static const uint8_t dear[] = {0x63, 0, 2, 1, 2, 3, 4, 5, 6, 7, 8};
     CHECK(cover_cheapest_cost(dear) == 512 && cover_cheapest_set(dear) == UINT64_C(0x0807060504030201));
+    static const uint8_t possible[] = {0x76, 0, 1};
+    CHECK(cover_answer_bytes(possible) == 3 && cover_page_more(possible) == 1 && cover_page_next(possible, 7) == 7);
     CHECK(cover_answer_bytes((const uint8_t[]){0x6D, 1, 1}) == 0);
 
     uint64_t outcome = UINT64_C(14) << 32 | UINT64_C(0x8000) << 16 | 0x7FFF;
@@ -389,6 +396,25 @@ static const struct refused refused[] = {
     {COVER_NO_OPERANDS, 4, 11, 11, "I\1\1NL"},
     {COVER_WRONG_CANDIDATE, 4, 11, 11, "I\1\1ND\1E"},
     {COVER_BYTES_AFTER_END, 3, 0, 9, "I\1\1EN"},
+    {COVER_WRONG_PLACE, 0, 0, 9, "G"},
+    {COVER_WRONG_PLACE, 0, 0, 9, "V"},
+    {COVER_NO_OPERANDS, 3, 0, 9, "I\1\1G"},
+    {COVER_NO_OPERANDS, 3, 0, 9, "I\1\1G\1\1\1\1"},
+    {COVER_NO_OPERANDS, 3, 0, 9, "I\1\1V"},
+    {COVER_NO_OPERANDS, 3, 0, 9, "I\1\1V12345678"},
+    {COVER_WRONG_CANDIDATE, 3, 0, 9, "I\1\1G\1\1\1\1\1"},
+    {COVER_WRONG_CANDIDATE, 3, 0, 9, "I\1\1G\1\1\2\1\1E"},
+    {COVER_MALFORMED_RANGE, 15, 0, 9, "I\1\2R\1\1\2T\1\1\1T\1\1\1G\1\1\2\1\1E"},
+    {COVER_MALFORMED_RANGE, 15, 0, 0, "I\1\2R\1\1\2T\1\1\1T\1\1\1G\1\1\1\1\4E"},
+    {COVER_WRONG_CANDIDATE, 15, 0, 9, "I\1\2R\1\1\2T\1\1\1T\1\1\1G\2\1\2\1\1E"},
+    {COVER_NO_END, 21, 0, 9, "I\1\2R\1\1\2T\1\1\1T\1\1\1G\1\1\1\1\1"},
+    {COVER_NO_END, 13, 3, 9, "I\1\1V12345678\1"},
+    {COVER_NO_ROOM, 3, 0, 2, "I\1\1V12345678\1"},
+    {COVER_UNHELD_CELL, 7, 0, 0, "I\1\2R\1\1\2V12345678\1"},
+    {COVER_WRONG_PLACE, 13, 3, 9, "I\1\1V12345678\1T"},
+    {COVER_WRONG_PLACE, 13, 3, 9, "I\1\1V12345678\1W\63"},
+    {COVER_BYTES_AFTER_END, 3, 0, 9, "I\1\1EG"},
+    {COVER_BYTES_AFTER_END, 3, 0, 9, "I\1\1EV"},
 };
 
 static void test_refusals(void)
@@ -496,6 +522,8 @@ int main(void)
     test_product_stand_ins();
     test_ready();
     test_ready_stand_ins();
+    test_ranges();
+    test_range_stand_ins();
     test_fresh();
     test_lengths();
     test_turns();

@@ -93,9 +93,19 @@ static void add_remove(struct job *job, unsigned number)
     cover_put_remove(next_command(job, COVER_REMOVE_BYTES), number);
 }
 
+static void add_range(struct job *job, unsigned number, unsigned low, unsigned high)
+{
+    cover_put_range(next_command(job, COVER_RANGE_BYTES), number, low, high);
+}
+
 static void add_list(struct job *job, uint64_t start, unsigned count)
 {
     cover_put_list(next_command(job, COVER_LIST_BYTES), start, count);
+}
+
+static void add_possible(struct job *job, uint64_t start, unsigned count)
+{
+    cover_put_possible(next_command(job, COVER_POSSIBLE_BYTES), start, count);
 }
 
 /* Calls. */

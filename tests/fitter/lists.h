@@ -19,12 +19,25 @@ struct paging {
     unsigned jobs;
 };
 
+/* What pages are asked by: COVER_LIST, or COVER_POSSIBLE. */
+static enum cover_command paged = COVER_LIST;
+
+static void add_page(struct job *job, uint64_t start, unsigned count)
+{
+    (paged == COVER_LIST ? add_list : add_possible)(job, start, count);
+}
+
+static int is_page(const uint8_t *answer)
+{
+    return answer[0] == (paged == COVER_LIST ? COVER_LIST_ANSWER : COVER_POSSIBLE_ANSWER) && answer[2] <= 1;
+}
+
 /* Joins a page; gives the bytes of it. */
 static size_t join(struct paging *paging, const uint8_t *page, unsigned count)
 {
     size_t sets = cover_page_sets(page);
     uint64_t least = paging->start;
-    CHECK(page[0] == COVER_LIST_ANSWER && page[2] <= 1 && sets <= count);
+    CHECK(is_page(page) && sets <= count);
     for (size_t i = 0; i < sets && paging->joined.count < MOST_LISTED; i++) {
         uint64_t set = cover_page_set(page, i);
         CHECK(set >= least);
@@ -40,8 +53,8 @@ static size_t join(struct paging *paging, const uint8_t *page, unsigned count)
 /* Whether a command has an answer. */
 static int answered(uint8_t command)
 {
-    return command == COVER_PRIMES || command == COVER_LIST || command == COVER_CHEAPEST || command == COVER_MULTIPLY ||
-           command == COVER_END;
+    return command == COVER_PRIMES || command == COVER_LIST || command == COVER_POSSIBLE || command == COVER_CHEAPEST ||
+           command == COVER_MULTIPLY || command == COVER_END;
 }
 
 /* What a job without an end gives where its answers do not all fit: it stops at the first that does not. */
@@ -81,7 +94,7 @@ static unsigned page_job(struct paging *paging, void (*problem)(struct job *), u
     unsigned pages = 0;
     while (paging->more && job.length + COVER_LIST_BYTES <= COVER_MOST_JOB_BYTES) {
         size_t at = job.length;
-        add_list(&job, paging->start, count);
+        add_page(&job, paging->start, count);
         uint64_t outcome = call(&job, room);
         if (cover_number(outcome) == COVER_NO_ROOM) {
             CHECK(is(outcome, COVER_NO_ROOM, at, taken));

@@ -407,7 +407,7 @@ static void test_header_of_blocks(void)
     CHECK(cover_put_block(at, 1, vertices, 65535) == 36 && at[1] == 1 && at[34] == 255 && at[35] == 255);
     CHECK(COVER_BLOCK == 0x46 && COVER_BLOCK_BYTES == 36 && cover_command_bytes(0x46) == 36);
     CHECK(COVER_VERTEX_BYTES == 32);
-    CHECK(COVER_MOST_WEIGHT == 850 && COVER_MALFORMED_BLOCK == 18 && COVER_LAST_REFUSAL == 18);
+    CHECK(COVER_MOST_WEIGHT == 850 && COVER_MALFORMED_BLOCK == 18);
 }
 
 /* Those that ask the engine, and are quick. */

@@ -1,11 +1,12 @@
 //! The record that a job leaves, asked of the program `dump`: its text is the reference's, byte for
 //! byte. What K5 says is asked of the text alone, too: each weight is what K6 charges by the text's
-//! own prices for the care and the outputs beside it. A block has its own weight, up to 850.
+//! own prices for the care and the outputs beside it. A block has its own weight, up to 850. By K11 no
+//! low end is above its high end, and none is above 850.
 
 use crate::charged::charge;
 use crate::generate::{self, Case};
 use crate::reference::{
-    self, Block, Candidate, Outcome, Term, HEAVIEST, HIGHEST, LONGEST, VERTEX_BYTES,
+    self, Block, Candidate, Outcome, Range, Term, HEAVIEST, HIGHEST, LONGEST, VERTEX_BYTES,
 };
 use crate::report::{hex, shrink};
 use crate::rng::Rng;
@@ -38,6 +39,7 @@ pub struct Weights {
 pub struct Weighed {
     pub candidate: Candidate,
     pub weight: u64,
+    pub range: Range,
 }
 
 /// How many records were compared, and how many jobs were too large for the reference.
@@ -144,6 +146,8 @@ fn prices(text: &str) -> Option<[u8; 3]> {
 
 fn weighed(line: &str, prices: [u8; 3]) -> Option<Weighed> {
     let words: Vec<&str> = line.split(' ').collect();
+    let (words, ends) = words.split_at_checked(words.len().checked_sub(4)?)?;
+    let range = range(ends)?;
     let (candidate, weight, right) = match words[..] {
         ["candidate", _, "care", care, "value", value, "outputs", outputs, "weight", weight] => {
             let (term, weight) = (term([care, value, outputs])?, weight.parse().ok()?);
@@ -157,7 +161,19 @@ fn weighed(line: &str, prices: [u8; 3]) -> Option<Weighed> {
         }
         _ => return None,
     };
-    right.then_some(Weighed { candidate, weight })
+    right.then_some(Weighed {
+        candidate,
+        weight,
+        range,
+    })
+}
+
+fn range(words: &[&str]) -> Option<Range> {
+    let ["low", low, "high", high] = words[..] else {
+        return None;
+    };
+    let (low, high) = (low.parse().ok()?, high.parse().ok()?);
+    (low <= high && high <= HEAVIEST).then_some(Range { low, high })
 }
 
 fn byte(word: &str) -> Option<u8> {

@@ -120,10 +120,8 @@ impl Search {
     /// Whether no cover costs less than this one, and none that costs as much has a smaller
     /// number: such a one has the same candidates above some member of the set, and not that one.
     pub fn is_cheapest(&mut self, set: u64) -> Result<bool, GivenUp> {
-        self.work = WORK;
         let cost = self.cost(set);
-        let all = below(self.costs.len());
-        if cost > 0 && self.affordable(0, all, cost - 1)? {
+        if !self.none_cheaper(set)? {
             return Ok(false);
         }
         for i in members(set).rev() {
@@ -133,6 +131,14 @@ impl Search {
             }
         }
         Ok(true)
+    }
+
+    /// Whether no cover costs less than this one.
+    pub fn none_cheaper(&mut self, set: u64) -> Result<bool, GivenUp> {
+        self.work = WORK;
+        let cost = self.cost(set);
+        let all = below(self.costs.len());
+        Ok(cost == 0 || !self.affordable(0, all, cost - 1)?)
     }
 
     /// Whether the open candidates can meet what the taken ones do not, for this much at most.

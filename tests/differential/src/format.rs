@@ -5,15 +5,16 @@
 //! 1. here: an entry in `COMMANDS`, with a kind of operand of its own where none fits, and
 //!    `LAST_NUMBER` where it brings a number;
 //! 2. `reference/job.rs`: where it may stand (`allowed`), what refuses it and what it does
-//!    (`command`), from the paper's text. The table stands still from the first T, A, F, P, L, C or
-//!    N on; the candidates do not, and a command that changes them forgets the covers found so far;
+//!    (`command`), from the paper's text. The table stands still from the first T, A, F, P, L, C,
+//!    N, G or V on; the candidates do not, and a command that changes them forgets the covers found
+//!    so far;
 //! 3. `generate/sound.rs` (settings, candidates), `generate/tables.rs` (rows),
-//!    `generate/changes.rs` (candidates that come and go) or `generate/queries.rs`: where a sound
-//!    job has it;
+//!    `generate/changes.rs` (candidates that come and go), `generate/ranges.rs` (what their weights
+//!    may be) or `generate/queries.rs`: where a sound job has it;
 //! 4. `generate/purpose.rs` (`purpose_changes.rs` for A and D, `purpose_blocks.rs` for B,
-//!    `purpose_prices.rs` for W, `purpose_cubes.rs` for P, `purpose_products.rs` for N and
-//!    `purpose_ready.rs` for F): its borders, in every run; `purpose_order.rs`: jobs whose T
-//!    commands change places; `selftest.rs`: the paper's cases;
+//!    `purpose_prices.rs` for W, `purpose_cubes.rs` for P, `purpose_products.rs` for N,
+//!    `purpose_ready.rs` for F and `purpose_ranges.rs` for G and V): its borders, in every run;
+//!    `purpose_order.rs`: jobs whose T commands change places; `selftest.rs`: the paper's cases;
 //! 5. `fresh.rs`: whether a fresh job with the same table has it, and which pages go on behind it;
 //! 6. `expanded.rs`: what it is written out as, where it stands for other commands as B does;
 //! 7. `walk.rs`: what it makes of prices, table and candidates, and how long its answer is;
@@ -22,7 +23,9 @@
 //! 10. `implicants.rs` and `products.rs`: what its answer is by document 000, and by other commands;
 //! 11. `reordered.rs`: whether it keeps its place where T commands change theirs, what comes of its
 //!     answer there, and which refusal a mere reordering may bring;
-//! 12. `ready.rs`: whether it stays where a block stands in for a term.
+//! 12. `ready.rs`: whether it stays where a block stands in for a term;
+//! 13. `ranged.rs` and `without_ranges.rs`: whether it goes by the ranges, and that all others stay
+//!     without them.
 //!
 //! A stored job that has it needs `stored.rs` too. Every command at every place, damage, cuts and
 //! moved or doubled commands go by the table, and a run fails where a command was never accepted
@@ -34,7 +37,7 @@ use Operand::{Candidate, Inputs, Number, Outputs, Price, Size, Vertices, Weight}
 pub const BLOCK: usize = 8;
 
 /// The largest number of a refusal. Each from 0 on must come in every run.
-pub const LAST_NUMBER: u64 = 18;
+pub const LAST_NUMBER: u64 = 19;
 
 /// What an operand is: how many bytes it has, and what damage puts there (`generate/damage.rs`).
 #[derive(Clone, Copy)]
@@ -51,7 +54,7 @@ pub enum Operand {
     Price,
     /// A bit for each vertex, 32 bytes.
     Vertices,
-    /// The weight of a block, two bytes, 0 to 850.
+    /// The weight of a block, or an end of a range, two bytes, 0 to 850.
     Weight,
     /// A number of so many bytes that takes any value.
     Number(usize),
@@ -74,6 +77,7 @@ pub enum Part {
     Settings,
     Rows,
     Candidates,
+    Ranges,
     Other,
 }
 
@@ -88,7 +92,8 @@ pub struct Command {
     pub refusals: &'static [u64],
 }
 
-/// The seven commands of paper 01, A and D of K2, B of K3, W of K6, N of K8, and F of K10.
+/// The seven commands of paper 01, A and D of K2, B of K3, W of K6, N of K8, F of K10, and G and V of
+/// K11.
 pub const COMMANDS: &[Command] = &[
     Command {
         byte: b'I',
@@ -175,6 +180,20 @@ pub const COMMANDS: &[Command] = &[
         refusals: &[12, 17, 14],
     },
     Command {
+        byte: b'G',
+        good: &[0, 1, 0, 9, 0],
+        operands: &[Candidate, Weight, Weight],
+        part: Part::Ranges,
+        refusals: &[15, 19],
+    },
+    Command {
+        byte: b'V',
+        good: &[0, 0, 0, 0, 0, 0, 0, 0, 1],
+        operands: &[Number(8), Number(1)],
+        part: Part::Other,
+        refusals: &[12, 14],
+    },
+    Command {
         byte: b'E',
         good: &[],
         operands: &[],
@@ -244,6 +263,9 @@ pub fn has(job: &[u8], bytes: &[u8]) -> bool {
     commands.iter().any(|command| bytes.contains(&command[0]))
 }
 
+/// The commands that ask about the covers: each writes an answer and leaves all else but the place.
+pub const QUERIES: &[u8] = b"LCNV";
+
 /// Whether an A or D stands in a list of whole commands.
 pub fn come_and_go(job: &[u8]) -> bool {
     has(job, b"AD")
@@ -257,7 +279,7 @@ pub fn number(bytes: &[u8]) -> u64 {
         .fold(0, |x, &byte| x << 8 | u64::from(byte))
 }
 
-/// The sets in the answer to L or N: both have three bytes before them.
+/// The sets in the answer to L, N or V: all have three bytes before them.
 pub fn sets(answer: &[u8]) -> Vec<u64> {
     answer[3..].chunks(8).map(number).collect()
 }

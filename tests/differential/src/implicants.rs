@@ -1,7 +1,8 @@
-//! What document 000 says of each L, C and N, asked of their answers: 12 is refused where the
+//! What document 000 says of each L, C, N and V, asked of their answers: 12 is refused where the
 //! presence of all candidates is 0, and each set in an answer is a prime implicant of the presence
 //! function. Over few candidates every set is tried: the presence is the cover test of the
-//! reference, a page has the prime implicants and none else, and N has all of them.
+//! reference, a page has the prime implicants and none else, and N has all of them. Which of them V
+//! has is in `ranged.rs`.
 
 use crate::format::{number, sets};
 use crate::reference::{self, Outcome, Presence};
@@ -13,7 +14,7 @@ const FEW: usize = 10;
 /// What a job was held to.
 #[derive(Default)]
 pub struct Held {
-    /// L, C and N commands that 12 does not refuse, and those that it does.
+    /// L, C, N and V commands that 12 does not refuse, and those that it does.
     pub answered: usize,
     pub refused: usize,
     /// The sets in the answers.
@@ -79,7 +80,7 @@ fn sets_are_prime(presence: &Presence, query: &Query, held: &mut Held) -> Result
 
 fn sets_in(query: &Query) -> Vec<u64> {
     match (query.command[0], query.answer) {
-        (b'L' | b'N', Ok(answer)) => sets(answer),
+        (b'L' | b'N' | b'V', Ok(answer)) => sets(answer),
         (_, Ok(answer)) => vec![number(&answer[3..])],
         _ => Vec::new(),
     }

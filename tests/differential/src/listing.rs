@@ -1,6 +1,6 @@
 //! What K6 says of listing, asked of the engine: whatever the prices are, and without W too, a job
 //! comes out the same but for the costs and sets that C answers. By K10 these stay, too, where all
-//! candidates are blocks.
+//! candidates are blocks. V goes by the prices where no G has come, so it is left out of the job.
 
 use crate::engine::{self, Seen};
 use crate::format;
@@ -10,8 +10,8 @@ use crate::report::{hex, matches};
 use crate::rng::Rng;
 use crate::walk;
 
-/// Where a W that is accepted stands: right behind I, as R to N and F may not stand before it and D
-/// has nothing to take out there.
+/// Where a W that is accepted stands: right behind I, as R to N, F and V may not stand before it and D
+/// and G have no candidate there.
 const PLACE: usize = 3;
 const BEHIND: usize = 7;
 
@@ -44,6 +44,14 @@ pub fn check_of(
     if !accepted(&case.job, expected) {
         return Ok(None);
     }
+    if let Some(job) = without_ranged_pages(&case.job, expected) {
+        let expected = reference::run(&job, before).ok_or("no reference without V")?;
+        let without = Case {
+            job,
+            ..case.clone()
+        };
+        return check_of(call, &without, before, &expected);
+    }
     let mut held = lists(&case.job, expected).ok_or("an answer is cut")?;
     for (job, shorter) in other_jobs(&case.job, expected) {
         let other = Case {
@@ -67,6 +75,22 @@ pub fn check_of(
         held.other_cheapest |= wanted.buffer != expected.buffer;
     }
     Ok(Some(held))
+}
+
+/// The job without the V commands that are come to, if there are any.
+fn without_ranged_pages(job: &[u8], outcome: &Outcome) -> Option<Vec<u8>> {
+    let (before, rest) = job.split_at(outcome.offset);
+    let commands = format::cut(before).expect("they were accepted");
+    let at_page = rest.first() == Some(&b'V');
+    if !at_page && commands.iter().all(|command| command[0] != b'V') {
+        return None;
+    }
+    let kept = commands.iter().filter(|command| command[0] != b'V');
+    let mut job: Vec<u8> = kept.copied().flatten().copied().collect();
+    if !at_page {
+        job.extend(rest);
+    }
+    Some(job)
 }
 
 fn accepted(job: &[u8], outcome: &Outcome) -> bool {

@@ -15,6 +15,7 @@ mod generate;
 mod implicants;
 mod listing;
 mod products;
+mod ranged;
 mod ready;
 mod reference;
 mod reordered;
@@ -25,6 +26,7 @@ mod stored;
 mod tally;
 mod threads;
 mod walk;
+mod without_ranges;
 
 use generate::{Case, Ordered};
 use reference::Outcome;
@@ -35,7 +37,7 @@ use std::time::{Duration, Instant};
 use tally::Tally;
 
 const SEED: u64 = 20_240_229;
-const COUNT: usize = 51_700;
+const COUNT: usize = 62_000;
 /// Each case of this stride is asked twice and, with no more room than this, kept for the threads.
 const STRIDE: usize = 50;
 const MOST_ROOM_KEPT: usize = 1_000;
@@ -221,6 +223,7 @@ fn one(run: &mut Run, case: &Case, turn: usize) -> bool {
     run.passed += 1;
     run.tally.add(&case.job, &expected);
     run.tally.add_blocks_met(&case.job, &expected);
+    run.tally.add_ranges_met(&case.job, &expected);
     if !as_promised(run, case, &before, &expected) {
         return false;
     }
@@ -239,7 +242,7 @@ fn one(run: &mut Run, case: &Case, turn: usize) -> bool {
     true
 }
 
-/// What K3, document 000, K6 to K10 say of an outcome on which engine and reference agree.
+/// What K3, document 000, K6 to K11 say of an outcome on which engine and reference agree.
 fn as_promised(run: &mut Run, case: &Case, before: &[u8], expected: &Outcome) -> bool {
     as_by_rows(run, case, before, expected)
         && as_by_points(run, case, before, expected)
@@ -249,6 +252,8 @@ fn as_promised(run: &mut Run, case: &Case, before: &[u8], expected: &Outcome) ->
         && as_by_pages(run, case, before, expected)
         && as_in_another_order(run, case, before, expected)
         && as_by_blocks(run, case, before, expected)
+        && as_by_ranges(run, case, before, expected)
+        && as_without_ranges(run, case, before, expected)
 }
 
 /// False when the engine does not keep what K3 promises of a job with B.
@@ -369,6 +374,38 @@ fn as_by_blocks(run: &mut Run, case: &Case, before: &[u8], expected: &Outcome) -
             println!("MISMATCH: {wrong}");
             report_wrong(case, before, |case, outcome| {
                 ready::check(case, before, outcome).is_err()
+            });
+            return false;
+        }
+    }
+    true
+}
+
+/// False when the answers to V are not what K11 says.
+fn as_by_ranges(run: &mut Run, case: &Case, before: &[u8], expected: &Outcome) -> bool {
+    match ranged::check(&case.job, expected) {
+        Ok(held) => run.tally.add_ranged(&held),
+        Err(wrong) => {
+            println!("MISMATCH: {wrong}");
+            report_wrong(case, before, |case, outcome| {
+                ranged::check(&case.job, outcome).is_err()
+            });
+            return false;
+        }
+    }
+    true
+}
+
+/// False when a job does not answer the other commands as it does without G and V.
+fn as_without_ranges(run: &mut Run, case: &Case, before: &[u8], expected: &Outcome) -> bool {
+    match without_ranges::check(case, before, expected) {
+        Ok(held) => held
+            .iter()
+            .for_each(|held| run.tally.add_without_ranges(held)),
+        Err(wrong) => {
+            println!("MISMATCH: {wrong}");
+            report_wrong(case, before, |case, outcome| {
+                without_ranges::check(case, before, outcome).is_err()
             });
             return false;
         }

@@ -131,7 +131,8 @@ fn in_further_jobs(
                 }
                 asked = true;
             }
-            b'L' | b'C' => {}
+            // They leave the candidates as they are.
+            b'L' | b'C' | b'V' | b'G' => {}
             _ => asked = false,
         }
         at += command.len();
@@ -153,7 +154,7 @@ fn in_a_further_job(
         return Err("N has no product".into());
     }
     let count = list.len().div_ceil(3).clamp(1, 255);
-    let mut job = kept(head, |byte| !b"LCN".contains(&byte));
+    let mut job = kept(head, |byte| !format::QUERIES.contains(&byte));
     let mut due = primes.to_vec();
     let mut start = 0;
     for (i, part) in list.chunks(count).enumerate() {

@@ -237,9 +237,13 @@ fn ask(call: Call, job: &[u8], room: usize) -> Result<Outcome, String> {
 /// A job that is accepted in one order can only be refused with 14 in another. Each term is legal or
 /// not by itself, as many stand, and all T commands stand before the first query, so that 12 goes by
 /// the same terms and 17 by as many products at each cell. But a page from a start above 0 has the
-/// sets with high numbers, which may be more, and leaves less of the buffer to what is behind it.
+/// sets with high numbers, which may be more, and leaves less of the buffer to what is behind it; and
+/// so may a V, as a G gives the range to another candidate there.
 pub fn may_refuse(job: &[u8], outcome: &Outcome) -> bool {
-    let from_above = |command: &&[u8]| command[0] == b'L' && number(&command[1..9]) > 0;
+    let from_above = |command: &&[u8]| match command[0] {
+        b'L' => number(&command[1..9]) > 0,
+        byte => byte == b'V',
+    };
     let commands = cut(job).unwrap_or_default();
     let mut at = 0;
     let read = commands.iter().take_while(|command| {

@@ -75,7 +75,7 @@ pub fn report_blocks(case: &Case, before: &[u8]) {
     }
 }
 
-/// An outcome on which both agree is not what document 000 or K6 to K10 say: the job, also shrunk.
+/// An outcome on which both agree is not what document 000 or K6 to K11 say: the job, also shrunk.
 pub fn report_wrong(case: &Case, before: &[u8], wrong: impl Fn(&Case, &Outcome) -> bool) {
     describe("MISMATCH", case, before);
     let still = |case: &Case| agreed(case, before).is_some_and(|outcome| wrong(case, &outcome));

@@ -8,6 +8,7 @@ mod order;
 mod presence;
 mod prices;
 mod products;
+mod ranges;
 mod ready;
 mod records;
 
@@ -181,6 +182,7 @@ pub fn run(rng: &mut Rng) -> Checks {
     cubes::run(&mut checks, rng);
     products::run(&mut checks, rng);
     ready::run(&mut checks, rng);
+    ranges::run(&mut checks, rng);
     order::run(&mut checks, rng);
     drawn::run(&mut checks, rng);
     checks

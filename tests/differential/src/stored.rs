@@ -3,6 +3,7 @@
 //! Every answer is held to the definitions as far as that can be done without a search: each set
 //! is an irredundant cover, sets rise from the start, the cost is that of the set. That no set
 //! is left out and none is cheaper needs a search; where it is given up the job is checked in part.
+//! Which covers V has is in `stored/ranges.rs`.
 //! Every job is held to document 000, too, and each of its tables is asked by N, which the reference
 //! does in full.
 //! A job that is checked fully is asked again with each candidate taken out and put in again, with
@@ -10,20 +11,25 @@
 //! checked anew. Where candidates come and go between its queries, those that follow each other are
 //! checked by themselves.
 
+mod answers;
 mod heads;
 mod prices;
 mod products;
+mod ranges;
 
 use crate::engine;
-use crate::exact::{GivenUp, Search};
-use crate::format::{self, number, sets};
+use crate::exact::Search;
+use crate::format::{self, number};
 use crate::generate::page;
 use crate::implicants;
-use crate::reference::{self, Block, Candidate, Outcome, Prices, Products, Table, Term, LONGEST};
+use crate::ranged;
+use crate::reference::{self, Block, Candidate, Outcome, Prices, Range, Table, Term, LONGEST};
 use crate::threads;
+use answers::{check_cheapest, check_page, check_products};
 use heads::{by_blocks, by_rows, turned};
 use prices::{at_prices, Cheapest, PRICES};
 use products::{multiplied, Multiplied};
+use ranges::check_ranged_page;
 use std::fs;
 use std::path::{Path, PathBuf};
 
@@ -72,6 +78,9 @@ struct Problem {
     /// The commands of the head that set the candidates.
     setting: Vec<u8>,
     candidates: Vec<Candidate>,
+    /// What each weight may be, and whether a G stands in the head.
+    ranges: Vec<Range>,
+    ranged: bool,
     sums: Vec<u64>,
     costs: Vec<u64>,
 }
@@ -81,8 +90,8 @@ pub fn run() -> Result<Tally, String> {
     tally(threads::each(&paths()?, |path| one(path)))
 }
 
-/// Every job of the folder without its L, C and N commands, which take time and leave table and
-/// candidates as they are.
+/// Every job of the folder without its L, C, N and V commands, which take time and leave table,
+/// candidates and ranges as they are.
 pub fn without_queries() -> Result<Vec<Vec<u8>>, String> {
     paths()?.iter().map(|path| quiet(path)).collect()
 }
@@ -93,7 +102,7 @@ fn quiet(path: &Path) -> Result<Vec<u8>, String> {
     let commands = format::cut(&job).ok_or_else(|| wrong("it is not a list of whole commands"))?;
     let kept = commands
         .iter()
-        .filter(|command| !b"LCN".contains(&command[0]));
+        .filter(|command| !format::QUERIES.contains(&command[0]));
     Ok(kept.copied().collect::<Vec<_>>().concat())
 }
 
@@ -176,7 +185,9 @@ fn check(job: &[u8]) -> Result<Checked, String> {
     if !written.ends_with(&answers) {
         return Err("queries answer otherwise than without those before them".into());
     }
-    implicants::check(job, &Outcome::accepted(job, written))?;
+    let outcome = Outcome::accepted(job, written);
+    implicants::check(job, &outcome)?;
+    ranged::check(job, &outcome)?;
     Ok(checked)
 }
 
@@ -185,7 +196,7 @@ fn asked_in<'a>(commands: &[&'a [u8]]) -> Vec<Asked<'a>> {
     let mut head = Vec::new();
     let mut goes_on = false;
     for &command in commands {
-        let is_query = matches!(command[0], b'L' | b'C' | b'N');
+        let is_query = format::QUERIES.contains(&command[0]);
         match list.last_mut() {
             Some(asked) if is_query && goes_on => asked.queries.push(command),
             _ if is_query => list.push(Asked {
@@ -229,13 +240,15 @@ fn check_asked(
     Ok(())
 }
 
-/// Prices, table and standing candidates by the paper.
+/// Prices, table, standing candidates and ranges by the paper.
 fn problem(head: &[&[u8]]) -> Result<Problem, String> {
     let Some([b'I', n, m]) = head.first() else {
         return Err("it does not begin with I".into());
     };
     let mut table = Table::new(usize::from(*n), usize::from(*m));
     let mut candidates = Vec::new();
+    // What G has set for each.
+    let mut set: Vec<Option<Range>> = Vec::new();
     let mut prices = Prices::USUAL;
     for command in &head[1..] {
         match **command {
@@ -250,10 +263,18 @@ fn problem(head: &[&[u8]]) -> Result<Problem, String> {
             [b'P'] => candidates = reference::of_terms(&table.primes()),
             [b'D', k] if usize::from(k) < candidates.len() => {
                 candidates.remove(usize::from(k));
+                set.remove(usize::from(k));
+            }
+            [b'G', k, ref ends @ ..] if usize::from(k) < candidates.len() => {
+                set[usize::from(k)] = Some(Range::of(ends));
             }
             _ => return Err("a command before the queries has no meaning here".into()),
         }
+        // Nothing else stands before the primes, and others come at the end.
+        set.resize(candidates.len(), None);
     }
+    let own = |c: &Candidate| Range::at(prices.cost_of(c));
+    let both = candidates.iter().zip(&set);
     let of_head = |keep: &dyn Fn(u8) -> bool| {
         let kept = head.iter().filter(|command| keep(command[0]));
         kept.copied().collect::<Vec<_>>().concat()
@@ -264,6 +285,8 @@ fn problem(head: &[&[u8]]) -> Result<Problem, String> {
         setting: of_head(&|byte| !b"IWRB".contains(&byte)),
         sums: reference::sums(&table, &candidates),
         costs: candidates.iter().map(|c| prices.cost_of(c)).collect(),
+        ranges: both.map(|(c, set)| set.unwrap_or(own(c))).collect(),
+        ranged: head.iter().any(|command| command[0] == b'G'),
         candidates,
         prices,
         table,
@@ -295,7 +318,7 @@ fn ask(head: &[u8], queries: &[&[u8]]) -> Result<Vec<Query>, String> {
     let mut list = Vec::new();
     for command in queries {
         let len = match (command[0], rest) {
-            (b'L', [0x6c, k, ..]) => 3 + 8 * usize::from(*k),
+            (b'L', [0x6c, k, ..]) | (b'V', [0x76, k, ..]) => 3 + 8 * usize::from(*k),
             (b'C', [0x63, ..]) => 11,
             (b'N', [0x6e, low, high, ..]) => 3 + 8 * number(&[*low, *high]) as usize,
             _ => return Err("an answer begins with another byte".into()),
@@ -317,6 +340,7 @@ fn check_query(problem: &Problem, search: &mut Search, query: &Query) -> Result<
     match query.command[0] {
         b'C' => return check_cheapest(problem, search, &query.answer),
         b'N' => return check_products(problem, &query.answer),
+        b'V' => return check_ranged_page(problem, search, query),
         _ => {}
     }
     let start = number(&query.command[1..9]);
@@ -329,62 +353,4 @@ fn check_query(problem: &Problem, search: &mut Search, query: &Query) -> Result<
         return Err("a page with a lower count has other sets".into());
     }
     Ok(check_page(problem, search, &few)?.min(Depth::FewSets))
-}
-
-fn check_page(problem: &Problem, search: &mut Search, query: &Query) -> Result<Depth, String> {
-    let (start, count) = (number(&query.command[1..9]), query.command[9]);
-    let (sets, more) = (sets(&query.answer), query.answer[2]);
-    let rising = sets.windows(2).all(|two| two[0] < two[1]);
-    if !rising || sets.first().is_some_and(|&set| set < start) {
-        return Err("the sets do not rise from the start".into());
-    }
-    if let Some(set) = sets.iter().find(|&&set| !irredundant(problem, set)) {
-        return Err(format!("set {set} is no irredundant cover"));
-    }
-    let full = sets.len() == usize::from(count);
-    if sets.len() > usize::from(count) || more > 1 || (more == 1 && !full) {
-        return Err("the page has too many or too few sets".into());
-    }
-    match search.covers_from(start, usize::from(count) + 1) {
-        Err(GivenUp) => Ok(Depth::Part),
-        Ok(found) => {
-            let above = found.len() > usize::from(count);
-            let expected = &found[..found.len().min(usize::from(count))];
-            if sets != expected || above != (more == 1) {
-                return Err(format!("the page from {start} on is not the search's"));
-            }
-            Ok(Depth::Full)
-        }
-    }
-}
-
-fn check_cheapest(problem: &Problem, search: &mut Search, answer: &[u8]) -> Result<Depth, String> {
-    let (cost, set) = (number(&answer[1..3]), number(&answer[3..]));
-    if !irredundant(problem, set) {
-        return Err(format!("the cheapest, {set}, is no irredundant cover"));
-    }
-    if cost != reference::cost(problem.prices, &problem.candidates, set) {
-        return Err(format!("the cheapest does not cost {cost}"));
-    }
-    match search.is_cheapest(set) {
-        Err(GivenUp) => Ok(Depth::Part),
-        Ok(true) => Ok(Depth::Full),
-        Ok(false) => Err("another cover is cheaper or comes first".into()),
-    }
-}
-
-/// No search is needed: the reference multiplies, too.
-fn check_products(problem: &Problem, answer: &[u8]) -> Result<Depth, String> {
-    match reference::products(&problem.table, &problem.candidates) {
-        Products::All(list) if list == sets(answer) => Ok(Depth::Full),
-        _ => Err("the products are not the reference's".into()),
-    }
-}
-
-/// Each wanted cell is held by a member, and each member alone holds some wanted cell.
-fn irredundant(problem: &Problem, set: u64) -> bool {
-    let known = problem.candidates.len() == 64 || set >> problem.candidates.len() == 0;
-    let held: Vec<u64> = problem.sums.iter().map(|sum| sum & set).collect();
-    let needed = |i: u32| held.contains(&(1 << i));
-    known && !held.contains(&0) && (0..64).all(|i| set >> i & 1 == 0 || needed(i))
 }

@@ -1,9 +1,9 @@
 //! What a run has met: how often each number came, what became of each command, what was held to
-//! the promises of K2, K3, K6 to K10 and to document 000, what the records showed, and, at each C
+//! the promises of K2, K3, K6 to K11 and to document 000, what the records showed, and, at each C
 //! of the drawn jobs, how often K1 and the prices changed cost or set of the cheapest and how often
 //! the cost was held to the rival's. A run fails where one of these never came. The jobs made on
 //! purpose do not count for L and C, nor for the rows of B and for W: the marked cases and each row
-//! are among them, so that no count could stay at 0. For P, N and F they are counted apart.
+//! are among them, so that no count could stay at 0. For P, N, F, G and V they are counted apart.
 
 mod blocks;
 mod cubes;
@@ -11,6 +11,7 @@ mod order;
 mod presence;
 mod prices;
 mod products;
+mod ranges;
 mod ready;
 mod records;
 
@@ -23,16 +24,19 @@ use crate::fresh::Held;
 use crate::implicants;
 use crate::listing;
 use crate::products::Held as HeldProducts;
+use crate::ranged::Held as HeldRanges;
 use crate::ready::Held as HeldBlocks;
 use crate::reference::{self, Asked, Candidate, Covers, Outcome, Prices, Query};
 use crate::reordered;
 use crate::report::hex;
+use crate::without_ranges;
 use blocks::Blocks;
 use cubes::Primes;
 use order::Orders;
 use presence::Presences;
 use prices::Priced;
 use products::Multiplied;
+use ranges::Ranges;
 use ready::Ready;
 use records::Records;
 use std::collections::BTreeMap;
@@ -53,6 +57,7 @@ pub struct Tally {
     multiplied: Multiplied,
     orders: Orders,
     ready: Ready,
+    ranges: Ranges,
 }
 
 /// The accepted drawn jobs whose candidates come and go.
@@ -95,6 +100,7 @@ impl Tally {
             multiplied: Multiplied::default(),
             orders: Orders::default(),
             ready: Ready::default(),
+            ranges: Ranges::default(),
         }
     }
 
@@ -157,6 +163,21 @@ impl Tally {
         self.ready.add(job, outcome, self.drawn);
     }
 
+    /// The same of G and V.
+    pub fn add_ranges_met(&mut self, job: &[u8], outcome: &Outcome) {
+        self.ranges.add(job, outcome, self.drawn);
+    }
+
+    /// A job whose V commands were held to every cover.
+    pub fn add_ranged(&mut self, held: &HeldRanges) {
+        self.ranges.add_held(held, self.drawn);
+    }
+
+    /// A job that was held to the one without G and V.
+    pub fn add_without_ranges(&mut self, held: &without_ranges::Held) {
+        self.ranges.add_without(held, self.drawn);
+    }
+
     /// A job that was held to the one with blocks for terms.
     pub fn add_ready(&mut self, held: &HeldBlocks) {
         self.ready.add_held(held, self.drawn);
@@ -172,6 +193,7 @@ impl Tally {
 
     pub fn add_held(&mut self, held: &Held) {
         self.ready.add_fresh(held, self.drawn);
+        self.ranges.add_fresh(held, self.drawn);
         if self.drawn {
             self.changes.held.queries += held.queries;
             self.changes.held.lists += held.lists;
@@ -218,6 +240,7 @@ impl Tally {
     pub fn add_record(&mut self, job: &[u8], held: &dump::Held, drawn: bool) {
         self.records.add(held);
         self.ready.add_record(job, held, drawn);
+        self.ranges.add_record(job, held, drawn);
         if drawn {
             self.records.add_drawn(job, held);
         }
@@ -242,6 +265,7 @@ impl Tally {
         self.multiplied.print();
         self.orders.print();
         self.ready.print();
+        self.ranges.print();
     }
 
     /// What should have come and did not, and what came that the table of commands does not name.
@@ -274,6 +298,7 @@ impl Tally {
         list.extend(self.multiplied.complaints());
         list.extend(self.orders.complaints());
         list.extend(self.ready.complaints());
+        list.extend(self.ranges.complaints());
         list
     }
 }

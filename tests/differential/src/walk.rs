@@ -1,26 +1,33 @@
-//! A job walked along with its outcome: which prices and candidates stand at its L, C and N
+//! A job walked along with its outcome: which prices, candidates and ranges stand at its L, C, N and V
 //! commands, and what became of these; and the table at its P. It goes by what was answered and
 //! refused, and leaves the reference aside.
 
+use crate::charged::charge;
 use crate::format::{self, number};
 use crate::reference::{Block, Candidate, Outcome, Table, Term, VERTEX_BYTES};
 
-/// An L, C or N with its answer or the number of its refusal.
+/// An L, C, N or V with its answer or the number of its refusal.
 pub struct Query<'a> {
     pub command: &'a [u8],
     pub answer: Result<&'a [u8], u64>,
 }
 
-/// Prices, table and candidates, and the L, C and N commands that met them, one behind the other.
+/// Prices, table, candidates and ranges, and the L, C, N and V commands that met them, one behind the
+/// other.
 pub struct Standing<'a> {
     /// W's operands, or what stands for them where there is no W.
     pub prices: [u8; 3],
     pub table: Table,
     pub candidates: Vec<Candidate>,
+    /// The low and the high end of each candidate's weight.
+    pub ranges: Vec<Ends>,
     pub queries: Vec<Query<'a>>,
 }
 
-/// The L, C and N commands that were answered, and the one that was refused with 12 or, what is
+/// Low, then high.
+pub type Ends = [u64; 2];
+
+/// The L, C, N and V commands that were answered, and the one that was refused with 12 or, what is
 /// tried behind it, with 17 or 14. None where the answers are not as long as the commands need.
 pub fn walk<'a>(job: &'a [u8], outcome: &'a Outcome) -> Option<Vec<Standing<'a>>> {
     let (before, command) = job.split_at(outcome.offset);
@@ -64,7 +71,9 @@ pub fn primes<'a>(job: &[u8], outcome: &'a Outcome) -> Option<(Table, Result<&'a
 }
 
 fn is_query(command: &[u8]) -> bool {
-    matches!(command, [b'L' | b'C' | b'N', ..])
+    command
+        .first()
+        .is_some_and(|byte| format::QUERIES.contains(byte))
 }
 
 /// How long the answer to a command is, at the head of the answers from there on.
@@ -72,7 +81,7 @@ pub fn width(byte: u8, answers: &[u8]) -> Option<usize> {
     let count = || answers.get(1).map(|&count| usize::from(count));
     match byte {
         b'P' => count().map(|count| 2 + 3 * count),
-        b'L' => count().map(|count| 3 + 8 * count),
+        b'L' | b'V' => count().map(|count| 3 + 8 * count),
         b'C' => Some(11),
         b'N' => answers.get(1..3).map(|two| 3 + 8 * number(two) as usize),
         b'E' => Some(1),
@@ -102,6 +111,7 @@ impl<'a> Standing<'a> {
             prices: [1, 1, 0],
             table: Table::new(0, 0),
             candidates: Vec::new(),
+            ranges: Vec::new(),
             queries: Vec::new(),
         }
     }
@@ -113,11 +123,12 @@ impl<'a> Standing<'a> {
             prices: self.prices,
             table: self.table.clone(),
             candidates: self.candidates.clone(),
+            ranges: self.ranges.clone(),
             queries,
         })
     }
 
-    /// What an accepted command makes of prices, table and candidates. The primes are those
+    /// What an accepted command makes of prices, table, candidates and ranges. The primes are those
     /// answered.
     fn set(&mut self, command: &[u8], answer: &[u8]) {
         let ops = &command[1..];
@@ -125,14 +136,26 @@ impl<'a> Standing<'a> {
             b'I' => self.table = Table::new(usize::from(ops[0]), usize::from(ops[1])),
             b'W' => self.prices = [ops[0], ops[1], ops[2]],
             b'R' | b'B' => self.set_rows(ops),
-            b'T' | b'A' => self.candidates.push(term(ops)),
-            b'F' => self.candidates.push(block(ops)),
+            b'T' | b'A' => self.put_in(term(ops)),
+            b'F' => self.put_in(block(ops)),
             b'D' => {
                 self.candidates.remove(usize::from(ops[0]));
+                self.ranges.remove(usize::from(ops[0]));
             }
-            b'P' => self.candidates = answer[2..].chunks(3).map(term).collect(),
+            b'P' => answer[2..].chunks(3).for_each(|t| self.put_in(term(t))),
+            b'G' => self.ranges[usize::from(ops[0])] = [number(&ops[1..3]), number(&ops[3..5])],
             _ => {}
         }
+    }
+
+    /// A new candidate has both ends equal to its weight. No other stands before the primes.
+    fn put_in(&mut self, candidate: Candidate) {
+        let weight = match &candidate {
+            Candidate::Term(t) => charge(self.prices, t),
+            Candidate::Block(b) => b.weight.into(),
+        };
+        self.candidates.push(candidate);
+        self.ranges.push([weight, weight]);
     }
 
     fn set_rows(&mut self, ops: &[u8]) {

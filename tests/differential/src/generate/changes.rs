@@ -1,16 +1,19 @@
 //! Candidates that come and go: terms by T or A, blocks by F, primes by P, and what A and D make of
-//! them.
+//! them, and of their ranges.
 
 use super::draft::{come, go, put};
+use super::ranges::drawn_ranges;
 use super::ready::any_block;
 use super::tables::{cells_to_hold, grow, MOST_TERMS};
-use crate::reference::{of_terms, Candidate, Table, MOST_CANDIDATES};
+use crate::reference::{of_terms, Candidate, Prices, Range, Table, MOST_CANDIDATES};
 use crate::rng::Rng;
 
 /// The candidates that stand behind the commands so far.
 pub struct Candidates<'a> {
     table: &'a Table,
     pub standing: Vec<Candidate>,
+    /// For each of them what G has set, if it came.
+    ranges: Vec<Option<Range>>,
     /// What D has taken out.
     gone: Vec<Candidate>,
     /// Whether a T or F may still come.
@@ -25,6 +28,7 @@ impl<'a> Candidates<'a> {
         Candidates {
             table,
             standing: Vec::new(),
+            ranges: Vec::new(),
             gone: Vec::new(),
             open: true,
             blocks: false,
@@ -37,6 +41,7 @@ impl<'a> Candidates<'a> {
         let mut candidates = Candidates::none(table);
         candidates.commands = list.iter().map(put).collect();
         candidates.standing = list.to_vec();
+        candidates.ranges = vec![None; list.len()];
         candidates
     }
 
@@ -60,6 +65,7 @@ impl<'a> Candidates<'a> {
         let primes = table.primes();
         if primes.len() <= MOST_CANDIDATES {
             candidates.standing = of_terms(&primes);
+            candidates.ranges = vec![None; primes.len()];
         }
         candidates.open = false;
         candidates.commands.push(vec![b'P']);
@@ -71,6 +77,25 @@ impl<'a> Candidates<'a> {
     pub fn commands(&mut self) -> Vec<Vec<u8>> {
         self.open = false;
         std::mem::take(&mut self.commands)
+    }
+
+    /// The ranges of the standing candidates at these prices.
+    pub fn ranges(&self, prices: Prices) -> Vec<Range> {
+        let own = |c: &Candidate| Range::at(prices.cost_of(c));
+        let both = self.standing.iter().zip(&self.ranges);
+        both.map(|(c, set)| set.unwrap_or(own(c))).collect()
+    }
+
+    /// G commands for some of the standing candidates.
+    pub fn draw_ranges(&mut self, rng: &mut Rng, prices: Prices) -> Vec<Vec<u8>> {
+        let weights: Vec<u64> = self.standing.iter().map(|c| prices.cost_of(c)).collect();
+        let mut ranges = self.ranges(prices);
+        let commands = drawn_ranges(rng, &mut ranges, &weights);
+        for command in &commands {
+            let number = usize::from(command[1]);
+            self.ranges[number] = Some(ranges[number]);
+        }
+        commands
     }
 
     /// Some changes. Each wanted cell is held again behind them, as a rule.
@@ -124,6 +149,7 @@ impl<'a> Candidates<'a> {
         };
         self.commands.push(command);
         self.standing.push(candidate);
+        self.ranges.push(None);
         true
     }
 
@@ -159,6 +185,7 @@ impl<'a> Candidates<'a> {
 
     fn take_out(&mut self, number: usize) -> Candidate {
         let candidate = self.standing.remove(number);
+        self.ranges.remove(number);
         self.commands.push(go(number as u8));
         self.gone.push(candidate);
         candidate

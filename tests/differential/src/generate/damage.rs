@@ -1,5 +1,5 @@
 //! Damaged jobs: commands moved, doubled, dropped or spoilt, vertices taken before their row, blocks
-//! spoilt in one operand, bytes changed, put in or cut off.
+//! and ranges spoilt in one operand, bytes changed, put in or cut off.
 
 use super::bytes::{full, likely_byte, likely_bytes};
 use super::draft::{case, plain_case, row, Draft};
@@ -163,6 +163,24 @@ fn damage_block(rng: &mut Rng, draft: &mut Draft) {
     }
 }
 
+/// A G is spoilt: another number, both ends exchanged, one above 850, or any operand.
+fn damage_range(rng: &mut Rng, draft: &mut Draft) {
+    let places = draft.places(Part::Ranges);
+    if places.is_empty() {
+        return;
+    }
+    let place = rng.pick(&places);
+    let ops = &mut draft.commands[place][1..];
+    match rng.below(6) {
+        0 => ops[0] = ops[0].wrapping_add(1 + rng.below(MOST_TERMS) as u8),
+        1 => ops[1..].rotate_left(2),
+        2 => ops[1..].reverse(),
+        3 => ops[3..].copy_from_slice(&wild_weight(rng).to_le_bytes()),
+        4 => ops[1..3].copy_from_slice(&wild_weight(rng).to_le_bytes()),
+        _ => spoil(rng, draft, Part::Ranges),
+    }
+}
+
 /// One change in the list of commands.
 fn damage_commands(rng: &mut Rng, draft: &mut Draft) {
     let count = draft.commands.len();
@@ -170,7 +188,7 @@ fn damage_commands(rng: &mut Rng, draft: &mut Draft) {
         return;
     }
     let place = rng.below(count);
-    match rng.below(13) {
+    match rng.below(15) {
         0 => {
             draft.commands.remove(place);
         }
@@ -193,6 +211,7 @@ fn damage_commands(rng: &mut Rng, draft: &mut Draft) {
         8 => take_vertex(rng, draft),
         9 => damage_settings(rng, draft),
         10 | 11 => damage_block(rng, draft),
+        12 | 13 => damage_range(rng, draft),
         _ => rng.shuffle(&mut draft.commands),
     }
 }

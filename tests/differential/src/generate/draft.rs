@@ -3,7 +3,7 @@
 use super::bytes::likely_bytes;
 use super::Case;
 use crate::format::{find, Part, BLOCK};
-use crate::reference::{self, Block, Candidate, LONGEST};
+use crate::reference::{self, Block, Candidate, Range, LONGEST};
 use crate::rng::Rng;
 
 /// A job as a list of commands, so that commands can be moved as a whole.
@@ -93,6 +93,21 @@ pub fn page(start: u64, count: u8) -> Vec<u8> {
     let mut command = vec![b'L'];
     command.extend(start.to_le_bytes());
     command.push(count);
+    command
+}
+
+/// G: what the weight of the candidate with this number may be.
+pub fn range(number: u8, Range { low, high }: Range) -> Vec<u8> {
+    let mut command = vec![b'G', number];
+    command.extend(low.to_le_bytes());
+    command.extend(high.to_le_bytes());
+    command
+}
+
+/// V: a page of the covers that may be the cheapest.
+pub fn ranged_page(start: u64, count: u8) -> Vec<u8> {
+    let mut command = page(start, count);
+    command[0] = b'V';
     command
 }
 

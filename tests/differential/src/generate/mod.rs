@@ -16,15 +16,19 @@ mod purpose_cubes;
 mod purpose_order;
 mod purpose_prices;
 mod purpose_products;
+mod purpose_ranges;
 mod purpose_ready;
 mod queries;
+mod ranges;
 mod ready;
 mod records;
 mod sound;
 mod sweeps;
 mod tables;
 
-pub use draft::{block, come, draft, go, page, prices, put, ready, row, term, Draft, Pairs};
+pub use draft::{
+    block, come, draft, go, page, prices, put, range, ranged_page, ready, row, term, Draft, Pairs,
+};
 pub use order::{drawn_order, every, exchanged, reversed, rotated, sorted, terms_of, Order};
 pub use prices::{drawn_prices, other_prices};
 pub use products::{drawn_plan, Plan};
@@ -33,6 +37,7 @@ pub use purpose_cubes::{cubes_on_purpose, two_corners};
 pub use purpose_order::{orders_on_purpose, Ordered};
 pub use purpose_prices::prices_on_purpose;
 pub use purpose_products::{by_orders, counted, products_on_purpose};
+pub use purpose_ranges::ranges_on_purpose;
 pub use purpose_ready::ready_on_purpose;
 pub use ready::{mixed, of_cube};
 pub use records::{records_drawn, records_on_purpose};

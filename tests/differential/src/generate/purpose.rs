@@ -7,6 +7,7 @@ use super::purpose_changes;
 use super::purpose_cubes;
 use super::purpose_prices;
 use super::purpose_products;
+use super::purpose_ranges;
 use super::purpose_ready;
 use super::sweeps::{every_byte, every_cut, every_room};
 use super::tables::{random_table, rows};
@@ -33,6 +34,7 @@ pub fn on_purpose(rng: &mut Rng) -> Vec<Case> {
     list.extend(purpose_cubes::cubes_on_purpose(rng));
     list.extend(purpose_products::products_on_purpose(rng));
     list.extend(purpose_ready::ready_on_purpose(rng));
+    list.extend(purpose_ranges::ranges_on_purpose(rng));
     list
 }
 

@@ -1,6 +1,6 @@
 //! Queries behind a table and its candidates, whose covers are known.
 
-use super::draft::page;
+use super::draft::{page, ranged_page};
 use crate::rng::Rng;
 
 fn any_count(rng: &mut Rng) -> u8 {
@@ -40,7 +40,7 @@ fn any_start(rng: &mut Rng, covers: &[u64], candidates: usize) -> u64 {
 }
 
 /// Pages with proper starts: each goes on one above the last set of the one before.
-fn paging(rng: &mut Rng, covers: &[u64]) -> Vec<Vec<u8>> {
+fn paging(rng: &mut Rng, covers: &[u64], page: fn(u64, u8) -> Vec<u8>) -> Vec<Vec<u8>> {
     let mut list = Vec::new();
     let mut got = if rng.chance(1, 4) {
         rng.below(covers.len())
@@ -73,7 +73,7 @@ fn paging(rng: &mut Rng, covers: &[u64]) -> Vec<Vec<u8>> {
 pub fn queries(rng: &mut Rng, covers: &[u64], candidates: usize) -> Vec<Vec<u8>> {
     let mut list = vec![vec![b'N']; usize::from(rng.chance(1, 8))];
     if !covers.is_empty() && rng.chance(1, 2) {
-        list.extend(paging(rng, covers));
+        list.extend(paging(rng, covers, page));
     }
     for _ in 0..rng.below(4) {
         let start = any_start(rng, covers, candidates);
@@ -91,4 +91,17 @@ pub fn queries(rng: &mut Rng, covers: &[u64], candidates: usize) -> Vec<Vec<u8>>
         list.push(vec![b'N']);
     }
     list
+}
+
+/// V commands over its own list: pages with proper starts and with arbitrary ones.
+pub fn ranged_queries(rng: &mut Rng, list: &[u64], candidates: usize) -> Vec<Vec<u8>> {
+    let mut commands = Vec::new();
+    if !list.is_empty() && rng.chance(2, 3) {
+        commands.extend(paging(rng, list, ranged_page));
+    }
+    for _ in 0..rng.between(usize::from(commands.is_empty()), 2) {
+        let start = any_start(rng, list, candidates);
+        commands.push(ranged_page(start, any_count(rng)));
+    }
+    commands
 }

@@ -1,14 +1,14 @@
 //! Jobs for the records that they leave: made on purpose for the weights of K5, the prices of K6, N of
-//! K8 and the blocks of K10, some of the others made on purpose, and drawn ones.
+//! K8, the blocks of K10 and the ranges of K11, some of the others made on purpose, and drawn ones.
 
 use super::bytes::full;
 use super::damage::{damaged, wild};
-use super::draft::{block, come, draft, go, prices, ready, row, term, Draft};
+use super::draft::{block, come, draft, go, prices, range, ranged_page, ready, row, term, Draft};
 use super::purpose::{on_purpose, primes};
 use super::purpose_products::counted;
 use super::sound::sound;
 use crate::format::BLOCK;
-use crate::reference::{Block, LONGEST};
+use crate::reference::{Block, Range, LONGEST};
 use crate::rng::Rng;
 use crate::selftest::{
     bytes, dearest, first_term_gone, marked, multiplied, odd_parity, priced, prime_gone,
@@ -31,6 +31,7 @@ pub fn records_on_purpose(rng: &mut Rng) -> Jobs {
     of_prices(&mut list);
     of_products(rng, &mut list);
     of_ready(&mut list);
+    of_ranges(&mut list);
     of_lengths(&mut list);
     let mut others: Jobs = on_purpose(rng).into_iter().map(|case| case.job).collect();
     // Those that differ in their buffers alone leave one record.
@@ -203,6 +204,58 @@ fn of_ready(list: &mut Jobs) {
     for last in refused {
         let stand = vec![row(0, 7, 0), ready(&Block::new(5, [0], 9)), last];
         list.push(draft(8, 3, [stand]).job());
+    }
+}
+
+/// Ranges of terms and blocks, command by command, at the usual prices and at others: they come, are
+/// replaced, move and go; of 64 each one goes; and G commands that are refused.
+fn of_ranges(list: &mut Jobs) {
+    let g = |number, low, high| range(number, Range { low, high });
+    let f = |v: usize, weight| ready(&Block::new(1, [0, v], weight));
+    let rows = all_rows(|_| [0, 1]);
+    let standing = vec![term(3, 0, 1), f(255, 850), come(0, 0, 1), f(8, 0)];
+    let changes = vec![
+        g(0, 0, 850),
+        g(3, 256, 513),
+        g(1, 849, 850),
+        ranged_page(0, 9),
+        g(0, 2, 2),
+        go(2),
+        come(255, 7, 1),
+        g(3, 0, 0),
+        go(0),
+        vec![b'C'],
+        come(1, 0, 1),
+        go(2),
+        g(0, 5, 77),
+    ];
+    let job = draft(8, 1, [rows.clone(), standing.clone(), changes]);
+    behind_each(list, &job, rows.len() + 4);
+    for own in PRICES {
+        list.push(priced(job.clone(), own).job());
+        let by_primes = vec![g(0, 7, 8), come(1, 1, 1), g(1, 3, 300), go(0)];
+        let by_primes = draft(8, 1, [rows.clone(), primes(), by_primes]);
+        behind_each(list, &priced(by_primes, own), rows.len() + 2);
+    }
+    let many: Commands = (0..64).map(|_| term(0, 0, 1)).collect();
+    let ranges: Commands = (0..64)
+        .map(|i| g(i, 13 * u16::from(i), 850 - u16::from(i) / 2))
+        .collect();
+    for number in 0..64 {
+        let gone = vec![go(number), come(3, 0, 1)];
+        let job = draft(8, 1, [rows.clone(), many.clone(), ranges.clone(), gone]);
+        list.push(job.job());
+    }
+    for refused in [g(4, 0, 0), g(0, 1, 0), g(1, 0, 851), g(255, 9, 8)] {
+        for before in [vec![], vec![g(0, 3, 4)]] {
+            let parts = [
+                rows.clone(),
+                standing.clone(),
+                before,
+                vec![refused.clone()],
+            ];
+            list.push(draft(8, 1, parts).job());
+        }
     }
 }
 

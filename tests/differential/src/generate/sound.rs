@@ -3,11 +3,15 @@
 use super::changes::Candidates;
 use super::draft::{draft, plain_case, prices, Draft};
 use super::prices::drawn_prices;
-use super::queries::queries;
+use super::queries::{queries, ranged_queries};
+use super::ranges::merged;
 use super::ready::mixed;
 use super::tables::{random_table, rows, sizes, table_of_terms, terms_for, MOST_TERMS};
 use super::Case;
-use crate::reference::{irredundant_covers, of_terms, Candidate, Covers, Table, Term, LONGEST};
+use crate::reference::{
+    irredundant_covers, of_terms, possibly_cheapest, Candidate, Covers, Prices, Range, Table, Term,
+    LONGEST,
+};
 use crate::rng::Rng;
 
 pub fn case(rng: &mut Rng) -> Case {
@@ -16,11 +20,14 @@ pub fn case(rng: &mut Rng) -> Case {
 }
 
 /// A job that keeps to the order of commands. Now and then a wanted cell stays unheld. In every
-/// second one the candidates come and go, every third one has prices, and every third one without P
-/// has blocks.
+/// second one the candidates come and go, every third one has prices, every third one without P has
+/// blocks, and every third one has ranges.
 pub fn sound(rng: &mut Rng) -> Draft {
     let (n, m) = sizes(rng);
     let moving = rng.chance(1, 2);
+    let ranged = rng.chance(1, 3);
+    let own_prices = rng.chance(1, 3).then(|| drawn_prices(rng));
+    let charged = own_prices.map_or(Prices::USUAL, |list| Prices::of(&list));
     let (table, list) = table_and_terms(rng, n, m);
     let mut candidates = match list {
         None => Candidates::of_primes(&table),
@@ -34,15 +41,24 @@ pub fn sound(rng: &mut Rng) -> Draft {
         }
     };
     let mut commands = rows(rng, &table);
-    let rounds = if moving { rng.between(1, 4) } else { 1 };
+    let rounds = if moving || ranged {
+        rng.between(1, 4)
+    } else {
+        1
+    };
     for round in 0..rounds {
         if moving && (round > 0 || rng.chance(1, 2)) {
             candidates.change(rng);
         }
         commands.extend(candidates.commands());
-        commands.extend(asked(rng, &table, &candidates.standing));
+        if ranged {
+            commands.extend(candidates.draw_ranges(rng, charged));
+        }
+        let ranges = ranged.then(|| candidates.ranges(charged));
+        commands.extend(asked(rng, &table, &candidates.standing, ranges));
     }
-    draft(n as u8, m as u8, [settings(rng), commands])
+    let settings = own_prices.map(prices).into_iter().collect();
+    draft(n as u8, m as u8, [settings, commands])
 }
 
 fn of_list<'a>(
@@ -56,12 +72,6 @@ fn of_list<'a>(
     } else {
         Candidates::of_list(table, list)
     }
-}
-
-/// W in every third job.
-fn settings(rng: &mut Rng) -> Vec<Vec<u8>> {
-    let times = usize::from(rng.chance(1, 3));
-    vec![prices(drawn_prices(rng)); times]
 }
 
 /// A table, and terms for it or None where its primes are to be the candidates.
@@ -82,13 +92,26 @@ fn table_and_terms(rng: &mut Rng, n: usize, m: usize) -> (Table, Option<Vec<Term
     (table, Some(list))
 }
 
-fn asked(rng: &mut Rng, table: &Table, standing: &[Candidate]) -> Vec<Vec<u8>> {
-    match irredundant_covers(table, standing) {
+/// With V among the queries where there are ranges.
+fn asked(
+    rng: &mut Rng,
+    table: &Table,
+    standing: &[Candidate],
+    ranges: Option<Vec<Range>>,
+) -> Vec<Vec<u8>> {
+    let covers = match irredundant_covers(table, standing) {
         // Too many for pages here; N comes to an end, mostly with 17.
-        Covers::TooMany => vec![vec![b'N']; rng.below(2)],
-        Covers::None => queries(rng, &[], standing.len()),
-        Covers::All(covers) => queries(rng, &covers, standing.len()),
-    }
+        Covers::TooMany => return vec![vec![b'N']; rng.below(2)],
+        Covers::None => Vec::new(),
+        Covers::All(covers) => covers,
+    };
+    let list = queries(rng, &covers, standing.len());
+    let Some(ranges) = ranges else {
+        return list;
+    };
+    let possible = possibly_cheapest(&covers, &ranges);
+    let pages = ranged_queries(rng, &possible, standing.len());
+    merged(rng, list, pages)
 }
 
 /// A sound job that is short enough for a sweep.

@@ -1,9 +1,13 @@
-//! The job stream: each command with its refusals in their order, its effect and its answer.
+//! The job stream: each command with its refusals in their order, its effect and its answer. What asks
+//! about the covers is in `job/queries.rs`.
+
+mod queries;
 
 use super::candidate::{of_terms, Block, Candidate};
-use super::covers::{cheapest, irredundant_covers, Covers};
+use super::covers::Covers;
 use super::prices::{Prices, HIGHEST};
-use super::products::{products, Products};
+use super::products::Products;
+use super::ranges::Range;
 use super::table::{fits, Table, Term};
 use crate::format;
 
@@ -35,7 +39,7 @@ impl Outcome {
     }
 }
 
-enum Stop {
+pub enum Stop {
     Refused(u64),
     TooMany,
 }
@@ -48,13 +52,18 @@ pub struct Problem {
     pub prices_set: Option<Prices>,
     pub has_row: [bool; 256],
     pub candidates: Vec<Candidate>,
+    /// What the weight of each candidate may be.
+    pub ranges: Vec<Range>,
     /// T, A or F: an A or F counts as a T, even if its candidate has gone again.
     pub terms_came: bool,
     pub primes_came: bool,
+    /// L, C or N, and G or V, which count as an L.
     pub queries_came: bool,
-    /// The covers by the standing candidates, once they are asked for, and the products.
+    /// The covers by the standing candidates, once they are asked for, and the products; and those
+    /// that may be the cheapest by the ranges.
     covers: Option<Covers>,
     products: Option<Products>,
+    possibly_cheapest: Option<Vec<u64>>,
 }
 
 /// Runs a job over a buffer; None when it is more work than the reference takes on.
@@ -99,15 +108,17 @@ pub fn left_by(job: &[u8], buffer: &[u8]) -> Option<(Outcome, Problem)> {
     }
 }
 
-/// An L, C or N of a job: its offset and bytes, the candidates that stand there, and its answer.
+/// An L, C, N or V of a job: its offset and bytes, the candidates that stand there with their
+/// ranges, and its answer.
 pub struct Query {
     pub at: usize,
     pub command: Vec<u8>,
     pub candidates: Vec<Candidate>,
+    pub ranges: Vec<Range>,
     pub answer: Vec<u8>,
 }
 
-/// The table and the prices of a job, and its L, C and N commands.
+/// The table and the prices of a job, and its L, C, N and V commands.
 pub struct Asked {
     pub table: Table,
     pub prices: Prices,
@@ -122,13 +133,14 @@ pub fn asked(job: &[u8]) -> Option<Asked> {
     loop {
         let (width, answer) = problem.command(job, at, LONGEST).ok()?;
         match job[at] {
-            b'L' | b'C' | b'N' => queries.push(Query {
+            b'E' => break,
+            byte if format::QUERIES.contains(&byte) => queries.push(Query {
                 at,
                 command: job[at..at + width].to_vec(),
                 candidates: problem.candidates.clone(),
+                ranges: problem.ranges.clone(),
                 answer,
             }),
-            b'E' => break,
             _ => {}
         }
         at += width;
@@ -149,22 +161,29 @@ fn refuse_if(wrong: bool, number: u64) -> Result<(), Stop> {
 }
 
 impl Problem {
-    fn new() -> Problem {
+    pub fn new() -> Problem {
         Problem {
             table: None,
             prices_set: None,
             has_row: [false; 256],
             candidates: Vec::new(),
+            ranges: Vec::new(),
             terms_came: false,
             primes_came: false,
             queries_came: false,
             covers: None,
             products: None,
+            possibly_cheapest: None,
         }
     }
 
     /// One command with its refusals in the order in which they are tried: its width and answer.
-    fn command(&mut self, job: &[u8], at: usize, free: usize) -> Result<(usize, Vec<u8>), Stop> {
+    pub fn command(
+        &mut self,
+        job: &[u8],
+        at: usize,
+        free: usize,
+    ) -> Result<(usize, Vec<u8>), Stop> {
         let Some(&byte) = job.get(at) else {
             return Err(Stop::Refused(2));
         };
@@ -184,6 +203,8 @@ impl Problem {
             b'D' => self.take_out(ops)?,
             b'P' => self.primes()?,
             b'L' => self.page(ops)?,
+            b'G' => self.set_range(ops)?,
+            b'V' => self.ranged_page(ops)?,
             b'C' => self.cheapest()?,
             b'N' => self.multiplied()?,
             b'E' => {
@@ -206,7 +227,7 @@ impl Problem {
             }
             b'R' | b'B' | b'P' => self.table.is_some() && candidates_open && !self.terms_came,
             b'T' | b'F' => self.table.is_some() && candidates_open,
-            b'A' | b'D' | b'L' | b'C' | b'N' | b'E' => self.table.is_some(),
+            b'A' | b'D' | b'L' | b'C' | b'N' | b'G' | b'V' | b'E' => self.table.is_some(),
             _ => unreachable!("format.rs has a command that has no place here"),
         }
     }
@@ -276,16 +297,23 @@ impl Problem {
         refuse_if(candidate.holds_off_cell(self.table()), 10)?;
         refuse_if(self.candidates.len() == MOST_CANDIDATES, 11)?;
         self.candidates.push(candidate);
+        self.ranges.push(self.own_range(&candidate));
         self.terms_came = true;
         self.forget();
         Ok(Vec::new())
     }
 
-    /// The candidates above move down by one.
+    /// Both ends of a new candidate's range equal its weight.
+    fn own_range(&self, candidate: &Candidate) -> Range {
+        Range::at(self.prices().cost_of(candidate))
+    }
+
+    /// The candidates above move down by one, with their ranges.
     fn take_out(&mut self, ops: &[u8]) -> Result<Vec<u8>, Stop> {
         let number = usize::from(ops[0]);
         refuse_if(number >= self.candidates.len(), 15)?;
         self.candidates.remove(number);
+        self.ranges.remove(number);
         self.forget();
         Ok(Vec::new())
     }
@@ -294,6 +322,19 @@ impl Problem {
     fn forget(&mut self) {
         self.covers = None;
         self.products = None;
+        self.possibly_cheapest = None;
+    }
+
+    /// A later one replaces the earlier. The weight stays, whether the range has it or not.
+    fn set_range(&mut self, ops: &[u8]) -> Result<Vec<u8>, Stop> {
+        let number = usize::from(ops[0]);
+        let range = Range::of(&ops[1..]);
+        refuse_if(number >= self.candidates.len(), 15)?;
+        refuse_if(!range.well_formed(), 19)?;
+        self.ranges[number] = range;
+        self.possibly_cheapest = None;
+        self.queries_came = true;
+        Ok(Vec::new())
     }
 
     fn primes(&mut self) -> Result<Vec<u8>, Stop> {
@@ -304,68 +345,8 @@ impl Problem {
             answer.extend([t.care, t.value, t.outputs]);
         }
         self.candidates = of_terms(&primes);
+        self.ranges = self.candidates.iter().map(|c| self.own_range(c)).collect();
         self.primes_came = true;
         Ok(answer)
-    }
-
-    /// The covers are found once, and anew when the candidates have changed since.
-    fn covers(&mut self) -> Result<&[u64], Stop> {
-        self.queries_came = true;
-        let table = self.table.as_ref().expect("I came first");
-        let candidates = &self.candidates;
-        match self
-            .covers
-            .get_or_insert_with(|| irredundant_covers(table, candidates))
-        {
-            Covers::None => Err(Stop::Refused(12)),
-            Covers::TooMany => Err(Stop::TooMany),
-            Covers::All(covers) => Ok(covers),
-        }
-    }
-
-    fn page(&mut self, ops: &[u8]) -> Result<Vec<u8>, Stop> {
-        let start = u64::from_le_bytes(ops[..8].try_into().expect("eight bytes"));
-        let count = usize::from(ops[8]);
-        let standing: Vec<u64> = self
-            .covers()?
-            .iter()
-            .copied()
-            .filter(|&set| set >= start)
-            .collect();
-        let k = standing.len().min(count);
-        let mut answer = vec![0x6c, k as u8, u8::from(standing.len() > k)];
-        for set in &standing[..k] {
-            answer.extend(set.to_le_bytes());
-        }
-        Ok(answer)
-    }
-
-    fn cheapest(&mut self) -> Result<Vec<u8>, Stop> {
-        let covers = self.covers()?.to_vec();
-        let (cost, set) = cheapest(self.prices(), &self.candidates, &covers);
-        let mut answer = vec![0x63];
-        answer.extend((cost as u16).to_le_bytes());
-        answer.extend(set.to_le_bytes());
-        Ok(answer)
-    }
-
-    /// For the place of the other commands an N counts as an L. The products are found once, too.
-    fn multiplied(&mut self) -> Result<Vec<u8>, Stop> {
-        self.queries_came = true;
-        let table = self.table.as_ref().expect("I came first");
-        let candidates = &self.candidates;
-        let found = self
-            .products
-            .get_or_insert_with(|| products(table, candidates));
-        match found {
-            Products::None => Err(Stop::Refused(12)),
-            Products::TooMany => Err(Stop::Refused(17)),
-            Products::All(sets) => {
-                let mut answer = vec![0x6e];
-                answer.extend((sets.len() as u16).to_le_bytes());
-                sets.iter().for_each(|set| answer.extend(set.to_le_bytes()));
-                Ok(answer)
-            }
-        }
     }
 }

@@ -1,9 +1,10 @@
 //! The record that a job leaves, as the text in which it is dumped. By K5 the weight stands beside
 //! each candidate; here it is worked out anew from term and prices, so that none can be left
-//! behind. A block has its own.
+//! behind. A block has its own. Behind the weight stand the ends of the range by K11.
 
 use super::candidate::Candidate;
 use super::job::{left_by, Outcome, Problem, LONGEST};
+use super::ranges::Range;
 use crate::report::hex;
 
 /// The outcome of a job over the longest buffer, and the text of the record that its last command
@@ -30,7 +31,7 @@ pub fn record(job: &[u8]) -> Option<(Outcome, String)> {
     Some((out, text))
 }
 
-/// The furthest that came: I, W, a row, a term or block, or a P, L, C or N.
+/// The furthest that came: I, W, a row, a term or block, or a P, L, C, N, G or V.
 fn place(problem: &Problem) -> usize {
     let came = [
         problem.table.is_some(),
@@ -57,7 +58,10 @@ fn candidates(problem: &Problem) -> Vec<String> {
     for (i, candidate) in problem.candidates.iter().enumerate() {
         let weight = problem.prices().cost_of(candidate);
         let what = described(candidate);
-        lines.push(format!("candidate {i} {what} weight {weight}"));
+        let Range { low, high } = problem.ranges[i];
+        lines.push(format!(
+            "candidate {i} {what} weight {weight} low {low} high {high}"
+        ));
     }
     lines
 }

@@ -21,7 +21,9 @@ pub fn compare(pair: &Pair, outcomes: [&Outcome; 2], held: &mut Held) -> Result<
             match query.command[0] {
                 b'L' => page(pair, query, answers, held)?,
                 b'C' => cheapest(pair, [one, other], answers, held)?,
-                _ => products(pair, answers, held)?,
+                b'N' => products(pair, answers, held)?,
+                // K9 says nothing of it: a G names the number, whichever candidate has it.
+                _ => {}
             }
         }
     }

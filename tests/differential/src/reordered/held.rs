@@ -1,7 +1,7 @@
 //! What pairs of jobs were held to, by kinds.
 
 use super::{places, Pair, COME};
-use crate::format::cut;
+use crate::format::{cut, QUERIES};
 use std::collections::BTreeMap;
 
 #[derive(Clone, Copy, PartialEq, Eq, PartialOrd, Ord, Debug)]
@@ -127,7 +127,7 @@ impl Held {
 
 /// A query, an A behind it, and a query behind that.
 fn asks_around_an_a(commands: &[&[u8]]) -> bool {
-    let queries = places(commands, b"LCN");
+    let queries = places(commands, QUERIES);
     let [Some(first), Some(last)] = [queries.first(), queries.last()] else {
         return false;
     };

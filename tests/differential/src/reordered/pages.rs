@@ -2,7 +2,7 @@
 //! same commands before it, with the queries among them and without in turn.
 
 use super::{ask, Call, Held, Kind, Pair, COME, CUT};
-use crate::format::{cut, sets};
+use crate::format::{cut, sets, QUERIES};
 use crate::fresh::kept;
 use crate::generate::page;
 use crate::reference::{Outcome, LONGEST};
@@ -12,7 +12,7 @@ use crate::walk;
 /// Lists with more sets are not compared.
 const MOST_SETS: usize = 3_000;
 
-/// The first L, C or N over the same candidates: the bytes of the job and of the answers before it.
+/// The first L, C, N or V over the same candidates: the bytes of the job and of the answers before it.
 struct Place {
     at: usize,
     answered: usize,
@@ -55,7 +55,7 @@ fn places(job: &[u8], outcome: &Outcome) -> Option<Vec<Place>> {
     let mut list = Vec::new();
     let (mut at, mut answered, mut changed) = (0, 0, true);
     for command in cut(job)? {
-        let query = b"LCN".contains(&command[0]);
+        let query = QUERIES.contains(&command[0]);
         if query && changed {
             list.push(Place { at, answered });
         }
@@ -75,7 +75,7 @@ fn whole(
     mut count: u8,
 ) -> Result<Whole, String> {
     let loud = (&job[..place.at], &outcome.buffer[..place.answered]);
-    let without = kept(loud.0, |byte| !b"LCN".contains(&byte));
+    let without = kept(loud.0, |byte| !QUERIES.contains(&byte));
     let quiet = (&without[..], &[][..]);
     let fits = loud.0.len() + 11 <= LONGEST && loud.1.len() + 4 + 8 * 255 <= LONGEST;
     let heads = [if fits { loud } else { quiet }, quiet];

@@ -16,12 +16,12 @@ row 3 on 02 dc 00
 ";
 
 /// Its terms: 2 and 5 have two literals, the others have one.
-const EXAMPLE_TERMS: &str = "candidate 0 care 01 value 00 outputs 01 weight 1
-candidate 1 care 03 value 01 outputs 03 weight 3
-candidate 2 care 01 value 01 outputs 02 weight 1
-candidate 3 care 02 value 02 outputs 02 weight 1
-candidate 4 care 03 value 02 outputs 03 weight 3
-candidate 5 care 02 value 00 outputs 01 weight 1
+const EXAMPLE_TERMS: &str = "candidate 0 care 01 value 00 outputs 01 weight 1 low 1 high 1
+candidate 1 care 03 value 01 outputs 03 weight 3 low 3 high 3
+candidate 2 care 01 value 01 outputs 02 weight 1 low 1 high 1
+candidate 3 care 02 value 02 outputs 02 weight 1 low 1 high 1
+candidate 4 care 03 value 02 outputs 03 weight 3 low 3 high 3
+candidate 5 care 02 value 00 outputs 01 weight 1 low 1 high 1
 ";
 
 /// Three inputs and four outputs. Output 0 is off nowhere, 1 where input 0 is 0, 2 where input 0
@@ -122,7 +122,7 @@ fn ends(checks: &mut Checks) {
     let mut leaves = |name, job: &[u8], parts: &[&str]| leaves(checks, name, job, parts);
     let sizes = "inputs 2 outputs 2\nprices 1 1 0\n";
     let first_row = "row 0 on 00 dc 01\n";
-    let first_term = "candidate 0 care 01 value 00 outputs 01 weight 1\n";
+    let first_term = "candidate 0 care 01 value 00 outputs 01 weight 1 low 1 high 1\n";
     let head = "number 5 offset 3 written 0\nplace 1\n";
     leaves("within a row", &example[..6], &[head, sizes]);
     let head = "number 2 offset 7 written 0\nplace 3\n";
@@ -161,16 +161,16 @@ fn changes(checks: &mut Checks) {
     let job = [example_rows(), terms(&TERMS), changed.to_vec()];
     let job = draft(2, 2, job).job();
     let head = "number 2 offset 47 written 0\nplace 4\n";
-    let seventh = "candidate 6 care 03 value 03 outputs 02 weight 3\n";
+    let seventh = "candidate 6 care 03 value 03 outputs 02 weight 3 low 3 high 3\n";
     let parts = [head, sizes, EXAMPLE_ROWS, EXAMPLE_TERMS, seventh];
     leaves(checks, "behind A", &job[..47], &parts);
     let head = "number 2 offset 49 written 0\nplace 4\n";
-    let moved = "candidate 0 care 01 value 00 outputs 01 weight 1
-candidate 1 care 01 value 01 outputs 02 weight 1
-candidate 2 care 02 value 02 outputs 02 weight 1
-candidate 3 care 03 value 02 outputs 03 weight 3
-candidate 4 care 02 value 00 outputs 01 weight 1
-candidate 5 care 03 value 03 outputs 02 weight 3
+    let moved = "candidate 0 care 01 value 00 outputs 01 weight 1 low 1 high 1
+candidate 1 care 01 value 01 outputs 02 weight 1 low 1 high 1
+candidate 2 care 02 value 02 outputs 02 weight 1 low 1 high 1
+candidate 3 care 03 value 02 outputs 03 weight 3 low 3 high 3
+candidate 4 care 02 value 00 outputs 01 weight 1 low 1 high 1
+candidate 5 care 03 value 03 outputs 02 weight 3 low 3 high 3
 ";
     let parts = [head, sizes, EXAMPLE_ROWS, moved];
     leaves(checks, "behind A and D", &job[..49], &parts);
@@ -184,7 +184,7 @@ candidate 5 care 03 value 03 outputs 02 weight 3
     let head = "number 2 offset 13 written 0\nplace 4\n";
     leaves(checks, "behind T and D", &job[..13], &[head, text]);
     let head = "number 2 offset 18 written 11\nplace 5\n";
-    let come = "candidate 0 care 01 value 00 outputs 01 weight 1\n";
+    let come = "candidate 0 care 01 value 00 outputs 01 weight 1 low 1 high 1\n";
     leaves(checks, "behind C and A", &job, &[head, text, come]);
 }
 
@@ -196,25 +196,25 @@ fn primes(checks: &mut Checks) {
     let job = draft(3, 4, job).job();
     // I and B have 21 bytes; P's answer has 2 and 3 for each prime.
     let head = "number 2 offset 22 written 14\nplace 5\n";
-    let behind_primes = "candidate 0 care 00 value 00 outputs 01 weight 1
-candidate 1 care 01 value 01 outputs 03 weight 1
-candidate 2 care 03 value 03 outputs 07 weight 3
-candidate 3 care 07 value 07 outputs 0f weight 4
+    let behind_primes = "candidate 0 care 00 value 00 outputs 01 weight 1 low 1 high 1
+candidate 1 care 01 value 01 outputs 03 weight 1 low 1 high 1
+candidate 2 care 03 value 03 outputs 07 weight 3 low 3 high 3
+candidate 3 care 07 value 07 outputs 0f weight 4 low 4 high 4
 ";
     let parts = [head, STAIRS_ROWS, behind_primes];
     leaves(checks, "behind P", &job[..22], &parts);
     let head = "number 2 offset 28 written 14\nplace 5\n";
-    let behind_changes = "candidate 0 care 00 value 00 outputs 01 weight 1
-candidate 1 care 03 value 03 outputs 07 weight 3
-candidate 2 care 07 value 07 outputs 0f weight 4
-candidate 3 care 06 value 04 outputs 01 weight 3
+    let behind_changes = "candidate 0 care 00 value 00 outputs 01 weight 1 low 1 high 1
+candidate 1 care 03 value 03 outputs 07 weight 3 low 3 high 3
+candidate 2 care 07 value 07 outputs 0f weight 4 low 4 high 4
+candidate 3 care 06 value 04 outputs 01 weight 3 low 3 high 3
 ";
     let parts = [head, STAIRS_ROWS, behind_changes];
     leaves(checks, "behind P, D and A", &job[..28], &parts);
     let head = "number 0 offset 31 written 15\nplace 5\n";
-    let first_gone = "candidate 0 care 03 value 03 outputs 07 weight 3
-candidate 1 care 07 value 07 outputs 0f weight 4
-candidate 2 care 06 value 04 outputs 01 weight 3
+    let first_gone = "candidate 0 care 03 value 03 outputs 07 weight 3 low 3 high 3
+candidate 1 care 07 value 07 outputs 0f weight 4 low 4 high 4
+candidate 2 care 06 value 04 outputs 01 weight 3 low 3 high 3
 ";
     let parts = [head, STAIRS_ROWS, first_gone];
     leaves(checks, "behind P, D, A and D", &job, &parts);

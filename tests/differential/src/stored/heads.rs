@@ -3,11 +3,12 @@
 
 use super::Problem;
 use crate::format::{cut, BLOCK};
-use crate::generate::{block, come, go, pairs, prices, put, row};
+use crate::generate::{block, come, go, pairs, prices, put, range, row};
 use crate::reference::Candidate;
 
 /// The head, and the first candidate taken out and put in behind the others until each has had its
-/// turn: the same stand again, in the same order. A block comes by F, as no P stands before it.
+/// turn: the same stand again, in the same order. A block comes by F, as no P stands before it. Where
+/// the head has G commands, one for each candidate comes behind the turns instead.
 pub fn turned(problem: &Problem) -> Vec<u8> {
     let again = |candidate: &Candidate| match candidate {
         Candidate::Term(t) => come(t.care, t.value, t.outputs),
@@ -15,7 +16,12 @@ pub fn turned(problem: &Problem) -> Vec<u8> {
     };
     let turn = |candidate: &Candidate| [go(0), again(candidate)].concat();
     let turns = problem.candidates.iter().flat_map(turn).collect();
-    [problem.head.clone(), turns].concat()
+    let mut head = cut(&problem.head).expect("a list of whole commands");
+    head.retain(|command| command[0] != b'G');
+    let ranges = problem.ranges.iter().enumerate();
+    let ranges = ranges.filter(|_| problem.ranged);
+    let ranges = ranges.flat_map(|(i, &ends)| range(i as u8, ends)).collect();
+    [head.concat(), turns, ranges].concat()
 }
 
 /// The head with an R for each vertex.

@@ -1,7 +1,8 @@
 //! A stored job at other prices.
 
+use super::answers::check_cheapest;
 use super::heads::with_prices;
-use super::{ask, check_cheapest, Depth, Problem, Query};
+use super::{ask, check_ranged_page, Depth, Problem, Query};
 use crate::exact::Search;
 use crate::format;
 
@@ -16,7 +17,8 @@ pub struct Cheapest {
     pub part: usize,
 }
 
-/// By K6 the pages stay; the cheapest is checked as far as the search goes.
+/// By K6 the pages stay; the cheapest is checked as far as the search goes, and so is V, which goes by
+/// the prices where no G has come.
 pub fn at_prices(
     problem: &Problem,
     prices: [u8; 3],
@@ -34,6 +36,8 @@ pub fn at_prices(
                 Depth::Full => counts.full += 1,
                 _ => counts.part += 1,
             }
+        } else if query.command[0] == b'V' {
+            check_ranged_page(&other, &mut search, query)?;
         } else if query != before {
             return Err("a page is another one".into());
         }

@@ -14,9 +14,9 @@ row 0 on 03 dc 00
 row 1 on 00 dc 03
 row 2 on 00 dc 03
 row 3 on 00 dc 01
-candidate 0 care 00 value 00 outputs 01 weight 10
-candidate 1 care 01 value 00 outputs 03 weight 13
-candidate 2 care 03 value 00 outputs 03 weight 23
+candidate 0 care 00 value 00 outputs 01 weight 10 low 10 high 10
+candidate 1 care 01 value 00 outputs 03 weight 13 low 13 high 13
+candidate 2 care 03 value 00 outputs 03 weight 23 low 23 high 23
 ";
 
 pub fn run(checks: &mut Checks) {
@@ -71,7 +71,7 @@ fn right_ones(checks: &mut Checks) {
 fn by_weights(list: [u64; 3]) -> String {
     let mut text = WEIGHED.to_string();
     for (own, other) in [10, 13, 23].iter().zip(list) {
-        text = text.replace(&format!("weight {own}\n"), &format!("weight {other}\n"));
+        text = text.replace(&format!("weight {own} "), &format!("weight {other} "));
     }
     text
 }

@@ -118,7 +118,7 @@ fn records(checks: &mut Checks) {
         "N behind W and A",
         "49 01 01 57 02 03 04 52 00 01 00 41 01 00 01 4e",
         "number 2 offset 16 written 11\nplace 5\ninputs 1 outputs 1\nprices 2 3 4\n\
-         row 0 on 01 dc 00\ncandidate 0 care 01 value 00 outputs 01 weight 6\n",
+         row 0 on 01 dc 00\ncandidate 0 care 01 value 00 outputs 01 weight 6 low 6 high 6\n",
     );
     leaves(
         "N of an unheld cell",

@@ -3,7 +3,7 @@
 use super::f;
 use crate::dump::{compare, Weighed};
 use crate::generate::{come, draft, go, prices, row, term};
-use crate::reference::{self, Block, Candidate};
+use crate::reference::{self, Block, Candidate, Range};
 use crate::selftest::Checks;
 
 /// Three inputs and two outputs at 7, 5 and 3: a term of three literals and two outputs, and blocks.
@@ -14,10 +14,10 @@ row 7 on 02 dc 01
 ";
 
 const FIRST: &str = "block outputs 03 vertices \
-    8100000000000000000000000000000000000000000000000000000000000000 weight 850\n";
+    8100000000000000000000000000000000000000000000000000000000000000 weight 850 low 850 high 850\n";
 const EMPTY: &str = "block outputs 02 vertices \
-    0000000000000000000000000000000000000000000000000000000000000000 weight 0\n";
-const TERM: &str = "care 07 value 07 outputs 03 weight 28\n";
+    0000000000000000000000000000000000000000000000000000000000000000 weight 0 low 0 high 0\n";
+const TERM: &str = "care 07 value 07 outputs 03 weight 28 low 28 high 28\n";
 
 pub fn run(checks: &mut Checks) {
     right_ones(checks);
@@ -90,8 +90,8 @@ fn eight_inputs(checks: &mut Checks) {
     let list = vec![f(128, &own, 256), term(0, 0, 128)];
     let (_, seen) = reference::record(&draft(8, 8, [rows, list]).job()).expect("small enough");
     let due = "candidate 0 block outputs 80 vertices \
-        0102030405060708090a0b0c0d0e0f101112131415161718191a1b1c1d1e1f20 weight 256\n\
-        candidate 1 care 00 value 00 outputs 80 weight 1\n";
+        0102030405060708090a0b0c0d0e0f101112131415161718191a1b1c1d1e1f20 weight 256 low 256 high 256\n\
+        candidate 1 care 00 value 00 outputs 80 weight 1 low 1 high 1\n";
     checks.check("record, 32 bytes of vertices", seen.ends_with(due));
 }
 
@@ -103,6 +103,7 @@ fn read_back(checks: &mut Checks) {
     let due = |b: Block| Weighed {
         candidate: Candidate::Block(b),
         weight: b.weight.into(),
+        range: Range::at(b.weight.into()),
     };
     let right = |list: Vec<Weighed>| [&list[0], &list[2]] == [&due(blocks[0]), &due(blocks[1])];
     checks.check("blocks of a dump", weights.is_ok_and(right));
@@ -121,11 +122,8 @@ fn wrong_ones(checks: &mut Checks) {
             "a term price less for a block",
             by("weight 850", "weight 843"),
         ),
-        ("connections of a block", by("weight 0\n", "weight 3\n")),
-        (
-            "a term's weight for a block",
-            by("weight 0\n", "weight 10\n"),
-        ),
+        ("connections of a block", by("weight 0 ", "weight 3 ")),
+        ("a term's weight for a block", by("weight 0 ", "weight 10 ")),
         ("the low byte of a weight", by("weight 850", "weight 82")),
         ("another vertex", by("8100", "0100")),
         ("bytes the other way round", by("8100", "0081")),

@@ -1,7 +1,7 @@
 //! What is said of a dump: a right one passes, a wrong one is seen.
 
 use crate::dump::{compare, Weighed, Weights};
-use crate::reference::{self, Candidate, Term};
+use crate::reference::{self, Candidate, Range, Term};
 use crate::selftest::{bytes, Checks, EXAMPLE};
 
 pub fn run(checks: &mut Checks) {
@@ -24,7 +24,7 @@ fn charged(checks: &mut Checks) {
     ] {
         let text = |weight: u64| {
             let line = format!("candidate 0 care {care:02x} value 00 outputs 01 weight {weight}");
-            format!("place 4\nprices 1 1 0\n{line}\n")
+            format!("place 4\nprices 1 1 0\n{line} low 2 high 7\n")
         };
         let as_expected = |weight| compare(&text(weight), &text(weight));
         let candidate = Candidate::Term(Term {
@@ -34,7 +34,11 @@ fn charged(checks: &mut Checks) {
         });
         let due = Weights {
             prices: [1, 1, 0],
-            candidates: vec![Weighed { candidate, weight }],
+            candidates: vec![Weighed {
+                candidate,
+                weight,
+                range: Range { low: 2, high: 7 },
+            }],
         };
         let right = as_expected(weight) == Ok(due);
         checks.check(&format!("weight of care {care:02x}"), right);
@@ -43,7 +47,7 @@ fn charged(checks: &mut Checks) {
             checks.check(&format!("not seen: care {care:02x}, weight {wrong}"), seen);
         }
     }
-    let without = "prices 1 1 0\ncandidate 0 care 00 value 00 outputs 01\n";
+    let without = "prices 1 1 0\ncandidate 0 care 00 value 00 outputs 01 low 1 high 1\n";
     let seen = compare(without, without).is_err();
     checks.check("not seen: no weight", seen);
 }
@@ -64,7 +68,10 @@ fn wrong_dumps(checks: &mut Checks) {
         ),
         (
             "a candidate left out",
-            text.replace("candidate 5 care 02 value 00 outputs 01 weight 1\n", ""),
+            text.replace(
+                "candidate 5 care 02 value 00 outputs 01 weight 1 low 1 high 1\n",
+                "",
+            ),
         ),
         ("a space more", text.replace("weight ", "weight  ")),
         ("no last newline", text.trim_end().to_string()),

@@ -38,7 +38,7 @@ fn rows(checks: &mut Checks) {
 /// A refused L, C or P leaves the place and the candidates.
 fn queries(checks: &mut Checks) {
     let rows = "inputs 1 outputs 1\nprices 1 1 0\nrow 0 on 01 dc 00\nrow 1 on 01 dc 00\n";
-    let half = "candidate 0 care 01 value 01 outputs 01 weight 1\n";
+    let half = "candidate 0 care 01 value 01 outputs 01 weight 1 low 1 high 1\n";
     for (name, query) in [
         ("L", bytes("4c 00 00 00 00 00 00 00 00 06")),
         ("C", vec![b'C']),
@@ -67,7 +67,8 @@ fn candidates(checks: &mut Checks) {
         let job = draft(1, 1, [commands]).job();
         let head = format!("number {number} offset 11 written 0\nplace 4\n");
         let sizes = "inputs 1 outputs 1\nprices 1 1 0\n";
-        let stands = "row 1 on 01 dc 00\ncandidate 0 care 01 value 01 outputs 01 weight 1\n";
+        let stands =
+            "row 1 on 01 dc 00\ncandidate 0 care 01 value 01 outputs 01 weight 1 low 1 high 1\n";
         leaves(checks, name, &job, &[&head, sizes, stands]);
     };
     refused("A of an off cell", come(0, 0, 1), 10);
@@ -85,7 +86,7 @@ fn candidates(checks: &mut Checks) {
     let mut text = head.to_string();
     text.push_str("row 5 on 00 dc 01\n");
     for i in 0..64 {
-        let line = format!("candidate {i} care 07 value 05 outputs 01 weight 4\n");
+        let line = format!("candidate {i} care 07 value 05 outputs 01 weight 4 low 4 high 4\n");
         text.push_str(&line);
     }
     leaves(checks, "a 65th", &job, &[&text]);

@@ -16,7 +16,7 @@ pub enum Kind {
     /// Answered queries over an empty block, and over equal ones.
     Empty,
     Equal,
-    /// Answered L, C and N with a block in a set.
+    /// Answered L or V, C and N with a block in a set.
     Pages,
     Cheapest,
     Products,
@@ -84,7 +84,7 @@ pub const KINDS: [Named; 43] = [
     named(Kind::Moved, "with a D below a block", [50, 50]),
     named(Kind::Empty, "queries over an empty block", [10, 10]),
     named(Kind::Equal, "queries over equal blocks", [50, 50]),
-    named(Kind::Pages, "L with a block in a set", [200, 200]),
+    named(Kind::Pages, "L or V with a block in a set", [200, 200]),
     named(Kind::Cheapest, "C with a block", [200, 200]),
     named(Kind::Products, "N with a block in a set", [100, 100]),
     named(Kind::BesideTerm, "C with a block and a term", [50, 50]),

@@ -78,10 +78,10 @@ fn add_answer(counts: &mut Counts, standing: &Standing, query: &Query, answer: &
     match query.command[0] {
         b'C' => add_cheapest(counts, standing, number(&answer[3..]), all_blocks),
         byte => {
-            let kind = if byte == b'L' {
-                Kind::Pages
-            } else {
+            let kind = if byte == b'N' {
                 Kind::Products
+            } else {
+                Kind::Pages
             };
             let with = sets(answer).iter().any(|set| set & all_blocks != 0);
             counts.count_if(kind, with);
