@@ -12,14 +12,13 @@
  * engines. Every measurement is a child process that is ended after SECONDS; what did not end is shown as "-".
  * The search nodes of a page, of V and of C are counted in the plain C engine, which searches as the proved one.
  *
- * Then the stack that a call of cover_job uses, over all jobs, also with V in the place of their queries, that of
- * part_job, and the times of jobs of 32,768 bytes that ask L all along, or A, L and D in turn (long_job.h). -m prints
- * the jobs as a markdown table, -c writes the times to a file as CSV. The last line sums up. -a runs every job once in
- * both engines, compares the answers and measures nothing; so it does for the jobs at other prices, by W, with N in the
+ * Then the stack that a call of cover_job uses, over all jobs, also with V in the place of their queries, and the
+ * times of jobs of 32,768 bytes that ask L all along, or A, L and D in turn (long_job.h). -m prints the jobs as a
+ * markdown table, -c writes the times to a file as CSV. The last line sums up. -a runs every job once in both
+ * engines, compares the answers and measures nothing; so it does for the jobs at other prices, by W, with N in the
  * place of their queries, with V in that place, at four kinds of ranges by G (range_modes.h), and with F in the
  * place of their T, which must leave the same bytes; and for drawn ones with W (priced_job.h), with P (prime_job.h),
- * with N (product_job.h), with F (ready_job.h), with G and V (ranged_job.h) and for the part (limited_job.h). The stored
- * and the drawn ones run also in the part, part_job and the plain C one.
+ * with N (product_job.h), with F (ready_job.h) and with G and V (ranged_job.h).
  *
  * A job with a command that the other engine does not know (the plain C engine: one that is not of paper 01, K2, K3,
  * K6, K8, K10 or K11) is newer than that engine, and is left out.
@@ -42,7 +41,6 @@
 
 #include "covers.h"
 #include "job.h"
-#include "limited_job.h"
 #include "long_job.h"
 #include "other.h"
 #include "price_list.h"
@@ -58,9 +56,7 @@ enum { DRAWN = 400 }; /* drawn jobs with W that are compared */
 enum { STACK = 4 << 20, STACK_LIMIT = 256 << 10, PAINT = 0xa5 };
 
 typedef uint64_t (*Engine)(const uint8_t *, size_t, uint8_t *, size_t);
-/* The engine and the part, each with what it is compared with. */
-static const Engine wide[2] = {cover_job, other_job}, limited[2] = {part_job, other_part_job};
-static const Engine *engines = wide;
+static const Engine engines[2] = {cover_job, other_job};
 
 /* What a child leaves: the best time of its runs, that of the job without the query, what the call gave, its nodes. */
 typedef struct {
@@ -108,7 +104,7 @@ static bool starts_with(const char *s, const char *head) { return strncmp(s, hea
 static bool natural(const char *name)
 {
     static const char *const made[] = {"adv",    "cheaphard", "listhard", "cyc64",    "dup",  "edges",
-                                       "ring64", "sub64",     "dupcyc",   "products", "ready", "ranges", "part"};
+                                       "ring64", "sub64",     "dupcyc",   "products", "ready", "ranges"};
     for (size_t i = 0; i < sizeof made / sizeof *made; i++)
         if (starts_with(name, made[i]))
             return false;
@@ -263,12 +259,11 @@ static void *on_painted(void *nothing)
     static uint8_t answers[LONGEST];
     uint8_t here;
     *stack_top = (size_t)(&here - stack);
-    engines[0](stack_job->bytes, stack_job->len, answers, LONGEST);
+    cover_job(stack_job->bytes, stack_job->len, answers, LONGEST);
     return nothing;
 }
 
-/* How many bytes below its caller a call of the engine, or of the part, writes to the stack; ended tells whether it came
-   back. */
+/* How many bytes below its caller a call of cover_job writes to the stack; ended tells whether it came back. */
 static size_t stack_use(Job *job, bool *ended)
 {
     int status;
@@ -346,8 +341,8 @@ static double ratios[MOST_JOBS];
 static int both = 0; /* jobs that both engines ended, and so ratios */
 static int ended = 0; /* jobs that the proved engine ended */
 static Worst worst_ratio = {0, NULL};
-static size_t deepest[2] = {0, 0}; /* bytes of stack, of the engine and of the part, and by which job */
-static const char *deepest_name[2] = {"none", "none"};
+static size_t deepest = 0; /* bytes of stack, and by which job */
+static const char *deepest_name = "";
 static int cut = 0; /* jobs that did not end in the stack measurement */
 
 static bool read_names(const char *folder)
@@ -638,21 +633,16 @@ static void run_drawn_answers(void)
         ranged_job(&job, seed);
         run_with_blocks(&job, "a drawn job with G and V", all_and_some, 1);
     }
-    for (uint64_t seed = 1; seed <= LIMITED_JOBS; seed++) {
-        limited_job(&job, seed);
-        run_with_blocks(&job, "a drawn job for the part", all_and_some, 1);
-    }
 }
 
 static void run_stack(Job *job, const char *name)
 {
     bool back;
     size_t use = stack_use(job, &back);
-    int which = engines == limited;
     cut += !back;
-    if (use > deepest[which]) {
-        deepest[which] = use;
-        deepest_name[which] = name;
+    if (use > deepest) {
+        deepest = use;
+        deepest_name = name;
     }
 }
 
@@ -762,8 +752,7 @@ static void print_details(void)
     printf("\n");
     print_longest(0);
     print_longest(1);
-    printf("stack: %d bytes at most (%s), of the part %d (%s), limit %d", (int)deepest[0], deepest_name[0],
-           (int)deepest[1], deepest_name[1], STACK_LIMIT);
+    printf("stack: %d bytes at most (%s), limit %d", (int)deepest, deepest_name, STACK_LIMIT);
     if (cut)
         printf("; %d jobs cut after %d s", cut, limit);
     printf("\n");
@@ -840,11 +829,6 @@ static int compare_all(const char *folder)
     run_folder(folder, run_ranged_answers);
     run_drawn_answers();
     each_long_job(folder, run_long_answers);
-    engines = limited;
-    run_folder(folder, run_stored_answers);
-    run_folder(folder, run_product_answers);
-    run_drawn_answers();
-    each_long_job(folder, run_long_answers);
     int failed = asked - newer - same;
     if (newer)
         printf("%d jobs have commands that " OTHER " does not know\n", newer);
@@ -861,9 +845,6 @@ static void measure_all(const char *folder)
     run_folder(folder, run_stack);
     run_folder(folder, run_ranged_stack);
     each_long_job(folder, run_long_job);
-    engines = limited;
-    run_folder(folder, run_stack);
-    engines = wide;
     print_details();
     print_summary();
     if (csv && fclose(csv) != 0)
@@ -884,5 +865,5 @@ int main(int argc, char **argv)
     if (answers_only)
         return compare_all(folder);
     measure_all(folder);
-    return differ || deepest[0] >= STACK_LIMIT || deepest[1] >= STACK_LIMIT ? 1 : 0;
+    return differ || deepest >= STACK_LIMIT ? 1 : 0;
 }

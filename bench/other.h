@@ -1,7 +1,6 @@
 /*
  * What the engine is compared with, one call with the contract of cover_job: the plain C engine of baseline.c or,
- * where FORMER is defined, cover_job of a former library, which bench/common has renamed. Then the part has none
- * beside it.
+ * where FORMER is defined, cover_job of a former library, which bench/common has renamed.
  */
 #ifndef OTHER_H
 #define OTHER_H
@@ -19,7 +18,6 @@
 
 uint64_t former_job(const uint8_t *job, size_t job_len, uint8_t *answers, size_t answers_len);
 #define other_job former_job
-#define other_part_job part_job
 
 /* Which commands a former library has is not known here; and it counts no nodes. */
 static inline bool must_know(uint8_t command) { return (void)command, false; }
@@ -32,7 +30,6 @@ static inline uint64_t counted_nodes(void) { return 0; }
 
 #define OTHER "plain C"
 #define other_job baseline_job
-#define other_part_job baseline_part_job
 
 /* The commands of paper 01, of K2, of K3, of K6, of K8, of K10 and of K11. */
 static inline bool must_know(uint8_t command) { return command != 0 && strchr("IRTPLCEADBWNFGV", command) != NULL; }

@@ -2,17 +2,10 @@
  * The cover engine, for C programmers (C99 and later, C++).
  *
  * One call runs one job: the commands lie in the job buffer, the answers are put into the
- * answer buffer, and one number tells how it ended. There are two calls of this form, and they
- * take the same jobs:
- *   cover_job   in libengine.a; knows of no part
- *   part_job    in libpart.a; for our own part, which has 32 terms in all and 7 for an output. It
- *               lists the covers that fit there, and does all else as cover_job
- * A program that makes one call links its archive, and one that makes both links both. What is said
- * here is true of both calls; in what part_job differs stands below, at "The part".
+ * answer buffer, and one number tells how it ended.
  *
  * What is promised
- *   - Every job ends: it is accepted, or it is refused with one of the numbers 1 to 19; part_job
- *     has one more, 20.
+ *   - Every job ends: it is accepted, or it is refused with one of the numbers 1 to 19.
  *   - Accepted: the number is 0, the offset is the job's length, and each command with an
  *     answer has put it into the answer buffer, in the order of the commands.
  *   - Refused: the offset is that of the first byte of the command that was refused, and
@@ -23,8 +16,8 @@
  *   - Nothing is kept between calls: the outcome depends on the job's bytes and on the length
  *     of the answer buffer only. The call is reentrant; threads may call it at the same time
  *     with buffers of their own.
- * This is proved of cover_job and of part_job. The inline functions below only read and write the
- * format; they are tested.
+ * This is proved of cover_job. The inline functions below only read and write the format; they
+ * are tested.
  *
  * What is asked of the caller
  *   - `job` is valid for reading job_len bytes and `answers` for writing answers_len bytes.
@@ -132,21 +125,7 @@
  * rules, with each other alone, and only where the weights and ranges are the same too: a further
  * job sets the prices and the ranges anew.
  *
- * The part: a set fits when it has at most 32 members and, for each output, at most 7 members
- * whose outputs have its bit. Members are candidates, terms and blocks alike, and each counts for
- * every bit of its outputs byte, whatever cells it holds. part_job differs at COVER_LIST alone:
- *   - Its list has the irredundant covers that fit, and no others. The answer has the same form,
- *     and pages go by the same rules: rising, none skipped, at most count, and `more` tells of this
- *     list. Behind the last set that fits, a page has no sets and says no more.
- *   - Where no irredundant cover fits, the command is refused with number 20, after 12 and before
- *     14, whatever start and count are. Then only a larger part or other candidates help.
- * All other commands are answered as by cover_job, also behind such a list: the sets of possible,
- * cheapest and multiply are taken from all irredundant covers and need not fit. Where the text above
- * holds them to a list, the list by cover_job is meant. That one is as wide as ever, and cover_job
- * never gives 20. Pages by part_job are joined with each other alone.
- *
- * A job is put together by the cover_put functions, and its answers are read one by one; for
- * part_job in the same way:
+ * A job is put together by the cover_put functions, and its answers are read one by one:
  *
  *     uint64_t outcome = cover_job(job, job_len, answers, sizeof answers);
  *     size_t written = cover_written(outcome);
@@ -176,10 +155,6 @@ extern "C" {
 #define COVER_MOST_PRICE 50u
 #define COVER_MOST_WEIGHT 850u     /* of a block, and at an end of a range */
 #define COVER_VERTEX_BYTES 32u     /* of a block */
-
-/* The limits of the part. */
-#define PART_MOST_MEMBERS 32u   /* of a set */
-#define PART_MOST_FOR_OUTPUT 7u /* members whose outputs have its bit, for each output */
 
 /* The first byte of each command. */
 enum cover_command {
@@ -237,10 +212,9 @@ enum cover_answer {
 
 /*
  * How a job ended. At each command the refusals are tried in the order in which they stand here,
- * 15 and 19 right after 5, 16 right after 6, 18 right after 9, 17 and 20 right after 12, and the
- * first that applies is given. At COVER_ROWS 7 and 8 are tried row by row: 8 of a row comes before
- * 7 of a later one. The offset is that of the command, whichever row it was. cover_job gives 1 to
- * 19; 20 is part_job's alone.
+ * 15 and 19 right after 5, 16 right after 6, 18 right after 9 and 17 right after 12, and the first
+ * that applies is given. At COVER_ROWS 7 and 8 are tried row by row: 8 of a row comes before 7 of a
+ * later one. The offset is that of the command, whichever row it was.
  */
 enum cover_refusal {
     COVER_ACCEPTED = 0,
@@ -263,21 +237,16 @@ enum cover_refusal {
     COVER_TOO_MANY = 11,          /* a 65th standing candidate, or more than 64 primes */
     COVER_UNHELD_CELL = 12,       /* a wanted cell is held by no candidate */
     COVER_TOO_MANY_PRODUCTS = 17, /* at a multiply more than 1,024 products remain at some cell */
-    COVER_NONE_FITS = 20,         /* at a list by part_job: no irredundant cover fits the part */
     COVER_BYTES_AFTER_END = 13,   /* bytes follow the end command; its answer isn't written */
     COVER_NO_ROOM = 14            /* the answer is longer than the free part of the buffer */
 };
 
-#define COVER_LAST_REFUSAL 19u /* the largest number that cover_job gives */
-#define PART_LAST_REFUSAL 20u  /* and part_job */
+#define COVER_LAST_REFUSAL 19u /* the largest number */
 
-/* Runs a job. Gives number * 2^32 + offset * 2^16 + written. In libengine.a. */
+/* Runs a job. Gives number * 2^32 + offset * 2^16 + written. */
 uint64_t cover_job(const uint8_t *job, size_t job_len, uint8_t *answers, size_t answers_len);
 
-/* The same for the part: its lists have the irredundant covers that fit. In libpart.a. */
-uint64_t part_job(const uint8_t *job, size_t job_len, uint8_t *answers, size_t answers_len);
-
-/* The three numbers of an outcome, of either call. */
+/* The three numbers of an outcome. */
 static inline enum cover_refusal cover_number(uint64_t outcome)
 {
     return (enum cover_refusal)(outcome >> 32);

@@ -1,14 +1,12 @@
 /*
- * Links the engine and the part as the fitter does and asks for lists that are known: pages over several
+ * Links the engine as the fitter does and asks it for lists that are known: pages over several
  * jobs and buffers, joined, against the whole list; the marked cases; candidates that come and go;
- * eight rows in a command; prices; the whole list in one answer; ready-made blocks; ranges of weights; the covers that
- * fit the part; every refusal once.
+ * eight rows in a command; prices; the whole list in one answer; ready-made blocks; ranges of weights; every refusal
+ * once.
  * Every call lies between guard bytes, and the bytes behind `written` are held to be unchanged.
  */
 #include "changes.h"
 #include "lists.h"
-#include "part_jobs.h"
-#include "part_stand_ins.h"
 #include "prices.h"
 #include "problems.h"
 #include "product_stand_ins.h"
@@ -526,8 +524,6 @@ int main(void)
     test_ready_stand_ins();
     test_ranges();
     test_range_stand_ins();
-    test_part();
-    test_part_stand_ins();
     test_fresh();
     test_lengths();
     test_turns();

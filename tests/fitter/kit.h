@@ -113,7 +113,6 @@ static void add_possible(struct job *job, uint64_t start, unsigned count)
 /* What is called: the engine, but where a wrong one stands in for it to be seen. */
 typedef uint64_t engine(const uint8_t *job, size_t job_len, uint8_t *answers, size_t answers_len);
 static engine *called = cover_job;
-static uint64_t last_refusal = COVER_LAST_REFUSAL; /* the largest number that it may give */
 
 enum { GUARD = 64, GUARD_BYTE = 0xC3 };
 
@@ -152,7 +151,7 @@ static uint64_t call(const struct job *job, size_t room)
     CHECK(cover_written(outcome) <= room);
     CHECK(all_guards(memory) && all_guards(answers + room));
     CHECK(memcmp(&copy, job, sizeof copy) == 0);
-    CHECK(outcome >> 32 <= last_refusal);
+    CHECK(outcome >> 32 <= COVER_LAST_REFUSAL);
     return outcome;
 }
 

@@ -5,6 +5,5 @@ pub mod Members
 pub mod Parts
 pub mod Removed
 pub mod Tops
-pub mod Multiples
 pub mod Steps
 pub mod Lists

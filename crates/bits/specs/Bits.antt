@@ -51,7 +51,3 @@ fewer x y = cond (ltb (ones y) (ones x)) y x
 -- s without member k, those above it moved down by one
 unfoldable pub removed : ℕ → ℕ → ℕ
 removed k s = s % 2 ^ k + s / 2 ^ suc k * 2 ^ k
-
--- the first multiple of 2^i above at
-unfoldable pub top : ℕ → ℕ → ℕ
-top at i = at / 2 ^ i * 2 ^ i + 2 ^ i

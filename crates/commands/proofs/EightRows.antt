@@ -9,7 +9,7 @@ use Rattle.model.specs.Base.{All}
 use Rattle.model.specs.Commands as model
 use Rattle.model.specs.Commands.{Context, Row, row_of_b, rows_of_b, add_row, add_rows, problem_after}
 use Rattle.model.specs.Answers.{answer_for}
-use Rattle.model.specs.Refusals.{largest_number, first_of, row_refusals, rows_refusals, refusals_of}
+use Rattle.model.specs.Refusals.{first_of, row_refusals, rows_refusals, refusals_of}
 use Rattle.model.specs.Invariants.{Valid}
 use Rattle.model.proofs.Lists.{all_to}
 use Rattle.model.proofs.Runs.{first_none, none_first, first_before, first_behind}
@@ -45,7 +45,7 @@ module _ {p : Problem} {q : model.Problem} (w : Row) {e : Effect} (h : Holds p q
 
   row_valid : q.place ≤ model.among_rows → e.number ≡ 0 → Valid (add_row q w)
   unfolding refusals_of
-  row_valid m z = valid_row q w o m (first_none largest_number (row_refusals q w) (refusals_of_no (row_context q w) model.Kind.R) (sym row_number ∙ z)) v
+  row_valid m z = valid_row q w o m (first_none (row_refusals q w) (refusals_of_no (row_context q w) model.Kind.R) (sym row_number ∙ z)) v
 
 -- ---- rows one by one
 
@@ -146,7 +146,7 @@ module _ (p : Problem) (sizes : Sized p) (bs : List ℕ)
   each_passes : (q : model.Problem) → Holds p q → EachPasses q (rows_of_b bs)
   unfolding refusals_of
   each_passes q h = all_to _ _
-      (λ w e. first_none largest_number (row_refusals q w) (refusals_of_no (row_context q w) model.Kind.R) (sym (e ∙ row_refusal_lem p q w sizes h))) (rows_of_b bs) accepted
+      (λ w e. first_none (row_refusals q w) (refusals_of_no (row_context q w) model.Kind.R) (sym (e ∙ row_refusal_lem p q w sizes h))) (rows_of_b bs) accepted
 
   -- a B each of whose rows is accepted by itself
   pub eight_kept : HandlesB p (rows_of_b bs) (record { number = 0; written = 0; problem = all_rows model.among_rows (rows_of_b bs) p })

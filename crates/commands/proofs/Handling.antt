@@ -19,7 +19,7 @@ use Rattle.model.specs.Commands as model
 use Rattle.model.specs.Commands.{Context, table_of, operand, Row, row_of_r, operand_term, operand_block, operand_number, range_of_g, operand_prices, add_block, problem_after}
 use Rattle.model.specs.Answers.{Answer, bytes_of, answer_for}
 use Rattle.model.specs.Refusals as model·refusals
-use Rattle.model.specs.Refusals.{largest_number, Refusal, refuse, first_of, refusals_of, size, dear, bad_range}
+use Rattle.model.specs.Refusals.{Refusal, refuse, first_of, refusals_of, size, dear, bad_range}
 use Rattle.model.proofs.Runs.{Numbered, first_none, first_before, first_behind}
 use Rattle.model.proofs.Sound.{refusals_of_no}
 use Rattle.primes.specs.declared.prime_list.PrimeList.{PrimeList}
@@ -133,7 +133,7 @@ module _ (p : Problem) (sizes : Sized p) (v on dc r : ℕ) (o : r ≡ first_of (
   row_holds : (x : Context) → Found p x → operand x 0 ≡ v → operand x 1 ≡ on → operand x 2 ≡ dc → 0 ≡ first_of (refusals_of x model.Kind.R) → Holds (with_row as_row p) (problem_after x model.Kind.R)
   unfolding refusals_of problem_after
   row_holds x f a b c own =
-      let none = first_none largest_number (refusals_of x model.Kind.R) (refusals_of_no x model.Kind.R) (sym own) in
+      let none = first_none (refusals_of x model.Kind.R) (refusals_of_no x model.Kind.R) (sym own) in
       rw (a, b, c) (after_row p x.problem as_row f.holds f.valid f.begun (subst (λ (u : ℕ). u < 2 ^ x.problem.settings.n) a (row_within x.problem (row_of_r x.rest) none)))
 
   pub row_kept : (q : Problem) → r ≡ 0 → q ≡ with_row as_row p → HandlesR p v on dc (record { number = 0; written = 0; problem = q })

@@ -34,8 +34,7 @@ use Rattle.problem.specs.declared.Problem.{Problem}
 use Rattle.problem.specs.Problems.{Holds}
 use Rattle.problem.specs.Matrix.{MatrixOf}
 use Rattle.commands.specs.declared.Effect.{Effect}
-use Rattle.commands.specs.Effects.{refused_as, late_refusal, Handled, HandledWith, Found, HandlesI, HandlesW, HandlesR, HandlesB, HandlesTerm}
-use Rattle.commands.specs.Effects.{HandlesF, HandlesP, HandlesD, HandlesG, HandlesL, HandlesV, HandlesC}
+use Rattle.commands.specs.Effects.{refused_as, late_refusal, Handled, HandledWith, Found, HandlesI, HandlesW, HandlesR, HandlesB, HandlesTerm, HandlesF, HandlesP, HandlesD, HandlesG, HandlesL, HandlesV, HandlesC}
 use Rattle.commands.specs.Effects.{HandlesN, HandlesE}
 use Rattle.incidence.specs.Stored.{BlocksAt}
 use Rattle.engine.specs.Steps.{Stepped, Steps, context_at}
@@ -85,19 +84,18 @@ pub record Read (p : Problem) (job : List ℕ) (at : ℕ) (k : Kind) (n rest : �
   pub left : rest ≡ length job - at - 1
   pub early : n ≡ early_refusal (kind_is k) p.place rest
 
--- 3, 4 and 5
-unfoldable pub early_list : Context → List Refusal
+early_list : Context → List Refusal
 early_list x = refuse 3 (is x.kind model.Kind.none) ∷ refuse 4 (not (allowed x.kind x.problem.place)) ∷ refuse 5 (ltb (length x.rest) (width x.kind)) ∷ []
 
 late_list : Context → List Refusal
 late_list x = refusals_of x x.kind ++ (refuse 14 (ltb x.free (length (bytes_of (answer x)))) ∷ [])
 
-pub early_numbered : (x : Context) → All Numbered (early_list x)
+early_numbered : (x : Context) → All Numbered (early_list x)
 unfolding early_list
 early_numbered x = (omega arith, (omega arith, (omega arith, tt)))
 
 module _ {p : Problem} {job : List ℕ} {at : ℕ} {k : Kind} {n rest : ℕ} (d : Read p job at k n rest) where
-  pub early_here : (q : model.Problem) (free : ℕ) → Holds p q → n ≡ first_of (early_list (context_at q job at free))
+  early_here : (q : model.Problem) (free : ℕ) → Holds p q → n ≡ first_of (early_list (context_at q job at free))
   unfolding early_list
   early_here q free h =
       let r : rest ≡ length (drop (at + 1) job) = omega (arith, d.left, length-drop (at + 1) job) in
@@ -131,7 +129,7 @@ module _ {p : Problem} {job : List ℕ} {at : ℕ} {k : Kind} {n rest : ℕ} (d 
     pub rows_may_come : kind_is k ≡ model.Kind.B → (model.begun ≤ p.place) × (p.place ≤ model.among_rows)
     rows_may_come g = let a = subst (λ (c : model.Kind). T (allowed c p.place)) g passed.1 in (place_one model.Kind.B p.place tt a, place_last model.Kind.B p.place a)
 
-    pub at_op : (i j : ℕ) → at + 1 + i ≡ j → get_or (drop (at + 1) job) i 0 ≡ get_or job j 0
+    at_op : (i j : ℕ) → at + 1 + i ≡ j → get_or (drop (at + 1) job) i 0 ≡ get_or job j 0
     at_op i j e = get_or-drop (at + 1) job i 0 ∙ ap (λ (x : ℕ). get_or job x 0) e
 
     module _ (c : model.Kind) (g : kind_is k ≡ c) {old new : List ℕ} {e : Effect} where
@@ -155,7 +153,7 @@ module _ {p : Problem} {job : List ℕ} {at : ℕ} {k : Kind} {n rest : ℕ} (d 
 
     -- a command behind I, in every problem that p holds
     module _ (c : model.Kind) (g : kind_is k ≡ c) (i : T (not (is c model.Kind.I))) where
-      pub found : (q : model.Problem) (free : ℕ) → Holds p q → Valid q → Found p (context_at q job at free)
+      found : (q : model.Problem) (free : ℕ) → Holds p q → Valid q → Found p (context_at q job at free)
       found q free h v = record {
         holds = h;
         valid = v;

@@ -10,7 +10,6 @@ use lib.ListN.{get_or, length, drop}
 use Rattle.model.specs.Commands as model
 use Rattle.model.specs.Commands.{rows_of_b}
 use Rattle.model.specs.Candidates.{Candidate}
-use Rattle.model.specs.Rules.{Rules, engine}
 use Rattle.model.specs.Job.{written}
 use Rattle.incidence.specs.Stored.{BlocksAt}
 use Rattle.problem.specs.declared.Settings.{Settings}
@@ -20,8 +19,8 @@ use Rattle.problem.specs.declared.Problem.{Problem}
 use Rattle.problem.specs.declared.matrix.Matrix.{Matrix}
 use Rattle.problem.specs.Problems.{row_put, rows_put, Reached}
 use Rattle.eight_rows.specs.Rows.{EightAt}
-use Rattle.engine.specs.RowBlocks.{RowAt, RowsAsEngine, ReadsRows, Reading, place_behind, record_of, ReadsInto}
-use Rattle.engine.proofs.Running.{x, engine_alike, Going, not_ready}
+use Rattle.engine.specs.RowBlocks.{RowAt, ReadsRows, Reading, place_behind, record_of, ReadsInto}
+use Rattle.engine.proofs.Running.{x, Going, not_ready}
 use Rattle.engine.proofs.RowCommands.{Sets, row_sets, eight_sets, rows_go}
 
 -- ---- the block
@@ -31,7 +30,7 @@ reading_none {p} {job} {at} b m l = record {
   reads = record {
     forward = omega arith;
     within = l;
-    in_problem = λ rules alike q h v most free e. record { problem = q; most = most; enough = e; holds = h; valid = v; cands = refl; number = refl; offset = refl; written = refl; left = refl };
+    in_problem = λ q h v most free e. record { problem = q; most = most; enough = e; holds = h; valid = v; cands = refl; number = refl; offset = refl; written = refl; left = refl };
   };
   behind_i = b;
   in_rows = m;
@@ -40,7 +39,7 @@ reading_none {p} {job} {at} b m l = record {
 -- the record at this place
 pub reading_reached : {p now : Problem} {job : List ℕ} {at i : ℕ} → Reached p → Reading p job at now i → Reached now
 reading_reached {job = job} {at} r b =
-    let g = b.reads.in_problem engine (λ x t. engine_alike x) r.problem r.holds r.valid (suc (length job)) 0 (omega arith) in
+    let g = b.reads.in_problem r.problem r.holds r.valid (suc (length job)) 0 (omega arith) in
     record { problem = g.problem; holds = g.holds; valid = g.valid }
 
 -- one block behind another
@@ -49,9 +48,9 @@ reading_then {job = job} b d = record {
   reads = record {
     forward = omega (arith, b.reads.forward, d.reads.forward);
     within = d.reads.within;
-    in_problem = λ rules alike o h v most free l.
-        let g = b.reads.in_problem rules alike o h v most free l in
-        let f = d.reads.in_problem rules alike g.problem g.holds g.valid g.most free g.enough in
+    in_problem = λ o h v most free l.
+        let g = b.reads.in_problem o h v most free l in
+        let f = d.reads.in_problem g.problem g.holds g.valid g.most free g.enough in
         record {
           problem = f.problem;
           most = f.most;
@@ -74,7 +73,7 @@ reading_next b a e = record {
   reads = record {
     forward = omega (arith, b.reads.forward);
     within = a.room;
-    in_problem = λ rules alike q h v most free l. rows_go alike a (b.reads.in_problem rules alike q h v most free l);
+    in_problem = λ q h v most free l. rows_go a (b.reads.in_problem q h v most free l);
   };
   behind_i = omega (arith, e);
   in_rows = omega (arith, e);
@@ -145,10 +144,10 @@ reads_record {p} {job} {at} {end} {after} {place} r b m d e =
 
 -- ---- the job's loop behind the block
 
-pub going_behind : {rules : Rules} → RowsAsEngine rules → {job old answers held : List ℕ} {p next : Problem} {rows : List ℕ} {m : Matrix} {ready : Bool} {at behind done : ℕ}
-    → Going rules job old answers held p rows m ready at done → ReadsRows p job at next behind → Going rules job old answers held next rows m false behind done
-going_behind {rules} alike {old = old} {held = held} w b =
-    let g = b.in_problem rules alike w.problem w.holds w.valid w.fuel (length old - length w.out) w.enough in
+pub going_behind : {job old answers held : List ℕ} {p next : Problem} {rows : List ℕ} {m : Matrix} {ready : Bool} {at behind done : ℕ}
+    → Going job old answers held p rows m ready at done → ReadsRows p job at next behind → Going job old answers held next rows m false behind done
+going_behind {old = old} {held = held} w b =
+    let g = b.in_problem w.problem w.holds w.valid w.fuel (length old - length w.out) w.enough in
     record {
       fuel = g.most;
       problem = g.problem;

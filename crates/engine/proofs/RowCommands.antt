@@ -2,7 +2,7 @@
 use Prim.Native.Nat.{ℕ, suc, ◌+◌, ◌-◌, ◌≤◌, ◌<◌}
 use native.Mathlib.Omega.{arith}
 use mathlib.Core.Path.{◌≡◌, refl, sym, ap, ◌∙◌, subst, subst⁻¹}
-use mathlib.Core.Bool.{false, not, ◌||◌}
+use mathlib.Core.Bool.{false, not}
 use mathlib.Core.List.{List, []}
 use borrow.Author.Tests.{le-leb, le-ltb}
 use lib.Dec.{T, T_not, eqb, eqb→eq}
@@ -12,13 +12,14 @@ use Rattle.model.specs.Commands as model
 use Rattle.model.specs.Commands.{Context, kind_of, is, is_query_kind, width, rows_of_b, problem_after}
 use Rattle.model.specs.Answers.{Answer, bytes_of, answer, answer_for}
 use Rattle.model.specs.Refusals.{first_of}
-use Rattle.model.specs.Rules.{Rules, engine, AsEngine, refusal_by}
+use Rattle.model.specs.Rules.{engine}
 use Rattle.model.specs.Job.{Run, answer_then, written}
 use Rattle.model.specs.Records.{last_left}
 use Rattle.model.specs.Invariants.{Valid}
-use Rattle.model.proofs.Runs.{Passed, refused_alike, passed}
+use Rattle.model.proofs.Runs.{Passed, passed}
 use Rattle.model.proofs.Sound.{engine_lawful}
 use Rattle.model.proofs.Valid.{after_valid}
+use Rattle.model.proofs.Records.{left_by}
 use Rattle.codec.specs.declared.kinds.Kind.{Kind}
 use Rattle.problem.specs.declared.Settings.{Settings}
 use Rattle.problem.specs.declared.Problem.{Problem}
@@ -35,9 +36,9 @@ use Rattle.incidence.specs.Stored.{BlocksAt}
 use Rattle.incidence.proofs.Uses.{blocks_alone}
 use Rattle.engine.specs.Steps.{Stepped, Steps, context_at}
 use Rattle.eight_rows.specs.Rows.{EightAt}
-use Rattle.engine.specs.RowBlocks.{RowAt, RowsAsEngine, rest_of, GoesOn}
+use Rattle.engine.specs.RowBlocks.{RowAt, rest_of, GoesOn}
 use Rattle.engine.proofs.Dispatching.{Read, step_r, step_b}
-use Rattle.engine.proofs.Running.{one_left, x, rest, run_next, left_answered}
+use Rattle.engine.proofs.Running.{one_left, x, rest, run_next}
 
 -- ---- an R or B that is accepted
 
@@ -56,11 +57,10 @@ row_at {s} {given} {job} {at} {v} {r} l b f e t = record {
 abbrev no_blocks : List ℕ
 no_blocks = replicate 256 0
 
--- the command at `at` is an R or a B, is accepted, answers nothing, leaves the candidates and takes so many bytes; `next` is the record behind it
+-- the command at `at` is accepted, answers nothing, leaves the candidates and takes so many bytes; `next` is the record behind it
 pub record Sets (p : Problem) (job : List ℕ) (at : ℕ) (next : Problem) (bytes : ℕ) : Type 0 where
   pub kind : model.Kind
   pub here : kind_of (get_or job at 0) ≡ kind
-  pub row : T (is kind model.Kind.R || is kind model.Kind.B)
   pub wide : 1 + width kind ≡ bytes
   pub room : at + bytes ≤ length job
   pub goes : is kind model.Kind.E ≡ false
@@ -93,7 +93,6 @@ module _ (p : Problem) {job : List ℕ} {at : ℕ} (reached : Reached p) (behind
   row_sets {v} e a = record {
     kind = model.Kind.R;
     here = a.kind;
-    row = tt;
     wide = refl;
     room = a.room;
     goes = refl;
@@ -118,7 +117,6 @@ module _ (p : Problem) {job : List ℕ} {at : ℕ} (reached : Reached p) (behind
   eight_sets a = record {
     kind = model.Kind.B;
     here = a.kind;
-    row = tt;
     wide = refl;
     room = a.room;
     goes = refl;
@@ -136,24 +134,17 @@ module _ (p : Problem) {job : List ℕ} {at : ℕ} (reached : Reached p) (behind
         early = rw (le-leb 1 p.place behind_i, le-leb p.place model.among_rows in_rows, le-ltb (length job - at - 1) 17 (omega (arith, a.room)));
       }
 
--- ---- the run behind it, by rules that go as the engine's at R and B
+-- ---- the run behind it
 
-module _ {rules : Rules} (alike : RowsAsEngine rules) {p next : Problem} {job : List ℕ} {at bytes : ℕ}
-    (a : Sets p job at next bytes) {q : model.Problem} {r : Run} {free : ℕ} (w : GoesOn rules job q r free p at) where
+module _ {p next : Problem} {job : List ℕ} {at bytes : ℕ} (a : Sets p job at next bytes) {q : model.Problem} {r : Run} {free : ℕ} (w : GoesOn job q r free p at) where
   abbrev c : Context
   c = context_at w.problem job at free
 
   s : Stepped c no_blocks no_blocks (replicate free 0) (replicate free 0) (record { number = 0; written = 0; problem = next })
   s = a.steps w.problem w.holds w.valid free
 
-  same : AsEngine rules c
-  same = alike c (subst⁻¹ (λ (k : model.Kind). T (is k model.Kind.R || is k model.Kind.B)) a.here a.row)
-
   passes : Passed engine c
   passes = passed engine engine_lawful c (sym s.number)
-
-  none_applies : refusal_by rules c ≡ 0
-  none_applies = refused_alike rules c same ∙ sym s.number
 
   here : at < length job
   here = omega (arith, a.room, a.wide)
@@ -161,37 +152,37 @@ module _ {rules : Rules} (alike : RowsAsEngine rules) {p next : Problem} {job : 
   one_less : (f : ℕ) × (w.most ≡ suc f)
   one_less = one_left w.most here w.enough
 
-  nothing_said : bytes_of (rules.answer c) ≡ []
+  nothing_said : bytes_of (answer c) ≡ []
   unfolding answer
-  nothing_said = ap bytes_of same.answer ∙ ap (λ (k : model.Kind). bytes_of (answer_for c k)) a.here ∙ ap bytes_of (a.silent c)
+  nothing_said = ap (λ (k : model.Kind). bytes_of (answer_for c k)) a.here ∙ ap bytes_of (a.silent c)
 
   far : at + 1 + width (kind_of (get_or job at 0)) ≡ at + bytes
   far = omega (arith, ap width a.here, a.wide)
 
   abbrev after : model.Problem
-  after = rules.after (context_at w.problem job at free)
+  after = problem_after (context_at w.problem job at free) (kind_of (get_or job at 0))
 
-  moved : rest_of rules job w.most w.problem free at ≡ answer_then rules c (rest_of rules job one_less.0 after free (at + bytes))
+  moved : rest_of job w.most w.problem free at ≡ answer_then engine c (rest_of job one_less.0 after free (at + bytes))
   unfolding x rest
   moved =
-      let all_free : free - length (bytes_of (rules.answer c)) ≡ free = omega (arith, ap length nothing_said) in
+      let all_free : free - length (bytes_of (answer c)) ≡ free = omega (arith, ap length nothing_said) in
       let rest_is : drop (width (kind_of (get_or job at 0))) (drop (at + 1) job) ≡ drop (at + bytes) job = drop-drop (width (kind_of (get_or job at 0))) (at + 1) job ∙ ap (λ (i : ℕ). drop i job) far in
-      ap (λ (n : ℕ). rest_of rules job n w.problem free at) one_less.1
-      ∙ run_next rules one_less.0 w.problem job at free here none_applies (ap (λ (k : model.Kind). is k model.Kind.E) a.here ∙ a.goes)
+      ap (λ (n : ℕ). rest_of job n w.problem free at) one_less.1
+      ∙ run_next one_less.0 w.problem job at free here (sym s.number) (ap (λ (k : model.Kind). is k model.Kind.E) a.here ∙ a.goes)
       ∙ rw (rest_is, all_free, far)
 
-  pub rows_go : GoesOn rules job q r free next (at + bytes)
+  pub rows_go : GoesOn job q r free next (at + bytes)
   unfolding written
   rows_go = record {
     problem = after;
     most = one_less.0;
     enough = omega (arith, w.enough, one_less.1, a.wide);
-    holds = subst⁻¹ (Holds next) same.after (s.answered refl).0.problem;
-    valid = subst⁻¹ Valid same.after (after_valid c (kind_of (get_or job at 0)) passes.place passes.own w.valid);
-    cands = ap (λ (o : model.Problem). o.cands) same.after ∙ ap (λ (k : model.Kind). (problem_after c k).cands) a.here ∙ a.cands c ∙ w.cands;
+    holds = (s.answered refl).0.problem;
+    valid = after_valid c (kind_of (get_or job at 0)) passes.place passes.own w.valid;
+    cands = ap (λ (k : model.Kind). (problem_after c k).cands) a.here ∙ a.cands c ∙ w.cands;
     number = w.number ∙ ap (λ (y : Run). y.number) moved;
     offset = w.offset ∙ ap (λ (y : Run). y.offset) moved;
     written = w.written ∙ ap written moved ∙ rw nothing_said;
-    left = w.left ∙ ap (λ (y : Run). last_left rules w.problem y.contexts) moved
-        ∙ ap (λ (o : model.Problem). last_left rules o (rest_of rules job one_less.0 after free (at + bytes)).contexts) (left_answered rules c none_applies);
+    left = w.left ∙ ap (λ (y : Run). last_left engine w.problem y.contexts) moved
+        ∙ ap (λ (o : model.Problem). last_left engine o (rest_of job one_less.0 after free (at + bytes)).contexts) ((left_by c).answered (sym s.number));
   }

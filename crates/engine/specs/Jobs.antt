@@ -2,9 +2,9 @@
 use Rattle.std.specs.Prelude.{ℕ, ◌≤◌, ◌≡◌, Bool, true, List, T, length, take}
 use Rattle.model.specs.Commands as model
 use Rattle.model.specs.Commands.{basis_of, is_query_kind}
-use Rattle.model.specs.Rules.{Rules, engine}
-use Rattle.model.specs.Job.{run_by, written, buffer_after}
-use Rattle.model.specs.Records.{last_left}
+use Rattle.model.specs.Job.{run, written, buffer_after}
+use Rattle.model.specs.Calls.{Call}
+use Rattle.model.specs.Records.{last_record}
 use Rattle.problem.specs.declared.Problem.{Problem}
 use Rattle.problem.specs.declared.matrix.Matrix.{Matrix}
 use Rattle.problem.specs.Problems.{no_problem, Holds}
@@ -12,24 +12,19 @@ use Rattle.problem.specs.Matrix.{MatrixOf}
 use Rattle.incidence.specs.Stored.{BlocksAt}
 use Rattle.engine.specs.declared.job.Ended.{Ended}
 
--- how a job ends by the definitions, under some rules: what the call tells, every byte of the buffer, and K5's record: e has the one that the job
--- leaves, and held the vertices of its blocks
-module _ (rules : Rules) where
-  -- the record at the end of a job
-  abbrev pub last_by : List ℕ → ℕ → model.Problem
-  last_by job room = last_left rules model.empty (run_by rules job room).contexts
+-- a call: its job, the answer buffer before, what it returned, the buffer after
+abbrev pub called : List ℕ → List ℕ → ℕ → List ℕ → Call
+called job before returned after = record { job = job; before = before; returned = returned; after = after }
 
-  pub record EndsBy (job old new held : List ℕ) (e : Ended) : Type 0 where
-    pub number : e.number ≡ (run_by rules job (length old)).number
-    pub offset : e.offset ≡ (run_by rules job (length old)).offset
-    pub written : e.written ≡ length (written (run_by rules job (length old)))
-    pub after : new ≡ buffer_after (run_by rules job (length old)) old
-    pub problem : Holds e.problem (last_by job (length old))
-    pub blocks : BlocksAt (last_by job (length old)).cands held
-
--- the engine's
-abbrev pub EndsAs : List ℕ → List ℕ → List ℕ → List ℕ → Ended → Type 0
-EndsAs job old new held e = EndsBy engine job old new held e
+-- how a job ends by the definitions: what the call tells, every byte of the buffer, and K5's record: e has the one that the job leaves, and held
+-- the vertices of its blocks
+pub record EndsAs (job old new held : List ℕ) (e : Ended) : Type 0 where
+  pub number : e.number ≡ (run job (length old)).number
+  pub offset : e.offset ≡ (run job (length old)).offset
+  pub written : e.written ≡ length (written (run job (length old)))
+  pub after : new ≡ buffer_after (run job (length old)) old
+  pub problem : Holds e.problem (last_record (run job (length old)))
+  pub blocks : BlocksAt (last_record (run job (length old))).cands held
 
 -- a job that is not run
 abbrev pub too_long : Ended

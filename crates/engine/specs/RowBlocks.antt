@@ -1,9 +1,9 @@
 -- What the contracts of a block of R and B commands cite.
-use Rattle.std.specs.Prelude.{ℕ, ◌+◌, ◌≤◌, ◌<◌, ◌≡◌, cond, ◌||◌, List, T, ltb, get_or, length, drop}
+use Rattle.std.specs.Prelude.{ℕ, ◌+◌, ◌≤◌, ◌<◌, ◌≡◌, cond, List, ltb, get_or, length, drop}
 use Rattle.model.specs.Commands as model
-use Rattle.model.specs.Commands.{Context, is, kind_of}
+use Rattle.model.specs.Commands.{kind_of}
 use Rattle.model.specs.Refusals.{first_of}
-use Rattle.model.specs.Rules.{Rules, AsEngine}
+use Rattle.model.specs.Rules.{engine}
 use Rattle.model.specs.Job.{Run, commands, written}
 use Rattle.model.specs.Records.{last_left}
 use Rattle.model.specs.Invariants.{Valid}
@@ -20,35 +20,29 @@ pub record RowAt (s : Settings) (given job : List ℕ) (at : ℕ) : Type 0 where
   pub kind : kind_of (get_or job at 0) ≡ model.Kind.R
   pub accepted : 0 ≡ first_of (row_refusals s.n s.m given (get_or job (at + 1) 0) (get_or job (at + 2) 0) (get_or job (at + 3) 0))
 
--- rules that go as the engine's at every R and B
-abbrev pub RowsAsEngine : Rules → Type 0
-RowsAsEngine rules = (x : Context) → T (is x.kind model.Kind.R || is x.kind model.Kind.B) → AsEngine rules x
+-- what is left of a job's run: from `at` on with the problem q and so much free, at most so many commands
+abbrev pub rest_of : List ℕ → ℕ → model.Problem → ℕ → ℕ → Run
+rest_of job most q free at = commands engine most q (drop at job) free at
 
-module _ (rules : Rules) where
-  -- what is left of a job's run: from `at` on with the problem q and so much free, at most so many commands
-  abbrev pub rest_of : List ℕ → ℕ → model.Problem → ℕ → ℕ → Run
-  rest_of job most q free at = commands rules most q (drop at job) free at
+-- the rest of a run from q on is that from a later place on, where p holds the problem: the commands between are answered, write nothing and leave
+-- the candidates
+pub record GoesOn (job : List ℕ) (q : model.Problem) (r : Run) (free : ℕ) (p : Problem) (at : ℕ) : Type 0 where
+  pub problem : model.Problem
+  pub most : ℕ
+  pub enough : length job < at + most
+  pub holds : Holds p problem
+  pub valid : Valid problem
+  pub cands : problem.cands ≡ q.cands
+  pub number : r.number ≡ (rest_of job most problem free at).number
+  pub offset : r.offset ≡ (rest_of job most problem free at).offset
+  pub written : written r ≡ written (rest_of job most problem free at)
+  pub left : last_left engine q r.contexts ≡ last_left engine problem (rest_of job most problem free at).contexts
 
-  -- the rest of a run from q on is that from a later place on, where p holds the problem: the commands between are answered, write nothing and
-  -- leave the candidates
-  pub record GoesOn (job : List ℕ) (q : model.Problem) (r : Run) (free : ℕ) (p : Problem) (at : ℕ) : Type 0 where
-    pub problem : model.Problem
-    pub most : ℕ
-    pub enough : length job < at + most
-    pub holds : Holds p problem
-    pub valid : Valid problem
-    pub cands : problem.cands ≡ q.cands
-    pub number : r.number ≡ (rest_of job most problem free at).number
-    pub offset : r.offset ≡ (rest_of job most problem free at).offset
-    pub written : written r ≡ written (rest_of job most problem free at)
-    pub left : last_left rules q r.contexts ≡ last_left rules problem (rest_of job most problem free at).contexts
-
--- from `at` on with p, and from `behind` on with the record `next`, every run is the same, by any rules that go as the engine's at R and B
+-- from `at` on with p, and from `behind` on with the record `next`, every run is the same
 pub record ReadsRows (p : Problem) (job : List ℕ) (at : ℕ) (next : Problem) (behind : ℕ) : Type 0 where
   pub forward : at ≤ behind
   pub within : behind ≤ length job
-  pub in_problem : (rules : Rules) → RowsAsEngine rules → (q : model.Problem) → Holds p q → Valid q → (most free : ℕ) → length job < at + most
-      → GoesOn rules job q (rest_of rules job most q free at) free next behind
+  pub in_problem : (q : model.Problem) → Holds p q → Valid q → (most free : ℕ) → length job < at + most → GoesOn job q (rest_of job most q free at) free next behind
 
 -- and behind it a row may come
 pub record Reading (p : Problem) (job : List ℕ) (at : ℕ) (next : Problem) (behind : ℕ) : Type 0 where

@@ -1,9 +1,8 @@
 -- What the contract of a step cites: any command of a job, in the context that the definitions give it.
-use Rattle.std.specs.Prelude.{ℕ, ◌+◌, ◌≡◌, Bool, List, ◌++◌, T, get_or, length, drop}
+use Rattle.std.specs.Prelude.{ℕ, ◌+◌, ◌≡◌, Bool, List, T, get_or, length, drop}
 use Rattle.model.specs.Commands as model
 use Rattle.model.specs.Commands.{Context, basis_of, kind_of, is_query_kind, problem_after}
-use Rattle.model.specs.Answers.{bytes_of}
-use Rattle.model.specs.Rules.{Rules, refusal_by, refusal}
+use Rattle.model.specs.Rules.{refusal}
 use Rattle.model.specs.Invariants.{Valid}
 use Rattle.problem.specs.declared.Problem.{Problem}
 use Rattle.problem.specs.Problems.{Holds}
@@ -26,16 +25,3 @@ pub record Stepped (x : Context) (held sets old new : List ℕ) (e : Effect) : T
 pub record Steps (p : Problem) (held sets rows : List ℕ) (covered : Bool) (job : List ℕ) (at : ℕ) (old new : List ℕ) (e : Effect) : Type 0 where
   pub in_problem : (q : model.Problem) → Holds p q → BlocksAt q.cands held → Valid q → (T (is_query_kind (kind_of (get_or job at 0))) → MatrixOf (basis_of q) rows covered)
       → Stepped (context_at q job at (length old)) held sets old new e
-
--- ---- by any rules: what the laws of a loop over commands go by. A step of the engine meets it wherever the rules go as the engine's (law
--- `stepped_by`)
-
-pub record AnsweredBy (rules : Rules) (x : Context) (old new : List ℕ) (e : Effect) : Type 0 where
-  pub written : e.written ≡ length (bytes_of (rules.answer x))
-  pub bytes : new ≡ bytes_of (rules.answer x) ++ drop (length (bytes_of (rules.answer x))) old
-  pub problem : Holds e.problem (rules.after x)
-
-pub record SteppedBy (rules : Rules) (x : Context) (held sets old new : List ℕ) (e : Effect) : Type 0 where
-  pub number : e.number ≡ refusal_by rules x
-  pub refused : (e.number ≡ 0 → ⊥) → LeftAlone x old new e × (sets ≡ held)
-  pub answered : e.number ≡ 0 → AnsweredBy rules x old new e × BlocksAt (rules.after x).cands sets

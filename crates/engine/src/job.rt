@@ -38,7 +38,7 @@ pub fn pack(number: u8, offset: usize, written: usize) -> u64
 
 // The covering matrix that command k looks at: m as it stands where the command before was a query too, else made anew. Other commands look
 // at none.
-pub fn refresh(
+fn refresh(
     p: Problem,
     held: &[u64; 256],
     k: Kind,

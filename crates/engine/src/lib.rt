@@ -4,9 +4,9 @@
 // that the job leaves, for the program `dump`. `step` is any command of a job, `row_block` the R and B commands in one go, with
 // crate `eight_rows` for a B, `job` goes through them. The calls for Rattle are those of crate `library`.
 ghost use Rattle.std.specs.Prelude.{◌≡◌, []};
-ghost use Rattle.model.specs.Calls.{Met, called};
+ghost use Rattle.model.specs.Calls.{Met};
 ghost use Rattle.incidence.specs.Stored.{BlocksAt};
-ghost use Rattle.engine.specs.Jobs.{too_long, EndsAs};
+ghost use Rattle.engine.specs.Jobs.{too_long, EndsAs, called};
 
 use job::Ended;
 
@@ -15,7 +15,7 @@ pub mod row_block;
 pub mod step;
 
 // A job that is not run, for it or its buffer is too long: the record is the empty one.
-pub fn too_long() -> Ended
+fn too_long() -> Ended
     ensures { result ≡ too_long }
 {
     Ended {

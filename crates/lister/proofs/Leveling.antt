@@ -11,10 +11,10 @@ use lib.ListN.{length, get_or, set, length-set}
 use lib.Seq.{get_or-set_same, get_or-set_other}
 use lib.Bits.{bit_and, bit_or}
 use lib.Pow.{pow_pos, high, shr-shr}
-use Rattle.bits.specs.Bits.{digit, Part, Minus, Member, Highest, top}
+use Rattle.bits.specs.Bits.{digit, Part, Minus, Member, Highest}
 use Rattle.rows.specs.Covers.{Own, Between}
 use Rattle.lister_narrowing.specs.Narrowing.{IrredundantBetween, NoneBetween, Tightened}
-use Rattle.lister.specs.Levels.{OwnAt, NewAt, OwnLevels, KeptLevels, PossibleLevels}
+use Rattle.lister.specs.Levels.{top, OwnAt, NewAt, OwnLevels, KeptLevels, PossibleLevels}
 use Rattle.bits.proofs.Digits.{eq?, digit_lt, pow_here, pow_only}
 use Rattle.bits.proofs.Members.{and_left, and_right, and_both, or_left, or_right, not_zero}
 use Rattle.bits.proofs.Parts.{members, the_member}

@@ -1,7 +1,11 @@
 -- The levels above a number at: of level i, where at lacks i, are the sets that have i and above it what at has.
 use Rattle.std.specs.Prelude.{◌≡◌, List, ℕ, ◌+◌, ◌-◌, ◌*◌, ◌/◌, ◌^◌, ◌≤◌, ◌<◌, get_or}
-use Rattle.bits.specs.Bits.{digit, top}
+use Rattle.bits.specs.Bits.{digit}
 use Rattle.lister_narrowing.specs.Narrowing.{NoneBetween}
+
+-- the first multiple of 2^i above at: where level i begins
+unfoldable pub top : ℕ → ℕ → ℕ
+top at i = at / 2 ^ i * 2 ^ i + 2 ^ i
 
 -- at level i a row, whose members of at are own, can be b's own: it lacks i, and b is the only member of own above i
 pub record OwnAt (row own i b : ℕ) : Type 0 where

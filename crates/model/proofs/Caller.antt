@@ -22,7 +22,7 @@ module _ (rules : Rules) (law : Lawful rules) where
   read_written job room = read_answers (run_by rules job room).answers (run_fits rules law job room)
 
 module _ (rules : Rules) (law : Lawful rules) (c : Call) (m : MetBy rules c) where
-  e : Ends rules.largest c.job (length c.before) (ran_by rules c)
+  e : Ends c.job (length c.before) (ran_by rules c)
   e = ends rules law c.job (length c.before)
 
   number_is : number_of c ≡ (ran_by rules c).number

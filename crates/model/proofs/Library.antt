@@ -16,7 +16,7 @@ use Rattle.model.specs.Pages.{Rising, at_or_above, page, more, next_start}
 use Rattle.model.specs.Candidates.{Candidate, terms_alone, candidate_legal, Basis, usual, priced, basis, covering, HoldsExactly, LegalBasis}
 use Rattle.model.specs.Commands.{begun, Kind, allowed, Problem, Context, start, count, covering_of, table_of, prices_of}
 use Rattle.model.specs.Answers.{Answer, answer_for, answer}
-use Rattle.model.specs.Refusals.{largest_number, size, Refusal, refuse, first_of, refusals_of}
+use Rattle.model.specs.Refusals.{size, Refusal, refuse, first_of, refusals_of}
 use Rattle.model.specs.Rules.{engine}
 use Rattle.model.specs.Library.{unpack, call_basis, bad_vertex, refusals_of_word, call_refusals, Listed, list_covers, sets_of, joined_rows}
 use Rattle.model.specs.Invariants.{Small, SmallCandidate, Valid}
@@ -150,7 +150,7 @@ listed_legal p words a old z = (fair, subst⁻¹ (All (HoldsExactly b)) (listed_
 
     fair : LegalBasis b
     fair =
-        let h = first_none largest_number (call_refusals p words) (call_numbered p words) none in
+        let h = first_none (call_refusals p words) (call_numbered p words) none in
         legal_basis b (words_legal p words (all_left (λ (r : Refusal). T (not r.applies)) (join (map (refusals_of_word p) words)) last h.1.1.1))
 
 -- ---- the library call on what a job has

@@ -103,7 +103,6 @@ found_left = behind_ind engine engine_lawful Found (λ x. refl)
 
 without_lawful : Lawful without_weights
 without_lawful = record {
-  largest = engine_lawful.largest;
   numbered = engine_lawful.numbered;
   last = engine_lawful.last;
   sound = λ x a s. let r = engine_lawful.sound x a s in record { inputs = r.inputs; outputs = r.outputs; prices = r.prices; few = r.few; small = r.small; each_range = r.each_range; ranged = r.ranged; most = r.most };

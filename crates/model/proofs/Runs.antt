@@ -14,7 +14,7 @@ use Rattle.model.specs.Base.{join, All, Bytes}
 use Rattle.model.specs.Commands.{Kind, is, kind_of, width, allowed, Problem, Context, empty}
 use Rattle.model.specs.Answers.{bytes_of}
 use Rattle.model.specs.Refusals.{largest_number, Refusal, refuse, first_of}
-use Rattle.model.specs.Rules.{Rules, AsEngine, refusals_by, refusal_by, refusal}
+use Rattle.model.specs.Rules.{Rules, refusals_by, refusal_by}
 use Rattle.model.specs.Job.{Run, stop, answer_then, commands, run_by, RefusedAt, Judged, written}
 use Rattle.model.specs.Invariants.{Sound}
 use Rattle.model.proofs.Read.{Fits}
@@ -22,34 +22,31 @@ use Rattle.model.proofs.Lists.{twice, not_not, T_true, T_false, all_append, all_
 
 -- ---- what an answered command has passed
 
--- the numbers that a command can be refused by: up to some largest one, and up to the engine's
-abbrev pub NumberedTo : ℕ → Refusal → Type 0
-NumberedTo most r = (3 ≤ r.no) × (r.no ≤ most)
-
+-- the numbers that a command can be refused by
 abbrev pub Numbered : Refusal → Type 0
-Numbered r = NumberedTo largest_number r
+Numbered r = (3 ≤ r.no) × (r.no ≤ largest_number)
 
-pub first_none : (most : ℕ) (rs : List Refusal) → All (NumberedTo most) rs → first_of rs ≡ 0 → All (λ r. T (not r.applies)) rs
-first_none most [] a e = tt
-first_none most (r ∷ rs) a e = go r.applies e (first_none most rs a.1)
+pub first_none : (rs : List Refusal) → All Numbered rs → first_of rs ≡ 0 → All (λ r. T (not r.applies)) rs
+first_none [] a e = tt
+first_none (r ∷ rs) a e = go r.applies e (first_none rs a.1)
   where
     go : (b : Bool) → cond b r.no (first_of rs) ≡ 0 → (first_of rs ≡ 0 → All (λ r. T (not r.applies)) rs) → T (not b) × All (λ r. T (not r.applies)) rs
     go true e h = absurd (omega (arith, a.0.0))
     go false e h = (tt, h e)
 
-first_ge : (most : ℕ) (rs : List Refusal) → All (NumberedTo most) rs → (first_of rs ≡ 0) ⊎ (3 ≤ first_of rs)
-first_ge most [] a = inl refl
-first_ge most (r ∷ rs) a = go r.applies (first_ge most rs a.1)
+first_ge : (rs : List Refusal) → All Numbered rs → (first_of rs ≡ 0) ⊎ (3 ≤ first_of rs)
+first_ge [] a = inl refl
+first_ge (r ∷ rs) a = go r.applies (first_ge rs a.1)
   where
     go : (b : Bool) → (first_of rs ≡ 0) ⊎ (3 ≤ first_of rs) → (cond b r.no (first_of rs) ≡ 0) ⊎ (3 ≤ cond b r.no (first_of rs))
     go true h = inr a.0.0
     go false h = h
 
-first_le : (most : ℕ) (rs : List Refusal) → All (NumberedTo most) rs → first_of rs ≤ most
-first_le most [] a = omega arith
-first_le most (r ∷ rs) a = go r.applies (first_le most rs a.1)
+first_le : (rs : List Refusal) → All Numbered rs → first_of rs ≤ largest_number
+first_le [] a = omega arith
+first_le (r ∷ rs) a = go r.applies (first_le rs a.1)
   where
-    go : (b : Bool) → first_of rs ≤ most → cond b r.no (first_of rs) ≤ most
+    go : (b : Bool) → first_of rs ≤ largest_number → cond b r.no (first_of rs) ≤ largest_number
     go true h = a.0.1
     go false h = h
 
@@ -107,16 +104,10 @@ not_refused rules x h =
 
 -- what rules keep: the numbers of their refusals, 13, and the sizes of problems and answers
 pub record Lawful (rules : Rules) : Type 0 where
-  pub largest : 14 ≤ rules.largest
-  pub numbered : (x : Context) → All (NumberedTo rules.largest) (rules.own x)
+  pub numbered : (x : Context) → All Numbered (rules.own x)
   pub last : (x : Context) → T (is x.kind Kind.E) → NoneApplies (rules.own x) → length x.rest ≡ 0
   pub sound : (x : Context) → NoneApplies (rules.own x) → Sound x.problem → Sound (rules.after x)
   pub fits : (x : Context) → NoneApplies (rules.own x) → Sound x.problem → Fits (rules.answer x) × (Bytes x.rest → Bytes (bytes_of (rules.answer x)))
-
--- rules that go as the engine's at a command refuse it as the engine does
-pub refused_alike : (rules : Rules) (x : Context) → AsEngine rules x → refusal_by rules x ≡ refusal x
-unfolding refusal_by refusals_by
-refused_alike rules x a = rw (a.own, a.answer)
 
 -- "tried in this order": a command at a wrong place is refused by 4, its operands missing or not
 pub place_first : (rules : Rules) (x : Context) → T (not (is x.kind Kind.none)) → T (not (allowed x.kind x.problem.place)) → refusal_by rules x ≡ 4
@@ -141,23 +132,20 @@ own_refusal rules x n a l e =
     without_room (r ∷ rs) = ap (λ (n : ℕ). cond r.applies r.no n) (without_room rs)
 
 module _ (rules : Rules) (law : Lawful rules) where
-  all_numbered : (x : Context) → All (NumberedTo rules.largest) (refusals_by rules x)
+  all_numbered : (x : Context) → All Numbered (refusals_by rules x)
   unfolding refusals_by
   all_numbered x =
       let last = refuse 14 (ltb x.free (length (bytes_of (rules.answer x)))) ∷ [] in
-      let l = law.largest in (
-        (omega arith, omega (arith, l)),
-        ((omega arith, omega (arith, l)), ((omega arith, omega (arith, l)), all_append (NumberedTo rules.largest) (rules.own x) last (law.numbered x) ((omega arith, l), tt))),
-      )
+      (omega arith, (omega arith, (omega arith, all_append Numbered (rules.own x) last (law.numbered x) (omega arith, tt))))
 
-  refusal_le : (x : Context) → refusal_by rules x ≤ rules.largest
+  refusal_le : (x : Context) → refusal_by rules x ≤ largest_number
   unfolding refusal_by
-  refusal_le x = first_le rules.largest (refusals_by rules x) (all_numbered x)
+  refusal_le x = first_le (refusals_by rules x) (all_numbered x)
 
   -- a refusal at a command has a number of 3 or more
   refusal_ge : (x : Context) → T (not (eqb (refusal_by rules x) 0)) → 3 ≤ refusal_by rules x
   unfolding refusal_by
-  refusal_ge x n = go (first_ge rules.largest (refusals_by rules x) (all_numbered x))
+  refusal_ge x n = go (first_ge (refusals_by rules x) (all_numbered x))
     where
       go : (first_of (refusals_by rules x) ≡ 0) ⊎ (3 ≤ first_of (refusals_by rules x)) → 3 ≤ first_of (refusals_by rules x)
       go (inl e) = absurd (rw e at n)
@@ -166,7 +154,7 @@ module _ (rules : Rules) (law : Lawful rules) where
   pub passed : (x : Context) → refusal_by rules x ≡ 0 → Passed rules x
   unfolding refusal_by refusals_by
   passed x e =
-      let h = first_none rules.largest (refusals_by rules x) (all_numbered x) e in
+      let h = first_none (refusals_by rules x) (all_numbered x) e in
       let last = refuse 14 (ltb x.free (length (bytes_of (rules.answer x)))) ∷ [] in
       record {
         named = h.0;
@@ -270,20 +258,20 @@ run_long rules job room t = rw (T_true {b = ltb 32768 (length job) || ltb 32768 
 
 -- ---- where a job stops, and how much it writes
 
--- with `end` where the job's bytes end, and no number above `most`
-record Stops (most end free : ℕ) (r : Run) : Type 0 where
+-- with `end` where the job's bytes end
+record Stops (end free : ℕ) (r : Run) : Type 0 where
   accepted : r.number ≡ 0 → r.offset ≡ end
   cut : r.number ≡ 2 → r.offset ≡ end
   refused : 3 ≤ r.number → r.offset < end
   numbers : (r.number ≡ 0) ⊎ (2 ≤ r.number)
-  number_le : r.number ≤ most
+  number_le : r.number ≤ largest_number
   fits : length (join (map bytes_of r.answers)) ≤ free
 
-abbrev Where : ℕ → OnRuns
-Where most q bs free at r = Stops most (at + length bs) free r
+abbrev Where : OnRuns
+Where q bs free at r = Stops (at + length bs) free r
 
 module _ (rules : Rules) (law : Lawful rules) where
-  stops_refused : IfRefused rules (Where rules.largest)
+  stops_refused : IfRefused rules Where
   stops_refused q b bs free at n =
       let g = refusal_ge rules law (context q b bs free) n in
       record {
@@ -295,7 +283,7 @@ module _ (rules : Rules) (law : Lawful rules) where
         fits = omega arith;
       }
 
-  stops_ends : IfEnds rules (Where rules.largest)
+  stops_ends : IfEnds rules Where
   stops_ends q b bs free at h z i = record {
     accepted = λ e. omega (arith, law.last (context q b bs free) i h.own);
     cut = λ e. absurd (omega (arith, e));
@@ -305,7 +293,7 @@ module _ (rules : Rules) (law : Lawful rules) where
     fits = omega (arith, h.room, length-append (bytes_of (rules.answer (context q b bs free))) []);
   }
 
-  stops_goes : IfGoes rules (Where rules.largest)
+  stops_goes : IfGoes rules Where
   stops_goes q b bs free at h z i r s = record {
     accepted = λ e. omega (arith, same, s.accepted e);
     cut = λ e. omega (arith, same, s.cut e);
@@ -322,20 +310,20 @@ not_one : (n : ℕ) → (n ≡ 0) ⊎ (2 ≤ n) → n ≡ 1 → ⊥
 not_one n (inl e) f = omega arith
 not_one n (inr h) f = omega arith
 
-pub record Ends (most : ℕ) (job : List ℕ) (room : ℕ) (r : Run) : Type 0 where
+pub record Ends (job : List ℕ) (room : ℕ) (r : Run) : Type 0 where
   pub accepted : r.number ≡ 0 → r.offset ≡ length job
   pub too_long : r.number ≡ 1 → (r.offset ≡ 0) × (length (written r) ≡ 0)
   pub cut : r.number ≡ 2 → r.offset ≡ length job
   pub refused : 3 ≤ r.number → r.offset < length job
   pub fits : length (written r) ≤ room
-  pub number_small : r.number ≤ most
+  pub number_small : r.number ≤ largest_number
   pub offset_small : r.offset ≤ 32768
   pub written_small : length (written r) ≤ 32768
 
 module _ (rules : Rules) (law : Lawful rules) where
-  pub ends : (job : List ℕ) (room : ℕ) → Ends rules.largest job room (run_by rules job room)
+  pub ends : (job : List ℕ) (room : ℕ) → Ends job room (run_by rules job room)
   unfolding written
-  ends job room = run_ind rules law (Where rules.largest) stops_short (stops_refused rules law) (stops_ends rules law) (stops_goes rules law) (Ends rules.largest job room) job room
+  ends job room = run_ind rules law Where stops_short (stops_refused rules law) (stops_ends rules law) (stops_goes rules law) (Ends job room) job room
       (λ l. none)
       (λ l m r s. record {
         accepted = λ e. omega (arith, s.accepted e);
@@ -348,29 +336,29 @@ module _ (rules : Rules) (law : Lawful rules) where
         written_small = omega (arith, s.fits);
       })
     where
-      stops_short : IfShort rules (Where rules.largest)
+      stops_short : IfShort rules Where
       stops_short q free at = record {
         accepted = λ e. absurd (omega (arith, e));
         cut = λ e. omega arith;
         refused = λ g. absurd (omega (arith, g));
         numbers = inr (omega arith);
-        number_le = omega (arith, law.largest);
+        number_le = omega arith;
         fits = omega arith;
       }
 
-      none : Ends rules.largest job room (stop 1 0 [])
+      none : Ends job room (stop 1 0 [])
       none = record {
         accepted = λ e. absurd (omega (arith, e));
         too_long = λ e. (refl, refl);
         cut = λ e. absurd (omega (arith, e));
         refused = λ g. absurd (omega (arith, g));
         fits = omega arith;
-        number_small = omega (arith, law.largest);
+        number_small = omega arith;
         offset_small = omega arith;
         written_small = omega arith;
       }
 
-      offs : (r : Run) → Where rules.largest empty job room 0 r → length job ≤ 32768 → r.offset ≤ 32768
+      offs : (r : Run) → Where empty job room 0 r → length job ≤ 32768 → r.offset ≤ 32768
       offs r s l = go r.number s.numbers (λ e. omega (arith, s.accepted e)) (λ e. omega (arith, s.cut e)) (λ g. omega (arith, s.refused g))
         where
           go : (n : ℕ) → (n ≡ 0) ⊎ (2 ≤ n) → (n ≡ 0 → r.offset ≡ length job) → (n ≡ 2 → r.offset ≡ length job) → (3 ≤ n → r.offset < length job) → r.offset ≤ 32768

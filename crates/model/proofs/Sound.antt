@@ -351,7 +351,6 @@ none_behind t a = omega (arith, nltb→le 0 (length t.rest) a.0)
 pub engine_lawful : Lawful engine
 unfolding answer
 engine_lawful = record {
-  largest = omega arith;
   numbered = λ x. refusals_of_no x x.kind;
   last = λ x e a. none_behind x (subst (λ (k : Kind). NoneApplies (refusals_of x k)) (is_kind x.kind Kind.E e) a);
   sound = λ x. after_sound x x.kind;

@@ -4,6 +4,7 @@ use Rattle.model.specs.Base.{filter, Bytes}
 use Rattle.model.specs.Table.{Term, term}
 use Rattle.model.specs.Commands.{number}
 use Rattle.model.specs.Answers.{Answer, bytes_of, has_bytes}
+use Rattle.model.specs.Refusals.{largest_number}
 use Rattle.model.specs.Rules.{Rules, engine}
 use Rattle.model.specs.Job.{Run, run_by, written, packed, buffer_after}
 
@@ -48,9 +49,6 @@ pub record Call : Type 0 where
   pub returned : ℕ
   pub after : List ℕ
 
-abbrev pub called : List ℕ → List ℕ → ℕ → List ℕ → Call
-called job before returned after = record { job = job; before = before; returned = returned; after = after }
-
 -- "number × 2^32 + offset × 2^16 + written" taken apart
 abbrev pub number_of : Call → ℕ
 number_of c = c.returned / 2 ^ 32
@@ -88,7 +86,7 @@ module _ (rules : Rules) where
     pub whole : length c.after ≡ length c.before
     pub small : Bytes c.job → Bytes c.before → Bytes c.after
     -- demand 1: an accepted result, or one numbered refusal with its offset
-    pub numbered : number_of c ≤ rules.largest
+    pub numbered : number_of c ≤ largest_number
     pub accepted : number_of c ≡ 0 → offset_of c ≡ length c.job
     pub too_long : number_of c ≡ 1 → (offset_of c ≡ 0) × (written_of c ≡ 0)
     pub cut : number_of c ≡ 2 → offset_of c ≡ length c.job

@@ -55,7 +55,7 @@ abbrev pub unweighted : Problem → Problem
 unweighted q = with_cands q.cands [] q.ranges q
 
 abbrev pub without_weights : Rules
-without_weights = record { largest = engine.largest; own = engine.own; answer = engine.answer; after = λ x. unweighted (engine.after x) }
+without_weights = record { own = engine.own; answer = engine.answer; after = λ x. unweighted (engine.after x) }
 
 -- by them no command finds a weight or leaves one (law `none_weighed`)
 pub record NoWeightAt (x : Context) : Type 0 where

@@ -11,7 +11,7 @@ use Rattle.model.specs.Ranges.{Range}
 use Rattle.model.specs.Candidates.{Prices}
 use Rattle.model.specs.Commands.{Kind, Problem, Context, operand, Row, row_of_r, rows_of_b, add_row, operand_term, operand_block, operand_number, range_of_g, covering_of, table_of, operand_prices}
 
--- the engine's largest number
+-- the largest number
 abbrev pub largest_number : ℕ
 largest_number = 19
 

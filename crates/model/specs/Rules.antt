@@ -1,18 +1,17 @@
 -- Paper 01, "Job stream" and "When a job stops": what a job goes by, command by command. The engine's rules are one instance.
-use Rattle.std.specs.Prelude.{ℕ, ◌≡◌, not, List, [], ◌∷◌, ◌++◌, ltb, length}
+use Rattle.std.specs.Prelude.{ℕ, not, List, [], ◌∷◌, ◌++◌, ltb, length}
 use Rattle.model.specs.Commands.{Kind, is, allowed, width, Problem, Context, problem_after}
 use Rattle.model.specs.Answers.{Answer, bytes_of, answer}
-use Rattle.model.specs.Refusals.{largest_number, Refusal, refuse, first_of, refusals_of}
+use Rattle.model.specs.Refusals.{Refusal, refuse, first_of, refusals_of}
 
--- a command's own refusals; its answer, and the problem after it, where it is not refused; and the largest number that they give
+-- a command's own refusals; its answer, and the problem after it, where it is not refused
 pub record Rules : Type 0 where
-  pub largest : ℕ
   pub own : Context → List Refusal
   pub answer : Context → Answer
   pub after : Context → Problem
 
 abbrev pub engine : Rules
-engine = record { largest = largest_number; own = λ x. refusals_of x x.kind; answer = answer; after = λ x. problem_after x x.kind }
+engine = record { own = λ x. refusals_of x x.kind; answer = answer; after = λ x. problem_after x x.kind }
 
 module _ (rules : Rules) where
   -- 3 "the byte is no command"; 4 "the command is not allowed at this place"; 5 "operand bytes are missing"; the command's own;
@@ -27,12 +26,6 @@ module _ (rules : Rules) where
 
   unfoldable pub refusal_by : Context → ℕ
   refusal_by x = first_of (refusals_by x)
-
--- rules that go as the engine's at a command
-pub record AsEngine (rules : Rules) (x : Context) : Type 0 where
-  pub own : rules.own x ≡ engine.own x
-  pub answer : rules.answer x ≡ engine.answer x
-  pub after : rules.after x ≡ engine.after x
 
 abbrev pub refusal : Context → ℕ
 refusal x = refusal_by engine x

@@ -16,7 +16,7 @@ use lister::cursor;
 use problem::{Problem, products};
 
 // A query that was answered with so many bytes, or whose answer is too long.
-pub fn replied(p: Problem, reply: Reply) -> Effect
+fn replied(p: Problem, reply: Reply) -> Effect
     ensures { result ≡ replied_as p reply }
 {
     match reply {

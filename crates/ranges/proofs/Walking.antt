@@ -13,15 +13,16 @@ use lib.Dec.{leb}
 use Rattle.model.specs.Base.{filter}
 use Rattle.model.specs.Pages.{Rising, at_or_above}
 use Rattle.model.proofs.Lists.{filter_e}
-use Rattle.bits.specs.Bits.{digit, top}
-use Rattle.bits.proofs.Multiples.{top_le, top_zero}
+use Rattle.bits.specs.Bits.{digit}
 use Rattle.bits.proofs.Members.{above, within, lacks_bit}
 use Rattle.rows.specs.Covers.{IrredundantCover, Between, row_covers}
 use Rattle.lister.specs.declared.cursor.FoundSet.{FoundSet}
 use Rattle.lister.specs.declared.cursor.FoundSet.TheVariants.{At, Nothing}
 use Rattle.lister.specs.declared.cursor.Cursor.{Cursor}
+use Rattle.lister.specs.Levels.{top}
 use Rattle.lister.specs.Lister.{coming_to, coming, sought, advanced}
 use Rattle.lister.specs.Selected.{Passed, room}
+use Rattle.lister.proofs.Climbing.{top_le, top_zero}
 use Rattle.lister.proofs.Listing.{Standing, row_covers_lem, row_covers_rising}
 use Rattle.lister.proofs.Selecting.{moved_on, selected_none, selected_found, selected_on, passed_to, passed_one, room_falls}
 use Rattle.ranges.specs.Listed.{Listed, row_possibles}

@@ -1,11 +1,10 @@
-//! The engine and the part behind their C interface, called over buffers with guards on both sides.
+//! The engine behind its C interface, called over buffers with guards on both sides.
 
 use crate::generate::Case;
-use crate::reference::{Layer, Outcome, LONGEST};
+use crate::reference::{Outcome, LONGEST};
 
 extern "C" {
     fn cover_job(job: *const u8, job_len: usize, answers: *mut u8, answers_len: usize) -> u64;
-    fn part_job(job: *const u8, job_len: usize, answers: *mut u8, answers_len: usize) -> u64;
 }
 
 const GUARD: usize = 64;
@@ -38,18 +37,9 @@ impl Seen {
     }
 }
 
-/// Calls the engine.
+/// Calls the engine. The case's bytes behind the job lie in memory behind it, so that an engine
+/// that reads past the job's length is seen to do so.
 pub fn call(case: &Case, before: &[u8]) -> Seen {
-    call_at(Layer::Engine, case, before)
-}
-
-/// Calls either product. The case's bytes behind the job lie in memory behind it, so that one that
-/// reads past the job's length is seen to do so.
-pub fn call_at(layer: Layer, case: &Case, before: &[u8]) -> Seen {
-    let exported = match layer {
-        Layer::Engine => cover_job,
-        Layer::Part => part_job,
-    };
     let memory = [case.job.as_slice(), case.behind.as_slice()].concat();
     let mut job = memory.clone();
     let guard = pattern(GUARD, 0x3c);
@@ -57,7 +47,7 @@ pub fn call_at(layer: Layer, case: &Case, before: &[u8]) -> Seen {
     let end = GUARD + before.len();
     // Both pointers reach over the guards, so that the compiler may not take these as unchanged.
     let (from, to) = (job.as_mut_ptr(), lent.as_mut_ptr());
-    let packed = unsafe { exported(from, case.job.len(), to.add(GUARD), before.len()) };
+    let packed = unsafe { cover_job(from, case.job.len(), to.add(GUARD), before.len()) };
     Seen {
         packed,
         guards_kept: lent[..GUARD] == guard && lent[end..] == guard,
@@ -68,18 +58,13 @@ pub fn call_at(layer: Layer, case: &Case, before: &[u8]) -> Seen {
 
 /// The bytes that the engine writes for a job that it should accept.
 pub fn answers(job: &[u8]) -> Result<Vec<u8>, String> {
-    answers_at(Layer::Engine, job)
-}
-
-/// The same of either product.
-pub fn answers_at(layer: Layer, job: &[u8]) -> Result<Vec<u8>, String> {
     let case = Case {
         job: job.to_vec(),
         behind: Vec::new(),
         room: LONGEST,
     };
     let before = pattern(LONGEST, 0x5a);
-    let seen = call_at(layer, &case, &before);
+    let seen = call(&case, &before);
     let written = seen.packed as usize & 0xffff;
     if seen.packed >> 16 != job.len() as u64 {
         return Err(format!("it gave {:#x}", seen.packed));

@@ -3,7 +3,7 @@
 //! To add a command:
 //!
 //! 1. here: an entry in `COMMANDS`, with a kind of operand of its own where none fits, and
-//!    `LAST_NUMBER` where it brings a number (`LAST_NUMBER_OF_PART` where the part alone gives it);
+//!    `LAST_NUMBER` where it brings a number;
 //! 2. `reference/job.rs`: where it may stand (`allowed`), what refuses it and what it does
 //!    (`command`), from the paper's text. The table stands still from the first T, A, F, P, L, C,
 //!    N, G or V on; the candidates do not, and a command that changes them forgets the covers found
@@ -25,15 +25,12 @@
 //!     answer there, and which refusal a mere reordering may bring;
 //! 12. `ready.rs`: whether it stays where a block stands in for a term;
 //! 13. `ranged.rs` and `without_ranges.rs`: whether it goes by the ranges, and that all others stay
-//!     without them;
-//! 14. `reference/job/queries.rs` and `part.rs`: what the part makes of it, which has an own answer to L
-//!     alone; `generate/purpose_part.rs`: its borders there.
+//!     without them.
 //!
 //! A stored job that has it needs `stored.rs` too. Every command at every place, damage, cuts and
 //! moved or doubled commands go by the table, and a run fails where a command was never accepted
 //! or never met one of the refusals that its entry names (`tally.rs`).
 
-use crate::reference::Layer;
 use Operand::{Candidate, Inputs, Number, Outputs, Price, Size, Vertices, Weight};
 
 /// The rows of a B.
@@ -41,9 +38,6 @@ pub const BLOCK: usize = 8;
 
 /// The largest number of a refusal. Each from 0 on must come in every run.
 pub const LAST_NUMBER: u64 = 19;
-
-/// The same at the part: 20 is at its L alone.
-pub const LAST_NUMBER_OF_PART: u64 = 20;
 
 /// What an operand is: how many bytes it has, and what damage puts there (`generate/damage.rs`).
 #[derive(Clone, Copy)]
@@ -240,18 +234,14 @@ impl Command {
         [&[self.byte], self.good].concat()
     }
 
-    /// Every number that this product can refuse it with.
-    pub fn numbers(&self, layer: Layer) -> Vec<u64> {
+    /// Every number that it can be refused with.
+    pub fn numbers(&self) -> Vec<u64> {
         let early: &[u64] = if self.operands.is_empty() {
             &[4]
         } else {
             &[4, 5]
         };
-        let own: &[u64] = match (layer, self.byte) {
-            (Layer::Part, b'L') => &[LAST_NUMBER_OF_PART],
-            _ => &[],
-        };
-        [early, self.refusals, own].concat()
+        [early, self.refusals].concat()
     }
 }
 

@@ -1,8 +1,7 @@
-//! Compares the engine and the part with a brute-force reference on generated jobs, and checks the
-//! stored ones.
+//! Compares the engine with a brute-force reference on generated jobs, and checks the stored ones.
 //!
 //! Arguments, all optional: seed, count of jobs, and the word `trace` to print each job before
-//! the engine and the part get it (for one that does not come back).
+//! the engine gets it (for an engine that does not come back).
 
 mod charged;
 mod cubes;
@@ -15,7 +14,6 @@ mod fresh;
 mod generate;
 mod implicants;
 mod listing;
-mod part;
 mod products;
 mod ranged;
 mod ready;
@@ -31,15 +29,15 @@ mod walk;
 mod without_ranges;
 
 use generate::{Case, Ordered};
-use reference::{Layer, Outcome, LAYERS};
-use report::{agreed, hex, matches, report, report_blocks, report_still, report_wrong};
+use reference::Outcome;
+use report::{hex, matches, report, report_blocks, report_wrong};
 use rng::Rng;
 use std::process::ExitCode;
 use std::time::{Duration, Instant};
 use tally::Tally;
 
 const SEED: u64 = 20_240_229;
-const COUNT: usize = 66_000;
+const COUNT: usize = 62_000;
 /// Each case of this stride is asked twice and, with no more room than this, kept for the threads.
 const STRIDE: usize = 50;
 const MOST_ROOM_KEPT: usize = 1_000;
@@ -49,8 +47,6 @@ const THREADS: usize = 4;
 struct Run {
     passed: usize,
     skipped: usize,
-    /// Of the others, those that the reference has at the engine alone.
-    skipped_at_part: usize,
     tally: Tally,
     slowest: Duration,
     kept: Vec<(Case, Outcome)>,
@@ -66,7 +62,6 @@ fn main() -> ExitCode {
     let mut run = Run {
         passed: 0,
         skipped: 0,
-        skipped_at_part: 0,
         tally: Tally::new(),
         slowest: Duration::ZERO,
         kept: Vec::new(),
@@ -118,12 +113,11 @@ fn jobs(rng: &mut Rng, run: &mut Run, count: usize) -> bool {
         };
     }
     println!(
-        "{} jobs in {:.1} s, slowest call {:.1} ms, {} more too large for the reference, {} at the part",
+        "{} jobs in {:.1} s, slowest call {:.1} ms, {} more too large for the reference",
         turn - run.skipped,
         start.elapsed().as_secs_f64(),
         run.slowest.as_secs_f64() * 1e3,
-        run.skipped,
-        run.skipped_at_part
+        run.skipped
     );
     !same
 }
@@ -223,20 +217,17 @@ fn one(run: &mut Run, case: &Case, turn: usize) -> bool {
     // Nothing is kept between calls: a second call gives the same.
     let again = turn % STRIDE != 0 || engine::call(case, &before) == seen;
     if !matches(&expected, &seen) || !again {
-        report(Layer::Engine, case, &before);
+        report(case, &before);
         return false;
     }
     run.passed += 1;
-    run.tally.add(Layer::Engine, &case.job, &expected);
+    run.tally.add(&case.job, &expected);
     run.tally.add_blocks_met(&case.job, &expected);
     run.tally.add_ranges_met(&case.job, &expected);
     if !as_promised(run, case, &before, &expected) {
         return false;
     }
     if expected.number == 0 && !accepted(run, &case.job) {
-        return false;
-    }
-    if !at_the_part(run, case, &before, &expected, turn) {
         return false;
     }
     if turn % STRIDE == 0 && case.room <= MOST_ROOM_KEPT {
@@ -249,57 +240,6 @@ fn one(run: &mut Run, case: &Case, turn: usize) -> bool {
         ));
     }
     true
-}
-
-/// The same job at the part; false when it differs there, or is not as K12 says.
-fn at_the_part(
-    run: &mut Run,
-    case: &Case,
-    before: &[u8],
-    of_engine: &Outcome,
-    turn: usize,
-) -> bool {
-    let Some(expected) = of_part(case, before, of_engine) else {
-        run.skipped_at_part += 1;
-        return true;
-    };
-    let start = Instant::now();
-    let seen = engine::call_at(Layer::Part, case, before);
-    run.slowest = run.slowest.max(start.elapsed());
-    let again = turn % STRIDE != 0 || engine::call_at(Layer::Part, case, before) == seen;
-    if !matches(&expected, &seen) || !again {
-        report(Layer::Part, case, before);
-        return false;
-    }
-    run.passed += 1;
-    run.tally.add(Layer::Part, &case.job, &expected);
-    match part::check(case, [of_engine, &expected]) {
-        Ok(held) => run.tally.add_part(&held),
-        Err(wrong) => {
-            println!("MISMATCH: {wrong}");
-            report_still(Layer::Part, case, before, |case| is_no_part(case, before));
-            return false;
-        }
-    }
-    true
-}
-
-/// The reference's outcome at the part. Where no L is come to it is the engine's. Where pages are shorter
-/// there the job may come to a list that is too much for the reference.
-fn of_part(case: &Case, before: &[u8], of_engine: &Outcome) -> Option<Outcome> {
-    let (read, rest) = case.job.split_at(of_engine.offset);
-    if rest.first() == Some(&b'L') || format::has(read, b"L") {
-        return reference::run_at(Layer::Part, &case.job, before);
-    }
-    Some(of_engine.clone())
-}
-
-/// True when both agree on both outcomes of a job, and these are not as K12 says.
-fn is_no_part(case: &Case, before: &[u8]) -> bool {
-    let [Some(engine), Some(part)] = LAYERS.map(|layer| agreed(layer, case, before)) else {
-        return false;
-    };
-    part::check(case, [&engine, &part]).is_err()
 }
 
 /// What K3, document 000, K6 to K11 say of an outcome on which engine and reference agree.
@@ -502,7 +442,7 @@ fn after_jobs(run: &Run) -> usize {
         complain(true, complaint);
     }
     complain(
-        (run.skipped + run.skipped_at_part) * 20 > run.passed,
+        run.skipped * 20 > run.passed,
         "too many jobs were too large for the reference".into(),
     );
     complain(
@@ -518,11 +458,8 @@ fn threads_agree(kept: &[(Case, Outcome)]) -> bool {
         let turn = |i: usize| &kept[(i * (2 * first + 1) + first) % kept.len()];
         (0..kept.len()).all(|i| {
             let (case, was) = turn(i);
-            LAYERS.iter().all(|&layer| {
-                let expected = reference::run_at(layer, &case.job, &was.buffer);
-                let seen = engine::call_at(layer, case, &was.buffer);
-                expected.is_none_or(|expected| matches(&expected, &seen))
-            })
+            let expected = reference::run(&case.job, &was.buffer).expect("it was run before");
+            matches(&expected, &engine::call(case, &was.buffer))
         })
     };
     std::thread::scope(|scope| {

@@ -3,7 +3,7 @@
 use crate::engine;
 use crate::expanded;
 use crate::generate::Case;
-use crate::reference::{self, Layer, Outcome};
+use crate::reference::{self, Outcome};
 
 pub fn matches(expected: &Outcome, seen: &engine::Seen) -> bool {
     expected.packed() == seen.packed
@@ -16,10 +16,10 @@ pub fn hex(bytes: &[u8]) -> String {
     bytes.iter().map(|byte| format!("{byte:02x}")).collect()
 }
 
-/// True when product and reference differ on this case.
-fn differs(layer: Layer, case: &Case, before: &[u8]) -> bool {
-    let expected = reference::run_at(layer, &case.job, before);
-    expected.is_some_and(|expected| !matches(&expected, &engine::call_at(layer, case, before)))
+/// True when engine and reference differ on this case.
+fn differs(case: &Case, before: &[u8]) -> bool {
+    let expected = reference::run(&case.job, before);
+    expected.is_some_and(|expected| !matches(&expected, &engine::call(case, before)))
 }
 
 /// True when a job does not come out as the one with R for B.
@@ -28,10 +28,10 @@ fn breaks_blocks(case: &Case, before: &[u8]) -> bool {
     expected.is_some_and(|expected| expanded::check(case, before, &expected).is_err())
 }
 
-/// The outcome on which product and reference agree, if they do.
-pub fn agreed(layer: Layer, case: &Case, before: &[u8]) -> Option<Outcome> {
-    let expected = reference::run_at(layer, &case.job, before)?;
-    matches(&expected, &engine::call_at(layer, case, before)).then_some(expected)
+/// The outcome on which engine and reference agree, if they do.
+fn agreed(case: &Case, before: &[u8]) -> Option<Outcome> {
+    let expected = reference::run(&case.job, before)?;
+    matches(&expected, &engine::call(case, before)).then_some(expected)
 }
 
 /// Takes bytes out of the job, large pieces first, as long as it is still wrong.
@@ -52,11 +52,11 @@ pub fn shrink(case: &Case, wrong: impl Fn(&Case) -> bool) -> Case {
     small
 }
 
-pub fn report(layer: Layer, case: &Case, before: &[u8]) {
-    describe(layer, "MISMATCH", case, before);
-    if differs(layer, case, before) {
-        let small = shrink(case, |case| differs(layer, case, before));
-        describe(layer, "the same, shrunk", &small, before);
+pub fn report(case: &Case, before: &[u8]) {
+    describe("MISMATCH", case, before);
+    if differs(case, before) {
+        let small = shrink(case, |case| differs(case, before));
+        describe("the same, shrunk", &small, before);
     } else {
         println!("the first call and the second one differ");
     }
@@ -70,39 +70,24 @@ pub fn report_blocks(case: &Case, before: &[u8]) {
             job: expanded::expand(&case.job).job,
             ..case.clone()
         };
-        describe(Layer::Engine, &format!("{title}, B"), case, before);
-        describe(
-            Layer::Engine,
-            &format!("{title}, R for B"),
-            &by_rows,
-            before,
-        );
+        describe(&format!("{title}, B"), case, before);
+        describe(&format!("{title}, R for B"), &by_rows, before);
     }
 }
 
 /// An outcome on which both agree is not what document 000 or K6 to K11 say: the job, also shrunk.
 pub fn report_wrong(case: &Case, before: &[u8], wrong: impl Fn(&Case, &Outcome) -> bool) {
-    report_still(Layer::Engine, case, before, |case| {
-        agreed(Layer::Engine, case, before).is_some_and(|outcome| wrong(case, &outcome))
-    });
+    describe("MISMATCH", case, before);
+    let still = |case: &Case| agreed(case, before).is_some_and(|outcome| wrong(case, &outcome));
+    let small = shrink(case, still);
+    describe("the same, shrunk", &small, before);
 }
 
-/// A job and the smaller one that is still wrong.
-pub fn report_still(layer: Layer, case: &Case, before: &[u8], wrong: impl Fn(&Case) -> bool) {
-    describe(layer, "MISMATCH", case, before);
-    let small = shrink(case, wrong);
-    describe(layer, "the same, shrunk", &small, before);
-}
-
-fn describe(layer: Layer, title: &str, case: &Case, before: &[u8]) {
-    let expected = reference::run_at(layer, &case.job, before).expect("it was run before");
-    let seen = engine::call_at(layer, case, before);
-    let name = match layer {
-        Layer::Engine => "engine",
-        Layer::Part => "part",
-    };
+fn describe(title: &str, case: &Case, before: &[u8]) {
+    let expected = reference::run(&case.job, before).expect("it was run before");
+    let seen = engine::call(case, before);
     println!(
-        "{title} of the {name}: job of {} bytes, answer buffer of {}",
+        "{title}: job of {} bytes, answer buffer of {}",
         case.job.len(),
         case.room
     );
@@ -118,7 +103,7 @@ fn describe(layer: Layer, title: &str, case: &Case, before: &[u8]) {
         seen.packed >> 16 & 0xffff,
         seen.packed & 0xffff,
     );
-    println!("  {name:9} {number} {offset} {written}");
+    println!("  engine    {number} {offset} {written}");
     println!(
         "            {}",
         hex(&seen.buffer[..seen.buffer.len().min(written as usize)])
@@ -126,7 +111,7 @@ fn describe(layer: Layer, title: &str, case: &Case, before: &[u8]) {
     let first = (0..before.len()).find(|&i| expected.buffer[i] != seen.buffer[i]);
     first.into_iter().for_each(|i| {
         println!(
-            "  first differing byte: {i}, reference {:02x}, {name} {:02x}",
+            "  first differing byte: {i}, reference {:02x}, engine {:02x}",
             expected.buffer[i], seen.buffer[i]
         );
     });

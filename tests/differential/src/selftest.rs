@@ -5,7 +5,6 @@ mod changes;
 mod cubes;
 mod drawn;
 mod order;
-mod part;
 mod presence;
 mod prices;
 mod products;
@@ -20,7 +19,7 @@ pub use products::multiplied;
 
 use crate::format::COMMANDS;
 use crate::generate::{draft, page, row, term, Draft};
-use crate::reference::{self, of_terms, Layer, Prices, Query, Term, LONGEST};
+use crate::reference::{self, of_terms, Prices, Query, Term, LONGEST};
 use crate::rng::Rng;
 
 pub const EXAMPLE: &str = "49 02 02 52 00 00 01 52 01 01 02 52 02 03 00 52 03 02 00 54 01 00 01 \
@@ -131,9 +130,6 @@ pub struct Checks {
     pub wrong: Vec<String>,
 }
 
-/// Number, offset and written.
-type Stopped = (u64, usize, usize);
-
 impl Checks {
     fn check(&mut self, name: &str, right: bool) {
         if right {
@@ -143,15 +139,10 @@ impl Checks {
         }
     }
 
-    /// The reference accepts the job of the engine and writes just these bytes.
+    /// The reference accepts the job and writes just these bytes.
     fn accepts(&mut self, name: &str, job: &[u8], expected: &[u8]) {
-        self.accepts_at(Layer::Engine, name, job, expected);
-    }
-
-    /// The same of either product.
-    fn accepts_at(&mut self, layer: Layer, name: &str, job: &[u8], expected: &[u8]) {
         let before = vec![0xa5; LONGEST];
-        let out = reference::run_at(layer, job, &before).expect("small enough");
+        let out = reference::run(job, &before).expect("small enough");
         let right = out.number == 0 && out.offset == job.len() && out.written == expected.len();
         let kept = out.buffer[out.written..] == before[out.written..];
         self.check(
@@ -160,14 +151,13 @@ impl Checks {
         );
     }
 
-    fn refuses(&mut self, name: &str, job: &[u8], room: usize, expected: Stopped) {
-        self.refuses_at(Layer::Engine, name, job, room, expected);
-    }
-
-    fn refuses_at(&mut self, layer: Layer, name: &str, job: &[u8], room: usize, due: Stopped) {
-        let out = reference::run_at(layer, job, &vec![0xa5; room]).expect("small enough");
+    fn refuses(&mut self, name: &str, job: &[u8], room: usize, expected: (u64, usize, usize)) {
+        let out = reference::run(job, &vec![0xa5; room]).expect("small enough");
         let kept = out.buffer[out.written..].iter().all(|&byte| byte == 0xa5);
-        self.check(name, kept && (out.number, out.offset, out.written) == due);
+        self.check(
+            name,
+            kept && (out.number, out.offset, out.written) == expected,
+        );
     }
 }
 
@@ -193,7 +183,6 @@ pub fn run(rng: &mut Rng) -> Checks {
     products::run(&mut checks, rng);
     ready::run(&mut checks, rng);
     ranges::run(&mut checks, rng);
-    part::run(&mut checks, rng);
     order::run(&mut checks, rng);
     drawn::run(&mut checks, rng);
     checks

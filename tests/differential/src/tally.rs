@@ -1,16 +1,13 @@
-//! What a run has met: how often each number came and what became of each command, at the engine and
-//! at the part (`tally/numbers.rs`), what was held to the promises of K2, K3, K6 to K12 and to document
-//! 000, what the records showed, and, at each C of the drawn jobs, how often K1 and the prices changed
-//! cost or set of the cheapest and how often the cost was held to the rival's. A run fails where one of
-//! these never came. The jobs made on purpose do not count for L and C, nor for the rows of B and for W:
-//! the marked cases and each row are among them, so that no count could stay at 0. For P, N, F, G, V and
-//! the part they are counted apart.
+//! What a run has met: how often each number came, what became of each command, what was held to
+//! the promises of K2, K3, K6 to K11 and to document 000, what the records showed, and, at each C
+//! of the drawn jobs, how often K1 and the prices changed cost or set of the cheapest and how often
+//! the cost was held to the rival's. A run fails where one of these never came. The jobs made on
+//! purpose do not count for L and C, nor for the rows of B and for W: the marked cases and each row
+//! are among them, so that no count could stay at 0. For P, N, F, G and V they are counted apart.
 
 mod blocks;
 mod cubes;
-mod numbers;
 mod order;
-mod part;
 mod presence;
 mod prices;
 mod products;
@@ -22,33 +19,32 @@ use crate::charged;
 use crate::cubes::Held as HeldPrimes;
 use crate::dump;
 use crate::expanded;
-use crate::format;
+use crate::format::{self, Command, COMMANDS, LAST_NUMBER};
 use crate::fresh::Held;
 use crate::implicants;
 use crate::listing;
-use crate::part::Held as HeldPart;
 use crate::products::Held as HeldProducts;
 use crate::ranged::Held as HeldRanges;
 use crate::ready::Held as HeldBlocks;
-use crate::reference::{self, Asked, Candidate, Covers, Layer, Outcome, Prices, Query, LAYERS};
+use crate::reference::{self, Asked, Candidate, Covers, Outcome, Prices, Query};
 use crate::reordered;
 use crate::report::hex;
 use crate::without_ranges;
 use blocks::Blocks;
 use cubes::Primes;
-use numbers::Numbers;
 use order::Orders;
-use part::Fitted;
 use presence::Presences;
 use prices::Priced;
 use products::Multiplied;
 use ranges::Ranges;
 use ready::Ready;
 use records::Records;
+use std::collections::BTreeMap;
 
 pub struct Tally {
-    /// At the engine and at the part.
-    numbers: [Numbers; 2],
+    numbers: [usize; LAST_NUMBER as usize + 1],
+    /// By command and number, how many jobs stopped there; under 0 the accepted jobs that have it.
+    commands: BTreeMap<(u8, u64), usize>,
     /// Whether the jobs that are added now are drawn.
     pub drawn: bool,
     changes: Changes,
@@ -62,7 +58,6 @@ pub struct Tally {
     orders: Orders,
     ready: Ready,
     ranges: Ranges,
-    fitted: Fitted,
 }
 
 /// The accepted drawn jobs whose candidates come and go.
@@ -92,7 +87,8 @@ struct Cheapest {
 impl Tally {
     pub fn new() -> Tally {
         Tally {
-            numbers: LAYERS.map(Numbers::new),
+            numbers: [0; LAST_NUMBER as usize + 1],
+            commands: BTreeMap::new(),
             drawn: false,
             changes: Changes::default(),
             blocks: Blocks::default(),
@@ -105,12 +101,25 @@ impl Tally {
             orders: Orders::default(),
             ready: Ready::default(),
             ranges: Ranges::default(),
-            fitted: Fitted::default(),
         }
     }
 
-    pub fn add(&mut self, layer: Layer, job: &[u8], outcome: &Outcome) {
-        self.numbers[layer as usize].add(job, outcome);
+    pub fn add(&mut self, job: &[u8], outcome: &Outcome) {
+        self.numbers[outcome.number as usize] += 1;
+        let mut bytes: Vec<u8> = if outcome.number == 0 {
+            let whole = format::cut(job).expect("an accepted job is a list of commands");
+            whole.iter().map(|command| command[0]).collect()
+        } else if outcome.number > 3 {
+            vec![job[outcome.offset]]
+        } else {
+            // 1 to 3 are met before there is a command.
+            vec![]
+        };
+        bytes.sort_unstable();
+        bytes.dedup();
+        for byte in bytes {
+            *self.commands.entry((byte, outcome.number)).or_insert(0) += 1;
+        }
     }
 
     /// An accepted job. The engine's answers are the reference's by now, so the reference's are
@@ -167,11 +176,6 @@ impl Tally {
     /// A job that was held to the one without G and V.
     pub fn add_without_ranges(&mut self, held: &without_ranges::Held) {
         self.ranges.add_without(held, self.drawn);
-    }
-
-    /// A job that was held to K12 at the part.
-    pub fn add_part(&mut self, held: &HeldPart) {
-        self.fitted.add(held, self.drawn);
     }
 
     /// A job that was held to the one with blocks for terms.
@@ -242,8 +246,15 @@ impl Tally {
         }
     }
 
+    /// How often each number came, and the pair of command and number that came least.
     pub fn print(&self) {
-        self.numbers.iter().for_each(Numbers::print);
+        let times = self.numbers.iter().enumerate();
+        let times: Vec<String> = times.map(|(i, n)| format!("{i}: {n}")).collect();
+        println!("how often each number came: {}", times.join(", "));
+        if let Some((&(byte, number), times)) = self.commands.iter().min_by_key(|pair| pair.1) {
+            let command = char::from(byte);
+            println!("least often: {command} with number {number}, {times} times");
+        }
         self.changes.print();
         self.blocks.print();
         self.presences.print();
@@ -255,14 +266,27 @@ impl Tally {
         self.orders.print();
         self.ready.print();
         self.ranges.print();
-        self.fitted.print();
     }
 
     /// What should have come and did not, and what came that the table of commands does not name.
     pub fn complaints(&self) -> Vec<String> {
         let mut list = Vec::new();
-        for numbers in &self.numbers {
-            list.extend(numbers.complaints());
+        for (number, &times) in self.numbers.iter().enumerate() {
+            if times == 0 {
+                list.push(format!("number {number} never came"));
+            }
+        }
+        let wanted = wanted();
+        for &(byte, number) in &wanted {
+            if !self.commands.contains_key(&(byte, number)) {
+                list.push(format!("{} never met number {number}", char::from(byte)));
+            }
+        }
+        for pair in self.commands.keys().filter(|pair| !wanted.contains(pair)) {
+            let (byte, number) = (char::from(pair.0), pair.1);
+            list.push(format!(
+                "{byte} met number {number}, not named in format.rs"
+            ));
         }
         list.extend(self.changes.complaints());
         list.extend(self.blocks.complaints());
@@ -275,7 +299,6 @@ impl Tally {
         list.extend(self.orders.complaints());
         list.extend(self.ready.complaints());
         list.extend(self.ranges.complaints());
-        list.extend(self.fitted.complaints());
         list
     }
 }
@@ -376,4 +399,14 @@ fn cheapest_before(candidates: &[Candidate], covers: &[u64]) -> (u64, u64) {
     };
     let with_cost = covers.iter().map(|&set| (cost(set), set));
     with_cost.min().expect("C was answered")
+}
+
+/// Each command with each number that it must meet, 0 among them.
+fn wanted() -> Vec<(u8, u64)> {
+    let of_command = |command: &Command| {
+        let numbers = [vec![0], command.numbers()].concat();
+        let byte = command.byte;
+        numbers.into_iter().map(move |number| (byte, number))
+    };
+    COMMANDS.iter().flat_map(of_command).collect()
 }

@@ -8,9 +8,6 @@ use crate::reference::{Block, Candidate, Outcome, Table, Term, VERTEX_BYTES};
 
 /// An L, C, N or V with its answer or the number of its refusal.
 pub struct Query<'a> {
-    /// Its offset, and the answer bytes before it.
-    pub at: usize,
-    pub answered: usize,
     pub command: &'a [u8],
     pub answer: Result<&'a [u8], u64>,
 }
@@ -31,37 +28,26 @@ pub struct Standing<'a> {
 pub type Ends = [u64; 2];
 
 /// The L, C, N and V commands that were answered, and the one that was refused with 12 or, what is
-/// tried behind it, with 17, 20 or 14. None where the answers are not as long as the commands need.
+/// tried behind it, with 17 or 14. None where the answers are not as long as the commands need.
 pub fn walk<'a>(job: &'a [u8], outcome: &'a Outcome) -> Option<Vec<Standing<'a>>> {
     let (before, command) = job.split_at(outcome.offset);
     let mut answers = &outcome.buffer[..outcome.written];
     let mut standing = Standing::new();
     let mut list = Vec::new();
-    let mut at = 0;
     for command in format::cut(before)? {
-        let answered = outcome.written - answers.len();
         let (answer, rest) = answers.split_at_checked(width(command[0], answers)?)?;
         answers = rest;
         if is_query(command) {
-            standing.queries.push(Query {
-                at,
-                answered,
-                command,
-                answer: Ok(answer),
-            });
+            let answer = Ok(answer);
+            standing.queries.push(Query { command, answer });
         } else {
             list.extend(standing.asked());
             standing.set(command, answer);
         }
-        at += command.len();
     }
-    if matches!(outcome.number, 12 | 17 | 20 | 14) && is_query(command) {
-        standing.queries.push(Query {
-            at,
-            answered: outcome.written,
-            command,
-            answer: Err(outcome.number),
-        });
+    if matches!(outcome.number, 12 | 17 | 14) && is_query(command) {
+        let answer = Err(outcome.number);
+        standing.queries.push(Query { command, answer });
     }
     list.extend(standing.asked());
     answers.is_empty().then_some(list)

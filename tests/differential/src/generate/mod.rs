@@ -6,7 +6,6 @@ mod bytes;
 mod changes;
 mod damage;
 mod draft;
-mod limit_tables;
 mod order;
 mod prices;
 mod products;
@@ -15,7 +14,6 @@ mod purpose_blocks;
 mod purpose_changes;
 mod purpose_cubes;
 mod purpose_order;
-mod purpose_part;
 mod purpose_prices;
 mod purpose_products;
 mod purpose_ranges;
@@ -37,7 +35,6 @@ pub use products::{drawn_plan, Plan};
 pub use purpose::on_purpose;
 pub use purpose_cubes::{cubes_on_purpose, two_corners};
 pub use purpose_order::{orders_on_purpose, Ordered};
-pub use purpose_part::part_on_purpose;
 pub use purpose_prices::prices_on_purpose;
 pub use purpose_products::{by_orders, counted, products_on_purpose};
 pub use purpose_ranges::ranges_on_purpose;
@@ -59,14 +56,13 @@ pub struct Case {
 
 /// The next cases of a run, drawn.
 pub fn next(rng: &mut Rng) -> Vec<Case> {
-    match rng.below(442) {
+    match rng.below(412) {
         0..=219 => vec![sound::case(rng)],
         220..=339 => vec![damage::damaged(rng)],
         340..=387 => vec![damage::wild(rng)],
         388..=395 => vec![damage::noise(rng)],
         396 | 397 => vec![products::case(rng)],
         400..=411 => vec![purpose_order::case(rng)],
-        412..=441 => vec![limit_tables::case(rng)],
         398 => {
             let job = sound::short(rng).job();
             let room = need(&job).unwrap_or(0) + rng.below(3);

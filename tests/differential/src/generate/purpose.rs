@@ -5,7 +5,6 @@ use super::draft::{draft, page, row, term, Draft};
 use super::purpose_blocks;
 use super::purpose_changes;
 use super::purpose_cubes;
-use super::purpose_part;
 use super::purpose_prices;
 use super::purpose_products;
 use super::purpose_ranges;
@@ -36,7 +35,6 @@ pub fn on_purpose(rng: &mut Rng) -> Vec<Case> {
     list.extend(purpose_products::products_on_purpose(rng));
     list.extend(purpose_ready::ready_on_purpose(rng));
     list.extend(purpose_ranges::ranges_on_purpose(rng));
-    list.extend(purpose_part::part_on_purpose(rng));
     list
 }
 

@@ -70,13 +70,6 @@ impl Candidate {
         }
     }
 
-    pub fn outputs(self) -> u8 {
-        match self {
-            Candidate::Term(t) => t.outputs,
-            Candidate::Block(b) => b.outputs,
-        }
-    }
-
     /// What refusal 10 speaks of.
     pub fn holds_off_cell(self, table: &Table) -> bool {
         let mut cells = table.cells();

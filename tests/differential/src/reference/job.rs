@@ -5,7 +5,6 @@ mod queries;
 
 use super::candidate::{of_terms, Block, Candidate};
 use super::covers::Covers;
-use super::part::Layer;
 use super::prices::{Prices, HIGHEST};
 use super::products::Products;
 use super::ranges::Range;
@@ -48,8 +47,6 @@ pub enum Stop {
 /// The problem so far and what the order of commands depends on.
 #[derive(Clone)]
 pub struct Problem {
-    /// Which product has it: L answers by that.
-    layer: Layer,
     pub table: Option<Table>,
     /// By W, once it came.
     pub prices_set: Option<Prices>,
@@ -69,30 +66,21 @@ pub struct Problem {
     possibly_cheapest: Option<Vec<u64>>,
 }
 
-/// Runs a job of the engine over a buffer; None when it is more work than the reference takes on.
+/// Runs a job over a buffer; None when it is more work than the reference takes on.
 pub fn run(job: &[u8], buffer: &[u8]) -> Option<Outcome> {
-    run_at(Layer::Engine, job, buffer)
+    left_by(job, buffer).map(|(outcome, _)| outcome)
 }
 
-/// The same of either product.
-pub fn run_at(layer: Layer, job: &[u8], buffer: &[u8]) -> Option<Outcome> {
-    left_at(layer, job, buffer).map(|(outcome, _)| outcome)
-}
-
-/// The outcome of a job of the engine, and the problem as its last command left it. A job that is
-/// too long has no command.
+/// The outcome of a job, and the problem as its last command left it. A job that is too long has
+/// no command.
 pub fn left_by(job: &[u8], buffer: &[u8]) -> Option<(Outcome, Problem)> {
-    left_at(Layer::Engine, job, buffer)
-}
-
-fn left_at(layer: Layer, job: &[u8], buffer: &[u8]) -> Option<(Outcome, Problem)> {
     let mut out = Outcome {
         number: 0,
         offset: 0,
         written: 0,
         buffer: buffer.to_vec(),
     };
-    let mut problem = Problem::at(layer);
+    let mut problem = Problem::new();
     if job.len() > LONGEST || buffer.len() > LONGEST {
         out.number = 1;
         return Some((out, problem));
@@ -137,7 +125,7 @@ pub struct Asked {
     pub queries: Vec<Query>,
 }
 
-/// What a job asks of the engine; None when it is refused, and when it is more work than the reference takes on.
+/// What a job asks; None when it is refused, and when it is more work than the reference takes on.
 pub fn asked(job: &[u8]) -> Option<Asked> {
     let mut problem = Problem::new();
     let mut queries = Vec::new();
@@ -173,14 +161,8 @@ fn refuse_if(wrong: bool, number: u64) -> Result<(), Stop> {
 }
 
 impl Problem {
-    /// The engine's.
     pub fn new() -> Problem {
-        Problem::at(Layer::Engine)
-    }
-
-    fn at(layer: Layer) -> Problem {
         Problem {
-            layer,
             table: None,
             prices_set: None,
             has_row: [false; 256],

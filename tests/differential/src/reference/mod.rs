@@ -5,7 +5,6 @@ mod candidate;
 mod covers;
 mod cubes;
 mod job;
-mod part;
 mod presence;
 mod prices;
 mod products;
@@ -21,9 +20,8 @@ pub use covers::{
 };
 pub use cubes::{cube_number, cube_of, spread, weight, Cubes, ENTRIES};
 pub use job::{
-    asked, left_by, run, run_at, Asked, Outcome, Problem, Query, Stop, LONGEST, MOST_CANDIDATES,
+    asked, left_by, run, Asked, Outcome, Problem, Query, Stop, LONGEST, MOST_CANDIDATES,
 };
-pub use part::{fits_part, Layer, LAYERS, MOST_FOR_OUTPUT, MOST_MEMBERS};
 pub use presence::{delta, implicants, points, prime_implicants, sum, Presence};
 pub use prices::{Prices, HIGHEST};
 pub use products::{

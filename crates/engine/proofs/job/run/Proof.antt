@@ -10,16 +10,15 @@ use borrow.Rule.Slice.PartMut.{same_len_mid}
 use Rattle.model.specs.Commands.{Kind, kind_of, is, is_query_kind, width}
 use Rattle.codec.specs.Kinds.{kind_is}
 use Rattle.problem.proofs.Keeping.{reached_sized, reached_alone}
-use Rattle.model.specs.Rules.{engine}
-use Rattle.engine.specs.Steps.{SteppedBy, context_at}
+use Rattle.engine.specs.Steps.{Stepped, context_at}
 use Rattle.engine.specs.Jobs.{IsMatrix}
-use Rattle.engine.proofs.Running.{stepped_by, engine_kept, engine_alike, Going, going_first, long, done_le, reached, tail, with_tail, going_cut, going_refused, going_ended, going_next, room_left, width_fits}
+use Rattle.engine.proofs.Running.{Going, going_first, long, done_le, reached, tail, with_tail, going_cut, going_refused, going_ended, going_next, room_left, width_fits}
 use Rattle.engine.proofs.RowBlocks.{going_behind}
 use Rattle.engine.proofs.job.run.Statement.{statement}
 use Rattle.engine.proofs.job.run.Tie as tie
 
 abbrev invariant-loop : tie.invariant-loop
-invariant-loop job answers₀ held₀ p₀ rows₀ m₀ ready₀ at₀ written₀ answers held p rows m ready at written = Going engine job answers₀ answers held p rows m ready at written
+invariant-loop job answers₀ held₀ p₀ rows₀ m₀ ready₀ at₀ written₀ answers held p rows m ready at written = Going job answers₀ answers held p rows m ready at written
 
 abbrev decreases-loop : tie.decreases-loop
 decreases-loop job answers₀ held₀ p₀ rows₀ m₀ ready₀ at₀ written₀ answers held p rows m ready at written = length job - at
@@ -59,11 +58,11 @@ next-matrix c e = let f = c.before.before in let l = f.before.before.before.befo
 
 -- the step in the problem that the invariant names
 stepped : (c : tie.After-step invariant-loop decreases-loop) → let k = c.before.before.before.before.before.before.before.before.before.before.before.before in
-    let l = k.loop in let free = tail l.written l.answers in SteppedBy engine
+    let l = k.loop in let free = tail l.written l.answers in Stepped
     (context_at l.invariant.problem k.before.before.before.before.args.job.now l.at (length free)) l.held c.step.new.1.0 free c.step.new.1.1.1.1.1.1.0
     c.step.result
 stepped c = let f = c.before.before.before.before.before.before in
-    let i = f.before.before.before.before.before.before.loop.invariant in stepped_by (engine_alike _) (c.step.ensures.in_problem i.problem i.holds i.blocks i.valid (matrix-is f))
+    let i = f.before.before.before.before.before.before.loop.invariant in c.step.ensures.in_problem i.problem i.holds i.blocks i.valid (matrix-is f)
 
 -- the command is answered and applied
 next : (c : tie.After-width-of invariant-loop decreases-loop) → let c9 = c.before.before.before.before.before.before.before.before.before in
@@ -71,12 +70,12 @@ next : (c : tie.After-width-of invariant-loop decreases-loop) → let c9 = c.bef
     c9.step in let q =
     c9.before.before.before.before in let k =
     c9.before.before.before.before.before.before.before.before.before.before.before.before in let l =
-    k.loop in let a = k.before.before.before.before.args in let r = q.before.before.refresh in Going engine a.job.now
+    k.loop in let a = k.before.before.before.before.args in let r = q.before.before.refresh in Going a.job.now
     a.answers.now (with_tail l.written l.answers s.last.1.1.1.1.1.1.0) s.last.1.0 s.result.problem
     r.last.1.1.1.1.1.0 r.result q.is-query.result (l.at + 1 + c.width_of_lem.result) (l.written + s.result.written)
 next c = let c4 = c.before.before.before.before in let c9 = c4.before.before.before.before.before in
     let e = c.before.before in let t = c9 in let q = c9.before.before.before.before in let l = c9.before.before.before.before.before.before.before.before.before.before.before in
-    let r = q.before.before.refresh.ensures in going_next l.before.loop.invariant l.loop-test.true (stepped t) engine_kept
+    let r = q.before.before.refresh.ensures in going_next l.before.loop.invariant l.loop-test.true (stepped t)
     c4.if1.false refl r.size r.within (next-matrix q) (sym (end_is e) ∙ c.before.if2.false) (width_is c)
 
 empty-requires : tie.Need-empty-requires invariant-loop decreases-loop
@@ -132,7 +131,7 @@ returns c = let c5 = c.before.before.before.before.before in
 add-written : tie.Need-overflow-add-written invariant-loop decreases-loop
 add-written c = let c6 = c.before.before.before.before.before.before in
     let t = c6 in let l = c6.before.before.before.before.before.before.before.before.before.before.before in
-    omega (arith, room_left l.before.loop.invariant l.loop-test.true (stepped t) engine_kept c.before.if1.false, l.before.before.before.before.before.requires.0.1)
+    omega (arith, room_left l.before.loop.invariant l.loop-test.true (stepped t) c.before.if1.false, l.before.before.before.before.before.requires.0.1)
 
 is-end-requires : tie.Need-is-end-requires invariant-loop decreases-loop
 is-end-requires c κs = tt
@@ -149,7 +148,7 @@ same-length-2 c = let t = c.before.before.before.before.before.before.before.bef
 returns-2 : tie.Need-returns-2 invariant-loop decreases-loop
 returns-2 c = let c3 = c.before.before.before in let c8 = c3.before.before.before.before.before in
     let e = c.before in let t = c8 in let l = c8.before.before.before.before.before.before.before.before.before.before.before in
-    going_ended l.before.loop.invariant l.loop-test.true (stepped t) engine_kept c3.if1.false (sym (end_is e) ∙ c.if2.true) refl
+    going_ended l.before.loop.invariant l.loop-test.true (stepped t) c3.if1.false (sym (end_is e) ∙ c.if2.true) refl
 
 add_at : tie.Need-overflow-add-at invariant-loop decreases-loop
 add_at c = let l = c.before.before.before.before.before.before.before.before.before.before.before.before.before.before.before.before.before.before.before in omega
@@ -161,7 +160,7 @@ width-of-requires c κs = tt
 add-at-2 : tie.Need-overflow-add-at-2 invariant-loop decreases-loop
 add-at-2 c = let c4 = c.before.before.before.before in let c9 = c4.before.before.before.before.before in
     let l = c9.before.before.before.before.before.before.before.before.before.before.before in
-    let w = width_fits l.before.loop.invariant l.loop-test.true (stepped c9) engine_kept c4.if1.false in omega
+    let w = width_fits l.before.loop.invariant l.loop-test.true (stepped c9) c4.if1.false in omega
     (arith, l.loop-test.true, l.before.before.before.before.before.requires.0.0, w, width_is c)
 
 starts-requires : tie.Need-starts-requires invariant-loop decreases-loop
@@ -178,7 +177,7 @@ loop-less c =
     (arith, l.loop-test.taken, c.before.read-rows.ensures.forward)
 
 loop-again : tie.Need-loop-preserved invariant-loop decreases-loop
-loop-again c = going_behind (λ x t. engine_alike x) (next c.before.before.before.before) c.before.read-rows.ensures
+loop-again c = going_behind (next c.before.before.before.before) c.before.read-rows.ensures
 
 loop-less-2 : tie.Need-loop-smaller-2 invariant-loop decreases-loop
 loop-less-2 c =

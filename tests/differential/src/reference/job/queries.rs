@@ -1,8 +1,7 @@
-//! L, C, N and V: what they answer, and 12, 17 and 20.
+//! L, C, N and V: what they answer, and 12 and 17.
 
-use super::{refuse_if, Problem, Stop};
+use super::{Problem, Stop};
 use crate::reference::covers::{cheapest, irredundant_covers, Covers};
-use crate::reference::part::{fits_part, Layer};
 use crate::reference::products::{products, Products};
 use crate::reference::ranges::possibly_cheapest;
 
@@ -35,14 +34,8 @@ impl Problem {
         }
     }
 
-    /// L: every irredundant cover at the engine, those that fit at the part.
     pub(super) fn page(&mut self, ops: &[u8]) -> Result<Vec<u8>, Stop> {
-        let mut list = self.covers()?.to_vec();
-        if self.layer == Layer::Part {
-            list.retain(|&set| fits_part(&self.candidates, set));
-            refuse_if(list.is_empty(), 20)?;
-        }
-        Ok(page_of(0x6c, &list, ops))
+        Ok(page_of(0x6c, self.covers()?, ops))
     }
 
     /// V: the list is found once, and anew when candidates or ranges have changed since.
