@@ -9,7 +9,7 @@ ghost use Rattle.answers.specs.Writers.{InFront, Replied};
 use model::Term;
 
 // How many bytes an answer has, or that it is longer than the free part.
-#[derive(Drop)]
+#[derive(Clone, Copy)]
 pub enum Reply {
     Written(usize),
     TooLong,

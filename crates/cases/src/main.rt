@@ -1,4 +1,5 @@
 // Runs the paper's marked cases and run cases, one with blocks and one with ranges of prices, as jobs in files, and prints what the engine returns and writes.
+#![tactic(auto)]
 use libc::STDOUT_FILENO;
 
 // Runs the job and prints its result; of more than 1,000 answer bytes only how many.

@@ -11,7 +11,7 @@ use cheapest_nodes::plan;
 use cheapest_nodes::plan::Next;
 
 // The cheapest cover and its cost, or that there is no cover.
-#[derive(Drop)]
+#[derive(Clone, Copy)]
 pub enum Optimum {
     Cover(u64, u64),
     Nothing,

@@ -8,7 +8,7 @@ use crate::costs;
 use bits::set;
 
 // What the rows have taken in all, and what is left of the cost of each candidate.
-#[derive(Drop)]
+#[derive(Clone, Copy)]
 pub struct Duals {
     pub sum: u64,
     pub left: [u16; 64],

@@ -9,7 +9,7 @@ use bits::set;
 pub const NO_COST: u64 = 64 * 65536 + 1;
 
 // A set and its cost: the best cover known, or a cost to stay below.
-#[derive(Drop)]
+#[derive(Clone, Copy)]
 pub struct Incumbent {
     pub cost: u64,
     pub set: u64,

@@ -7,7 +7,7 @@ use bits::set;
 use cheapest_bounds::costs;
 
 // How a search for a cover goes on from a set: it is done, no cover is left, or this candidate is tried.
-#[derive(Drop)]
+#[derive(Clone, Copy)]
 pub enum Choice {
     Done,
     Lost,

@@ -10,7 +10,7 @@ use cheapest_bounds::{ascent, disjoint};
 
 // Nothing is left to find; the set is a cover; the first candidates fall into the second ones and the rest; or, of the first, this one
 // is tried.
-#[derive(Drop)]
+#[derive(Clone, Copy)]
 pub enum Next {
     Cut,
     Done,

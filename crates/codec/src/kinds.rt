@@ -5,7 +5,7 @@ ghost use Rattle.model.specs.Commands.{kind_of, is, width, is_query_kind, allowe
 ghost use Rattle.codec.specs.Kinds.{kind_is, formed, Describes, early_refusal};
 
 // The commands by their letters; None is a byte that is no command.
-#[derive(Drop)]
+#[derive(Clone, Copy)]
 pub enum Kind {
     I,
     W,
@@ -50,7 +50,7 @@ pub fn kind_of(b: u8) -> Kind
 }
 
 // What describes a command: its byte (0 for none), the width of its operands, the last place at which it may stand, and whether it is a query.
-#[derive(Drop)]
+#[derive(Clone, Copy)]
 pub struct Form {
     pub code: u8,
     pub width: usize,

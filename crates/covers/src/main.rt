@@ -1,4 +1,5 @@
 // Runs the job on standard input, with an answer buffer of 32,768 bytes, and prints its result and its answers.
+#![tactic(auto)]
 use libc::STDIN_FILENO;
 
 fn main() {

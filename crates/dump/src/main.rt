@@ -16,6 +16,7 @@
 // No `ensures` here is on what is printed: what stands on standard output is in no contract of `io`. It is asked for by `requires`: the record is
 // the job's, a term or a block is the one that the job has there, the weight of a term is what it costs at the record's prices, and the range is the
 // candidate's.
+#![tactic(auto)]
 ghost use Rattle.std.specs.Prelude.{◌≡◌, cond, [], ◌<◌};
 ghost use Rattle.model.specs.Ranges.{between};
 ghost use Rattle.model.specs.Candidates.{Candidate, term_cost};

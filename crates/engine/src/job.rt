@@ -13,7 +13,7 @@ use problem::matrix::Matrix;
 use problem::{Problem, matrix};
 
 // How a job ended: its number, its offset, how many answer bytes it wrote, and the record that its last command left.
-#[derive(Drop)]
+#[derive(Clone, Copy)]
 pub struct Ended {
     pub number: u8,
     pub offset: usize,

@@ -3,6 +3,7 @@
 // `cover_job` is what a C program links to; its contract cites only definitions of crate `model`. `run_job` is the same with the record
 // that the job leaves, for the program `dump`. `step` is any command of a job, `row_block` the R and B commands in one go, with
 // crate `eight_rows` for a B, `job` goes through them. The calls for Rattle are those of crate `library`.
+#![tactic(auto)]
 ghost use Rattle.std.specs.Prelude.{◌≡◌, []};
 ghost use Rattle.model.specs.Calls.{Met};
 ghost use Rattle.incidence.specs.Stored.{BlocksAt};

@@ -12,7 +12,7 @@ use bits::byte;
 use problem::{Problem, Settings, TableRows, refusals};
 
 // The problem behind a block, and where the block ends.
-#[derive(Drop)]
+#[derive(Clone, Copy)]
 pub struct Block {
     pub problem: Problem,
     pub at: usize,

@@ -41,7 +41,7 @@ use model::Term;
 // The functions that are terms, each times its variable, in columns: place i has the cube of candidate i, and its outputs where bit i of the
 // set is 1. A block, which is left out of that set, has no outputs at its place, nor have the places behind the last candidate. These add
 // nothing to a sum, so that a sum is over 64 places, many at a time.
-#[derive(Drop)]
+#[derive(Clone, Copy)]
 pub struct Columns {
     pub care: [u8; 64],
     pub value: [u8; 64],

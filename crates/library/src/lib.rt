@@ -4,6 +4,7 @@
 // K8's; its contract says so of `multiplyCovers`, and which of the two lent rows is handed back. By K10 they take terms alone: `held`, which has
 // the blocks at each vertex, is lent empty.
 // The tests come in the calls' own order: 6, 8 by rising vertex, 11, then 9 and 10 term by term, then 12, and 17 of the multiplication.
+#![tactic(auto)]
 ghost use Rattle.std.specs.Prelude.{◌≡◌, map, ◌≤◌, length};
 ghost use Rattle.model.specs.Library.{unpack, list_covers, right_room, multiply_covers};
 ghost use Rattle.bits.specs.Lists as lists;
@@ -18,7 +19,7 @@ use problem::{Candidates, Problem, Settings, TableRows, matrix, products, refusa
 use table::cells;
 
 // How many sets were put into the row and whether one stands above those; or the refusal's number.
-#[derive(Drop)]
+#[derive(Clone, Copy)]
 pub enum Listed {
     Filled(usize, bool),
     Refused(u8),

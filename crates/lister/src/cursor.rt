@@ -9,7 +9,7 @@ use lister_narrowing::Tight;
 use rows::covering;
 
 // A set, or that there is none.
-#[derive(Drop)]
+#[derive(Clone, Copy)]
 pub enum FoundSet {
     At(u64),
     Nothing,
@@ -87,7 +87,7 @@ fn climb(rows: &[u64], n: u64, at: u64) -> FoundSet
 }
 
 // Where the lister stands: the next set is the least at or above at; none is left where it is over.
-#[derive(Drop)]
+#[derive(Clone, Copy)]
 pub struct Cursor {
     pub at: u64,
     pub over: bool,
@@ -141,7 +141,7 @@ impl Cursor {
 }
 
 // How many sets were put into a row, and whether one stands above those.
-#[derive(Drop)]
+#[derive(Clone, Copy)]
 pub struct PageFill {
     pub count: usize,
     pub more: bool,

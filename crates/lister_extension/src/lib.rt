@@ -3,6 +3,7 @@
 // `narrow_exactly` narrows as crate `lister_narrowing` does and then tests. Each member of an irredundant cover has a row of its own, so the
 // test gives each member a private row to keep: none of that row's free candidates may then be taken. Only `false` says something, so what is
 // asked first, what is asked together and where to stop asking are free to choose: the functions that only choose have no contract.
+#![tactic(auto)]
 ghost use Rattle.std.specs.Prelude.{◌≡◌, true, false, ◌<◌};
 ghost use Rattle.bits.specs.Bits.{Part, Member};
 ghost use Rattle.lister_narrowing.specs.Narrowing.{NoneBetween, Tightened};
@@ -13,21 +14,21 @@ use lister_narrowing::Tight;
 use rows::covering;
 
 // For each member of s, the free candidates of its private row with fewest of them, and how many private rows it has.
-#[derive(Drop)]
+#[derive(Clone, Copy)]
 struct Survey {
     lightest: [u64; 64],
     count: [u64; 64],
 }
 
 // Members without a private row that nothing free can meet, and the free candidates of the rows that they would keep.
-#[derive(Drop)]
+#[derive(Clone, Copy)]
 struct Claim {
     pending: u64,
     taken: u64,
 }
 
 // Members that hang together, and the free candidates of their rows.
-#[derive(Drop)]
+#[derive(Clone, Copy)]
 struct Group {
     members: u64,
     reach: u64,

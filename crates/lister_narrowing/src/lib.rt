@@ -2,13 +2,14 @@
 //
 // `narrow` excludes and takes candidates, pass by pass over the rows, until a pass changes nothing or finds that no irredundant cover is
 // left. The contracts only say that no irredundant cover is lost; how much is excluded is measured by the benchmark.
+#![tactic(auto)]
 ghost use Rattle.std.specs.Prelude.{◌≡◌, true};
 ghost use Rattle.lister_narrowing.specs.Narrowing.{Only, United, Scanned, Infeasible, Tightened};
 
 use bits::set;
 
 // A set, what it can grow by, and whether no irredundant cover is left there.
-#[derive(Drop)]
+#[derive(Clone, Copy)]
 pub struct Tight {
     pub dead: bool,
     pub s: u64,
@@ -18,7 +19,7 @@ pub struct Tight {
 // What one pass over the rows finds. A row is private to the member of s that is its only one. Where dead, some row can't be met; else
 // owners are the members of s that have a private row, unmet has all members of the rows that s does not meet, forced the free candidates
 // that are the only ones to meet some row, and taken what stands in all private rows of some member of s.
-#[derive(Drop)]
+#[derive(Clone, Copy)]
 struct Scan {
     dead: bool,
     owners: u64,

@@ -1,4 +1,5 @@
 // Runs the library calls on the paper's cases and on odd parity of 7 inputs, and prints what they find.
+#![tactic(auto)]
 ghost use Rattle.std.specs.Prelude.{◌≤◌};
 
 use cheapest::search;

@@ -15,6 +15,7 @@ use Rattle.model.proofs.Pages.{rising, rising_down}
 
 -- of those that cost the same, the cheapest is the smallest
 least_small : (f : ℕ → ℕ) (b : ℕ) (ss : List ℕ) → Rising (suc b) ss → (x : ℕ) → Memᴰ x (b ∷ ss) → f x ≤ f (least f b ss) → least f b ss ≤ x
+least_small f b [] r x (Memᴰ.tail x10) h = elim x10 [ ]
 least_small f b [] r x (Memᴰ.head e) h = omega arith
 least_small f b (s ∷ ss) r x m h = go (ltb (f s) (f b)) refl (least_small f (cond (ltb (f s) (f b)) s b) ss) h
   where

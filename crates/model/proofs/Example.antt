@@ -115,6 +115,6 @@ all_pages = record {
   read = sublist_filter is_asked (all_read engine calls);
   stand = stands;
   pages = refl;
-  in_order_lem = in_order_e [] pages in_order_lem;
+  in_order = in_order_e [] pages in_order_lem;
   no_more = tt;
 }

@@ -44,6 +44,10 @@ behind_i x h n = place_one x.kind x.problem.place (not_or_l (is x.kind Kind.I) (
 
 others_keep : (x : Context) (k : Kind) → T (not (sets_up k)) → (p : ℕ) → bare p (problem_after x k) ≡ bare p x.problem
 unfolding problem_after
+others_keep x Kind.I n p = elim n [ ]
+others_keep x Kind.W n p = elim n [ ]
+others_keep x Kind.R n p = elim n [ ]
+others_keep x Kind.B n p = elim n [ ]
 others_keep x Kind.T n p = refl
 others_keep x Kind.F n p = refl
 others_keep x Kind.P n p = refl
@@ -73,6 +77,18 @@ eight_bare bs p q = rows_bare (row_of_b bs 0) (map (row_of_b bs) (from 1 7)) p q
 row_again : (x : Context) (p : ℕ) (bs : List ℕ) (room : ℕ) (k : Kind) → T (sets_up k) → let y = reads (bare p x.problem) (command_of x) bs room in
     ((i : ℕ) → i < width k → operand y i ≡ operand x i) → Again k x y
 unfolding refusals_of problem_after answer_for
+row_again x p bs room Kind.T t g = elim t [ ]
+row_again x p bs room Kind.F t g = elim t [ ]
+row_again x p bs room Kind.P t g = elim t [ ]
+row_again x p bs room Kind.A t g = elim t [ ]
+row_again x p bs room Kind.D t g = elim t [ ]
+row_again x p bs room Kind.G t g = elim t [ ]
+row_again x p bs room Kind.L t g = elim t [ ]
+row_again x p bs room Kind.V t g = elim t [ ]
+row_again x p bs room Kind.C t g = elim t [ ]
+row_again x p bs room Kind.N t g = elim t [ ]
+row_again x p bs room Kind.E t g = elim t [ ]
+row_again x p bs room Kind.none t g = elim t [ ]
 row_again x p bs room Kind.I t g =
     let a = g 0 (omega arith) in
     let b = g 1 (omega arith) in
@@ -164,6 +180,18 @@ given_row q w a g =
 
 row_given : (x : Context) (k : Kind) → T (sets_up k) → NoneApplies (refusals_of x k) → Given x.problem → Given (problem_after x k)
 unfolding refusals_of problem_after
+row_given x Kind.T t a g = elim t [ ]
+row_given x Kind.F t a g = elim t [ ]
+row_given x Kind.P t a g = elim t [ ]
+row_given x Kind.A t a g = elim t [ ]
+row_given x Kind.D t a g = elim t [ ]
+row_given x Kind.G t a g = elim t [ ]
+row_given x Kind.L t a g = elim t [ ]
+row_given x Kind.V t a g = elim t [ ]
+row_given x Kind.C t a g = elim t [ ]
+row_given x Kind.N t a g = elim t [ ]
+row_given x Kind.E t a g = elim t [ ]
+row_given x Kind.none t a g = elim t [ ]
 row_given x Kind.I t a g = (tt, tt)
 row_given x Kind.W t a g = g
 row_given x Kind.R t a g = given_row x.problem (row_of_r x.rest) a g
@@ -208,6 +236,18 @@ later_more (suc (suc place)) (suc (suc later)) rows l = omega arith
 
 row_taken : (x : Context) (k : Kind) → T (sets_up k) → T (allowed k x.problem.place) → suc (width k) + taken x.problem ≤ taken (problem_after x k)
 unfolding problem_after
+row_taken x Kind.T t a = elim t [ ]
+row_taken x Kind.F t a = elim t [ ]
+row_taken x Kind.P t a = elim t [ ]
+row_taken x Kind.A t a = elim t [ ]
+row_taken x Kind.D t a = elim t [ ]
+row_taken x Kind.G t a = elim t [ ]
+row_taken x Kind.L t a = elim t [ ]
+row_taken x Kind.V t a = elim t [ ]
+row_taken x Kind.C t a = elim t [ ]
+row_taken x Kind.N t a = elim t [ ]
+row_taken x Kind.E t a = elim t [ ]
+row_taken x Kind.none t a = elim t [ ]
 row_taken x Kind.I t a = let z : x.problem.place ≡ 0 = omega (arith, place_last Kind.I x.problem.place a) in rw z (omega arith)
 row_taken x Kind.W t a =
     let one = place_one Kind.W x.problem.place tt a in

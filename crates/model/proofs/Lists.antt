@@ -340,6 +340,7 @@ module _ {A : Type 0} (P : A → Type 0) where
   all_of (x ∷ xs) f = (f x (Memᴰ.head refl), all_of xs (λ y m. f y (Memᴰ.tail m)))
 
   pub all_e : (xs : List A) → All P xs → {x : A} → Memᴰ x xs → P x
+  all_e [] a x4 = elim x4 [ ]
   all_e (y ∷ ys) a (Memᴰ.head e) = subst⁻¹ P e a.0
   all_e (y ∷ ys) a (Memᴰ.tail m) = all_e ys a.1 m
 

@@ -46,13 +46,13 @@ pub filter_same : {A : Type 0} (f g : A → Bool) (xs : List A) → ((x : A) →
 filter_same f g [] h = refl
 filter_same f g (x ∷ xs) h = rw (h x (Memᴰ.head refl), filter_same f g xs (λ y m. h y (Memᴰ.tail m)))
 
-least_same : (f g : ℕ → ℕ) (b : ℕ) (ss : List ℕ) → ((s : ℕ) → f s ≡ g s) → least f b ss ≡ least g b ss
-least_same f g b [] h = refl
-least_same f g b (s ∷ ss) h = rw (h s, h b) (least_same f g _ ss h)
+least_same : (f g : ℕ → ℕ) (ss : List ℕ) → ((s : ℕ) → f s ≡ g s) → (b : ℕ) → least f b ss ≡ least g b ss
+least_same f g [] h b = refl
+least_same f g (s ∷ ss) h b = rw (h s, h b) (least_same f g ss h _)
 
 least_of_same : (f g : ℕ → ℕ) (ss : List ℕ) → ((s : ℕ) → f s ≡ g s) → least_of f ss ≡ least_of g ss
 least_of_same f g [] h = refl
-least_of_same f g (s ∷ ss) h = least_same f g s ss h
+least_of_same f g (s ∷ ss) h = least_same f g ss h s
 
 module _ {A X B Y : Type 0} (k : Covering A X) (j : Covering B Y) (size : length k.cands ≡ length j.cands) (same : (s : ℕ) → s < 2 ^ length k.cands → cover k s ≡ cover j s) where
   irredundant_same : (s : ℕ) → s < 2 ^ length k.cands → irredundant k s ≡ irredundant j s

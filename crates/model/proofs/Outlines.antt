@@ -100,6 +100,9 @@ candidate_of c = added_by c c.kind
 keeps_cands : (c : Command) (k : Kind) (b : Basis) → T (not (is k Kind.I)) → T (not (is k Kind.P)) → T (not (is k Kind.D))
     → (sets_to c k b).cands ≡ b.cands ++ cond (adds k) (added_by c k ∷ []) []
 unfolding sets_to
+keeps_cands c Kind.I b i p d = elim i [ ]
+keeps_cands c Kind.P b i p d = elim p [ ]
+keeps_cands c Kind.D b i p d = elim d [ ]
 keeps_cands c Kind.W b i p d = sym (append-nil b.cands)
 keeps_cands c Kind.R b i p d = sym (append-nil b.cands)
 keeps_cands c Kind.B b i p d = sym (append-nil b.cands)

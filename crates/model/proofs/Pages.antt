@@ -114,11 +114,13 @@ first_alike xs ys c r s e = (
 )
 
 pub rising_ge : (b : ℕ) (xs : List ℕ) {x : ℕ} → Rising b xs → Memᴰ x xs → b ≤ x
+rising_ge b [] r x4 = elim x4 [ ]
 rising_ge b (y ∷ ys) r (Memᴰ.head e) = omega (arith, r.0)
 rising_ge b (y ∷ ys) r (Memᴰ.tail m) = omega (arith, r.0, rising_ge (suc y) ys r.1 m)
 
 -- the least set at or above a stands first, and then those above it
 pub at_or_above_cons : (b a s : ℕ) (all : List ℕ) → Rising b all → Memᴰ s all → a ≤ s → ((r : ℕ) → Memᴰ r all → a ≤ r → s ≤ r) → filter (leb a) all ≡ s ∷ filter (leb (suc s)) all
+at_or_above_cons b a s [] u x4 h l = elim x4 [ ]
 at_or_above_cons b a s (y ∷ ys) u (Memᴰ.head e) h l =
     let q : leb a y ≡ true = T_true {b = leb a y} (le→leb a y (omega arith)) in
     let n : leb (suc s) y ≡ false = T_false {b = leb (suc s) y} (lt→nleb (suc s) y (omega arith)) in

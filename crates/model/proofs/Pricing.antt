@@ -4,7 +4,7 @@ use native.Mathlib.Omega.{arith}
 use mathlib.Core.Path.{◌≡◌, refl, ap, subst}
 use mathlib.Core.Logic.{◌↔◌}
 use mathlib.Core.List.Memᴰ
-use mathlib.Core.List.{List, ◌∷◌, Memᴰ}
+use mathlib.Core.List.{List, [], ◌∷◌, Memᴰ}
 use lib.Dec.{T}
 use lib.Count.{ones, ones_in}
 use Rattle.model.specs.Table.{Table, Term, is_on, is_dc, is_off, cells, on_cells, holds, formed, holds_no_off, legal, represents}
@@ -56,6 +56,7 @@ only_primes p (Candidate.term t) = (λ h. Memᴰ.map Candidate.term ((primes_iff
     own (Candidate.block b) = t
 
     term_among : (ts : List Term) → Memᴰ (Candidate.term t) (terms_alone ts) → Memᴰ t ts
+    term_among [] x' = elim x' [ ]
     term_among (u ∷ us) (Memᴰ.head e) = Memᴰ.head (ap own e)
     term_among (u ∷ us) (Memᴰ.tail m) = Memᴰ.tail (term_among us m)
 only_primes p (Candidate.block b) = (λ h. absurd h, λ m. none (primes p) m)
@@ -65,6 +66,7 @@ only_primes p (Candidate.block b) = (λ h. absurd h, λ m. none (primes p) m)
     IsBlock (Candidate.block d) = Unit {0}
 
     none : (ts : List Term) → Memᴰ (Candidate.block b) (terms_alone ts) → ⊥
+    none [] x' = elim x' [ ]
     none (u ∷ us) (Memᴰ.head e) = subst IsBlock e tt
     none (u ∷ us) (Memᴰ.tail m) = none us m
 

@@ -95,6 +95,7 @@ fixed_more q c e =
 
 fixed_after : (x : Context) (k : Kind) → T (not (is k Kind.G)) → Fixed x.problem → Fixed (problem_after x k)
 unfolding problem_after
+fixed_after x Kind.G n e = elim n [ ]
 fixed_after x Kind.I n e = refl
 fixed_after x Kind.W n e = e
 fixed_after x Kind.R n e = e

@@ -102,14 +102,17 @@ least_le_first f b [] = le_refl _
 least_le_first f b (s ∷ ss) = omega (arith, least_le_first f (cond (ltb (f s) (f b)) s b) ss, (pick_le f s b).0)
 
 least_le : (f : ℕ → ℕ) (b : ℕ) (ss : List ℕ) {x : ℕ} → Memᴰ x ss → f (least f b ss) ≤ f x
+least_le f b [] {x = x} x3 = elim x3 [ ]
 least_le f b (s ∷ ss) {x} (Memᴰ.head e) = omega (arith, least_le_first f (cond (ltb (f s) (f b)) s b) ss, (pick_le f s b).1, ap f e)
 least_le f b (s ∷ ss) (Memᴰ.tail h) = least_le f (cond (ltb (f s) (f b)) s b) ss h
 
 pub least_of_le : (f : ℕ → ℕ) (ss : List ℕ) {x : ℕ} → Memᴰ x ss → f (least_of f ss) ≤ f x
+least_of_le f [] x3 = elim x3 [ ]
 least_of_le f (s ∷ ss) (Memᴰ.head e) = omega (arith, least_le_first f s ss, ap f e)
 least_of_le f (s ∷ ss) (Memᴰ.tail h) = least_le f s ss h
 
 pub least_of_in : (f : ℕ → ℕ) (ss : List ℕ) {x : ℕ} → Memᴰ x ss → Memᴰ (least_of f ss) ss
+least_of_in f [] m = elim m [ ]
 least_of_in f (s ∷ ss) m = least_in f s ss
 
 -- ---- irredundant: the test and the proposition

@@ -173,6 +173,8 @@ places job room before x g l =
 -- behind a query no other command sets anything
 settled : (x : Context) (k : Kind) → queried ≤ x.problem.place → T (allowed k x.problem.place) → T (not (adds_or_removes k)) → basis_of (problem_after x k) ≡ basis_of x.problem
 unfolding problem_after
+settled x Kind.A p a n = elim n [ ]
+settled x Kind.D p a n = elim n [ ]
 settled x Kind.I p a n = absurd (omega (arith, place_last Kind.I x.problem.place a))
 settled x Kind.W p a n = absurd (omega (arith, place_last Kind.W x.problem.place a))
 settled x Kind.R p a n = absurd (omega (arith, place_last Kind.R x.problem.place a))

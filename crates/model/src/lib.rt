@@ -2,11 +2,12 @@
 //
 // What a reader must believe is in specs/, in the order of paper 01; docs/REVIEW.md leads from each sentence of the paper to
 // its definition and its theorem. The only code here is the term, the block and the prices, which other crates pass around.
+#![tactic(auto)]
 ghost use Rattle.std.specs.Prelude.{◌≡◌};
 ghost use Rattle.model.specs.Table.{in_cube};
 
 // A product term: the inputs that it reads, their values, and the outputs that it drives.
-#[derive(Drop)]
+#[derive(Clone, Copy)]
 pub struct Term {
     pub care: u8,
     pub value: u8,
@@ -14,7 +15,7 @@ pub struct Term {
 }
 
 // A ready-made block: the outputs that it drives, 32 bytes with bit v for vertex v, and its weight.
-#[derive(Drop)]
+#[derive(Clone, Copy)]
 pub struct Block {
     pub outputs: u8,
     pub vertices: [u8; 32],
@@ -22,7 +23,7 @@ pub struct Block {
 }
 
 // What a part charges for a term, for a literal and for an output connection.
-#[derive(Drop)]
+#[derive(Clone, Copy)]
 pub struct Prices {
     pub term: u8,
     pub literal: u8,

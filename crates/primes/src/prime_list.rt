@@ -9,7 +9,7 @@ use bits::byte;
 use model::Term;
 
 // The first 64 terms of a list, and whether the list has more.
-#[derive(Drop)]
+#[derive(Clone, Copy)]
 pub struct PrimeList {
     pub terms: [Term; 64],
     pub count: usize,
@@ -34,7 +34,7 @@ impl PrimeList {
 }
 
 // A prime of some care, by its value and outputs; without outputs there is none.
-#[derive(Drop)]
+#[derive(Clone, Copy)]
 struct Found {
     value: usize,
     outputs: u8,

@@ -4,6 +4,7 @@
 // `refusals` has the refusals that operands can meet in it, `weights` what a term costs, `cells` the rows of its cells, `matrix`
 // its covering matrix, `products` the multiplication of its cells.
 // proofs/Keeping says that the record goes on holding the problem of the definitions.
+#![tactic(auto)]
 ghost use Rattle.std.specs.Prelude.{◌≡◌, ◌≤◌, ◌<◌, max};
 ghost use Rattle.model.specs.Candidates.{usual};
 ghost use Rattle.model.specs.Commands as model;
@@ -20,7 +21,7 @@ pub mod refusals;
 pub mod weights;
 
 // What I sets: n inputs, m outputs; and the prices, which W sets.
-#[derive(Drop)]
+#[derive(Clone, Copy)]
 pub struct Settings {
     pub n: u8,
     pub m: u8,
@@ -28,7 +29,7 @@ pub struct Settings {
 }
 
 // The rows by vertex, with `given` at 1 for each vertex that has one.
-#[derive(Drop)]
+#[derive(Clone, Copy)]
 pub struct TableRows {
     pub on: [u8; 256],
     pub dc: [u8; 256],
@@ -37,7 +38,7 @@ pub struct TableRows {
 
 // The candidates: the first `count` terms, beside each its weight and the ends of the weight's range, and the set of those that are blocks. The
 // term of a block has its outputs alone.
-#[derive(Drop)]
+#[derive(Clone, Copy)]
 pub struct Candidates {
     pub terms: [Term; 64],
     pub weights: [u16; 64],
@@ -48,7 +49,7 @@ pub struct Candidates {
 }
 
 // The record, with its place in the job.
-#[derive(Drop)]
+#[derive(Clone, Copy)]
 pub struct Problem {
     pub place: u8,
     pub settings: Settings,

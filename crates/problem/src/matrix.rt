@@ -9,7 +9,7 @@ use incidence::presence;
 use rows::reduction;
 
 // How many rows stand in front of the array that they were put into, and whether each on cell is held by a candidate: 12 does not apply.
-#[derive(Drop)]
+#[derive(Clone, Copy)]
 pub struct Matrix {
     pub count: usize,
     pub covered: bool,

@@ -3,6 +3,7 @@
 //
 // `print` and `print_byte` have no `ensures`: they change nothing that a contract can speak of, and what stands on standard output is in no
 // contract of `io`. The gate holds the output of the programs that call them to their files `stdout`.
+#![tactic(auto)]
 ghost use Rattle.std.specs.Prelude.{◌<◌, ◌≤◌};
 
 use libc::STDOUT_FILENO;

@@ -5,6 +5,7 @@
 // computes. proofs/Uses has what a caller needs of the contracts.
 //
 // What the cube of one term may drive is found by its halves; crate `primes` has a table of what each cube may drive.
+#![tactic(auto)]
 pub mod blocks;
 pub mod cells;
 pub mod cubes;
