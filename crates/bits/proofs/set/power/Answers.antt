@@ -1,0 +1,11 @@
+-- `bits::set::power` meets its contract.
+use mathlib.Core.Path.{◌∙◌}
+use native.Mathlib.Nat.{one-mul}
+use native.Mathlib.Omega.{arith}
+use borrow.Author.Rules.{rules}
+use lib.Dec.{lit<}
+use lib.Pow.{shl_exact}
+use Rattle.bits.proofs.set.power.Goals as goal
+
+pub returns : goal.returns
+returns c = shl_exact 1 c.args.i 64 (lit< tt) (omega arith) ∙ one-mul _

@@ -1,0 +1,12 @@
+-- `cheapest::greedy::greedy` meets its contract. The invariant: what is taken and what is left are parts of free.
+use borrow.Author.Rules.{rules}
+use native.Mathlib.Omega.{arith}
+use Rattle.bits.proofs.Parts.{minus_member_less}
+use Rattle.cheapest.proofs.FirstCover.{PartsOf, parts_none, parts_more}
+use Rattle.cheapest.proofs.greedy.greedy.Given as goal
+
+abbrev pub invariant-loop-rest : goal.invariant-loop-rest
+invariant-loop-rest l = PartsOf l.free l.s l.rest
+
+abbrev pub decreases-loop-rest : goal.decreases-loop-rest
+decreases-loop-rest l = l.rest

@@ -1,0 +1,11 @@
+-- `cheapest::greedy::start` meets its contract.
+use Rattle.bits.proofs.Decide.{decides_true}
+use Rattle.cheapest.proofs.FirstCover.{known_cover, known_none}
+use borrow.Author.Rules.{rules}
+use Rattle.cheapest.proofs.greedy.start.Goals as goal
+
+pub returns-then-covers : goal.returns-then-covers
+returns-then-covers c = known_cover _ _ _ _ _ c.greedy-s.ensures (decides_true _ _ c.covers.ensures c.if-covers.true) c.total.ensures
+
+pub returns : goal.returns
+returns c = known_none _ _ _ _

@@ -1,0 +1,14 @@
+-- `cheapest_bounds::ascent::affordable` meets its contract.
+use borrow.Author.Rules.{rules}
+use Rattle.cheapest_bounds.proofs.Ascending.{affordable_all, affordable_none, affordable_trimmed}
+use Rattle.cheapest_bounds.proofs.ascent.affordable.Goals as goal
+
+pub returns-then-rows-le16 : goal.returns-then-rows-le16
+returns-then-rows-le16 c = affordable_all _ _ _ _
+
+pub returns-then-spare-sum : goal.returns-then-spare-sum
+returns-then-spare-sum c = affordable_none _ _ _ _ _ c.ascent-duals.ensures c.if-spare-sum.true
+
+pub returns : goal.returns
+returns c =
+    affordable_trimmed _ _ _ _ _ _ c.ascent-duals.ensures c.if-spare-sum.false c.trim.ensures

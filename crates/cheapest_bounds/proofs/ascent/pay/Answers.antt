@@ -1,0 +1,24 @@
+-- `cheapest_bounds::ascent::pay` meets its contract.
+use mathlib.Core.Logic.{⊎_elim}
+use native.Mathlib.Omega.{arith}
+use Rattle.cheapest_bounds.proofs.Ascending.{floor_less, paid_none, paid_some}
+use borrow.Author.Rules.{rules}
+use Rattle.cheapest_bounds.proofs.ascent.pay.Goals.{else-half, then-half}
+use Rattle.cheapest_bounds.proofs.ascent.pay.Goals as goal
+
+pub returns-then-x-eq0 : goal.returns-then-x-eq0
+returns-then-x-eq0 c = paid_none _ _
+
+pub returns-then-most-x : goal.returns-then-most-x
+returns-then-most-x c = paid_none _ _
+
+pub returns-then-all-eq0 : goal.returns-then-all-eq0
+returns-then-all-eq0 c = paid_none _ _
+
+pub charge-requires : goal.charge-requires
+charge-requires c =
+    record { left_len = c.requires; floor = floor_less _ _ _ _ c.floor-all.ensures (elim c.if-half.branch [ then-half w ↦ omega (arith, w.EQ0) | else-half w ↦ omega (arith, w.EQ0) ]) }
+
+pub returns : goal.returns
+returns c =
+    paid_some _ _ _ _ c.if-x-eq0.false c.charge.ensures

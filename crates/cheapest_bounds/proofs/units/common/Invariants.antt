@@ -1,0 +1,13 @@
+-- `cheapest_bounds::units::common` meets its contract. The invariant: u is the greatest common divisor of the costs passed.
+use borrow.Author.Rules.{rules}
+use Prim.Native.Nat.{◌-◌, ◌≤◌}
+use native.Mathlib.Omega.{arith}
+use lib.ListN.{length}
+use Rattle.cheapest_bounds.proofs.Measuring.{Folded, folded_none, folded_more, folded_all, folded_one}
+use Rattle.cheapest_bounds.proofs.units.common.Given as goal
+
+abbrev pub invariant-loop-i : goal.invariant-loop-i
+invariant-loop-i l = (l.i ≤ length l.costs) × Folded l.costs l.i l.u
+
+abbrev pub decreases-loop-i : goal.decreases-loop-i
+decreases-loop-i l = length l.costs - l.i

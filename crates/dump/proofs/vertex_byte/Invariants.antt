@@ -1,0 +1,13 @@
+-- `dump::vertex_byte` meets its contract.
+use Prim.Native.Nat.{◌*◌}
+use native.Mathlib.Omega.{arith}
+use borrow.Author.Rules.{rules}
+use Rattle.incidence.proofs.Candidates.{flag_le}
+use Rattle.dump.proofs.Showing.{PassedFrom, passed_none, passed_room, passed_next, passed_all}
+use Rattle.dump.proofs.vertex_byte.Given as goal
+
+abbrev pub invariant-loop-k : goal.invariant-loop-k
+invariant-loop-k l = PassedFrom l.held l.i (8 * l.j) l.byte l.k
+
+abbrev pub decreases-loop-k : goal.decreases-loop-k
+decreases-loop-k l = l.k

@@ -1,0 +1,13 @@
+-- `eight_rows::used` meets its contract.
+use Prim.Native.Nat.{◌+◌, ◌-◌}
+use native.Mathlib.Omega.{arith}
+use lib.ListN.{get_or}
+use Rattle.eight_rows.proofs.EightRows.{Union, union_none, union_next, union_all}
+use borrow.Author.Rules.{rules}
+use Rattle.eight_rows.proofs.used.Given as goal
+
+abbrev pub invariant-loop-i : goal.invariant-loop-i
+invariant-loop-i l = Union (λ j. get_or l.job (l.at + j) 0) 16 l.i l.all
+
+abbrev pub decreases-loop-i : goal.decreases-loop-i
+decreases-loop-i l = 16 - l.i

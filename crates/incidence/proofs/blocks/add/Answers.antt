@@ -1,0 +1,17 @@
+-- `incidence::blocks::add` meets its contract. The invariant: the sets of the vertices below v are done.
+use borrow.Author.Rules.{rules}
+use Prim.Native.Nat.{◌-◌}
+use mathlib.Core.Bool.{cond}
+use lib.Bits.{bit_or}
+use Rattle.table.specs.Blocks.{vertex_in}
+use Rattle.incidence.proofs.Changes.{ChangedBelow, changed_none, changed_next, adds}
+use Rattle.incidence.proofs.blocks.add.Goals as goal
+
+pub loop-v-init : goal.loop-v-init
+loop-v-init c = changed_none _ _
+
+pub loop-v-preserved : goal.loop-v-preserved
+loop-v-preserved c = changed_next _ _ _ _ _ c.marked.ensures c.loop-v.invariant
+
+pub returns : goal.returns
+returns c = adds _ c.loop-v-test.false _ c.power-member.ensures c.loop-v.invariant

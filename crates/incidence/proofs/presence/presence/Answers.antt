@@ -1,0 +1,73 @@
+-- `incidence::presence::presence` meets its contract. The invariant: after each point it stands at the product of the sums up to that point,
+-- formula (4). Assumes nothing.
+use Prim.Native.Nat.{◌-◌, ◌*◌, ◌<◌}
+use native.Mathlib.Omega.{arith}
+use mathlib.Core.Path.{◌∙◌}
+use mathlib.Core.List.{List}
+use mathlib.Core.Logic.{⊎_elim}
+use borrow.Author.Rules.{rules}
+use Rattle.bits.proofs.Shifts.{power_le}
+use Rattle.model.specs.declared.Term.{Term}
+use Rattle.incidence.specs.Presence.{StandsAt}
+use Rattle.incidence.proofs.BlockSums.{InParts, point_sum}
+use Rattle.incidence.proofs.Products.{stands_none, stands_point, stands_cell, stands_vertex, stands_left, stands_all, CellOrEnd, first_cell, next_output, next_vertex}
+use Rattle.incidence.proofs.presence.presence.Goals.{else-has, else-j-m, then-has, then-j-m}
+use Rattle.incidence.proofs.presence.presence.Goals as goal
+
+-- the vertices are bytes
+vertex : (c : goal.In-loop-v) → c.loop-v.v < 256
+vertex c = omega (arith, c.loop-v-test.true, power_le _ _ c.requires.1 c.bound-size.ensures)
+
+pub bound-size-requires : goal.bound-size-requires
+bound-size-requires c = c.requires.1
+
+pub block_summands-driving-requires : goal.block_summands-driving-requires
+block_summands-driving-requires c = (c.requires.0, c.requires.2)
+
+pub loop-v-init : goal.loop-v-init
+loop-v-init c = (λ ts q. stands_none _ _ _ _ _ _ _, first_cell _ _)
+
+pub bounds-on-v : goal.bounds-on-v
+bounds-on-v c = vertex c
+
+pub bounds-on-v-then-power-on : goal.bounds-on-v-then-power-on
+bounds-on-v-then-power-on c = vertex c
+
+pub overflow_cast-v : goal.overflow_cast-v
+overflow_cast-v c = omega (arith, vertex c)
+
+pub offset_bounds-held-v : goal.offset_bounds-held-v
+offset_bounds-held-v c = omega (arith, vertex c)
+
+pub bounds-held-v : goal.bounds-held-v
+bounds-held-v c = vertex c
+
+pub offset_bounds-driving-wide : goal.offset_bounds-driving-wide
+offset_bounds-driving-wide c = omega (arith, c.wide.ensures)
+
+pub bounds-driving-wide : goal.bounds-driving-wide
+bounds-driving-wide c = omega (arith, c.wide.ensures)
+
+pub loop-v-preserved-then-power-on : goal.loop-v-preserved-then-power-on
+loop-v-preserved-then-power-on c = (
+      λ ts q. elim c.if-has.branch [ then-has w ↦ stands_point _ _ _ _ _ _ _ _ _ _ _ _ c.bound-size.ensures c.loop-v-test.true c.if-j-m.true c.has.ensures
+          (c.loop-v.invariant.0 ts q) _ _ w.if-has.true (point_sum q _ _ _ _ _ (vertex c) c.if-j-m.true w.block_sum_at-arg-1.ensures w.sum_at-terms.ensures w.wide.ensures) w.block_sum_at | else-has w ↦ stands_cell _ _ _ _ _ _ _ _ _ _ _ _ c.bound-size.ensures c.loop-v-test.true c.if-j-m.true c.has.ensures
+          (c.loop-v.invariant.0 ts q) _ w.if-has.false w.product-is ],
+      next_output _ _ _ _ c.loop-v-test.true c.if-j-m.true,
+    )
+
+pub loop-v-preserved : goal.loop-v-preserved
+loop-v-preserved c = (
+  λ ts q. elim c.else-j-m.branch [ then-j-m w ↦ stands_left _ _ _ _ _ _ _ _ _ _ _ _ c.bound-size.ensures c.loop-v-test.true c.loop-v.invariant.1.output w.power.ensures
+      w.t27-1.false (c.loop-v.invariant.0 ts q) | else-j-m w ↦ stands_vertex _ _ _ _ _ _ _ _ _ _ c.loop-v.invariant.1.output w.if-j-m.false (c.loop-v.invariant.0 ts q) ],
+  next_vertex _ _ _ c.loop-v-test.true,
+)
+
+pub returns : goal.returns
+returns c = let e = c.loop-v.invariant.1.end c.loop-v-test.false in
+    stands_all _ _ _ _ _ _ _ _ _ _ (e.0 ∙ c.bound-size.ensures) e.1 (c.loop-v.invariant.0 _ (record {
+      rest = c.minus.result;
+      terms = c.minus.ensures;
+      columns = c.summands-f.ensures;
+      blocks_driving = c.block_summands-driving.ensures;
+    }))

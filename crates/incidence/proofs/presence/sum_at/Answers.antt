@@ -1,0 +1,15 @@
+-- `incidence::presence::sum_at` meets its contract. The invariant: formula (3) up to function i. Assumes nothing.
+use Prim.Native.Nat.{◌-◌}
+use borrow.Author.Rules.{rules}
+use Rattle.model.specs.Table.{cell}
+use Rattle.incidence.proofs.Sums.{Summed, summed_none, summed_next, summed_all}
+use Rattle.incidence.proofs.presence.sum_at.Goals as goal
+
+pub loop-i-init : goal.loop-i-init
+loop-i-init c = summed_none _ _ _ _
+
+pub loop-i-preserved : goal.loop-i-preserved
+loop-i-preserved c = summed_next _ _ _ _ _ _ _ c.loop-i-test.true c.loop-i.invariant c.summand_at-sum.ensures
+
+pub returns : goal.returns
+returns c = summed_all _ _ _ _ _ _ _ c.loop-i-test.false c.loop-i.invariant c.has.ensures

@@ -1,0 +1,13 @@
+-- `library::padded` meets its contract.
+use Prim.Native.Nat.{◌-◌}
+use native.Mathlib.Omega.{arith}
+use lib.ListN.{length, replicate}
+use Rattle.answers.proofs.Bytes.{none_yet}
+use Rattle.library.proofs.Calling.{PaddedBelow, padded_long, padded_next, padded_all}
+use Rattle.library.proofs.padded.Given as goal
+
+abbrev pub invariant-loop-i : goal.invariant-loop-i
+invariant-loop-i l = PaddedBelow l.row l.i l.all
+
+abbrev pub decreases-loop-i : goal.decreases-loop-i
+decreases-loop-i l = length l.row - l.i

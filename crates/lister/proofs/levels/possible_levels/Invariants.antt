@@ -1,0 +1,15 @@
+-- `lister::levels::possible_levels` meets its contract. The invariant: what the rows passed tell.
+use borrow.Author.Rules.{rules}
+use mathlib.Core.Path.{refl}
+use mathlib.Core.Logic.{⊎_elim}
+use Prim.Native.Nat.{◌-◌, ◌≤◌}
+use native.Mathlib.Omega.{arith}
+use lib.ListN.{length}
+use Rattle.lister.proofs.Leveling.{LevelsPassed, highest_pos, levels_none, levels_open, levels_met, levels_as, levels_all}
+use Rattle.lister.proofs.levels.possible_levels.Given as goal
+
+abbrev pub invariant-loop-i : goal.invariant-loop-i
+invariant-loop-i l = (l.i ≤ length l.rows) × LevelsPassed l.rows l.at l.i l.alone l.fresh
+
+abbrev pub decreases-loop-i : goal.decreases-loop-i
+decreases-loop-i l = length l.rows - l.i

@@ -1,0 +1,8 @@
+-- `primes::numbers::spreads` meets its contract: the rule is tested over the whole constant, and holds at each entry. Assumes nothing.
+use Rattle.model.specs.Numbers.{spread_to, spread}
+use Rattle.primes.proofs.Constant.{is_spread, spreads_tested, spreads_right}
+use Rattle.primes.proofs.numbers.spreads.Goals as goal
+
+pub returns : goal.returns
+unfolding spreads_tested is_spread spread spread_to
+returns c = spreads_right _ tt

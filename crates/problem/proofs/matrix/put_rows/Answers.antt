@@ -1,0 +1,24 @@
+-- `problem::matrix::put_rows` meets its contract.
+use native.Mathlib.Omega.{arith}
+use mathlib.Core.Path.{sym, ◌∙◌}
+use lib.Seq.{length-take-le}
+use Rattle.problem.proofs.Preparing.{prepared}
+use borrow.Author.Rules.{rules}
+use Rattle.problem.proofs.matrix.put_rows.Goals as goal
+
+pub slice_bounds-all-end : goal.slice_bounds-all-end
+slice_bounds-all-end c = search rules
+
+pub slice_bounds-reduce-end : goal.slice_bounds-reduce-end
+slice_bounds-reduce-end c = sym (length-take-le _ _ (slice_bounds-all-end c))
+
+pub reduce-requires : goal.reduce-requires
+reduce-requires c = let few = c.put_rows-n.ensures.within in
+    let long = slice_bounds-reduce-end c in
+    record { rows_len_bound = omega (arith, long, few); rows_in_bounds = omega (arith, long, few, c.requires.out_len) }
+
+pub shape_of-out : goal.shape_of-out
+shape_of-out c = search rules
+
+pub returns : goal.returns
+returns c = prepared c.put_rows-n.ensures _ _ (shape_of-out c ∙ c.requires.out_len) c.reduce.ensures

@@ -1,0 +1,22 @@
+-- `problem::products::multiply` meets its contract.
+use mathlib.Core.Path.{refl, sym}
+use lib.Seq.{length-take-le}
+use Rattle.problem.proofs.Preparing.{cells_below, multiplied}
+use borrow.Author.Rules.{rules}
+use Rattle.problem.proofs.products.multiply.Goals as goal
+
+pub put_rows-k-requires : goal.put_rows-k-requires
+put_rows-k-requires c = record { sized = c.requires.sized; out_len = refl }
+
+pub slice_bounds-rows-end : goal.slice_bounds-rows-end
+slice_bounds-rows-end c = search rules
+
+pub slice_bounds-multiply_rows-end : goal.slice_bounds-multiply_rows-end
+slice_bounds-multiply_rows-end c = sym (length-take-le _ _ (slice_bounds-rows-end c))
+
+pub multiply_rows-requires : goal.multiply_rows-requires
+multiply_rows-requires c = let pre = c.requires.?? in
+    record { n_bound = (pre.0.few, pre.1.1.0, pre.1.1.1); rows_below = cells_below c.put_rows-k.ensures pre.1.0 }
+
+pub returns : goal.returns
+returns c = multiplied c.put_rows-k.ensures _ refl _ _ _ _ _ c.multiply_rows.ensures

@@ -1,0 +1,8 @@
+-- `problem::with_block` meets its contract.
+use Rattle.problem.specs.Problems.{entry_put}
+use borrow.Author.Rules.{rules}
+use Rattle.problem.proofs.with_block.Goals as goal
+
+pub returns : goal.returns
+unfolding entry_put
+returns c = rw (c.candidate_place-place.ensures, c.power.ensures)

@@ -1,0 +1,30 @@
+-- `queries::multiply` meets its contract.
+use borrow.Author.Tests.{not-true, not-false}
+use native.Mathlib.Omega.{arith}
+use mathlib.Core.Path.{refl}
+use Rattle.problem.proofs.Keeping.{reached_sized, reached_alone}
+use Rattle.problem.proofs.Preparing.{stocked}
+use Rattle.queries.proofs.Querying.{products_uncovered, products_refused, products_answered}
+use borrow.Author.Rules.{rules}
+use Rattle.queries.proofs.multiply.Goals as goal
+
+pub returns-then-not-covered : goal.returns-then-not-covered
+returns-then-not-covered c = let a = c.args in products_uncovered a.p _ _ a.free.now _ (not-true a.covered c.if-not-covered.true-raw) c.refused.ensures
+
+pub multiply-row-requires : goal.multiply-row-requires
+multiply-row-requires c = let r = c.requires in
+    record { sized = reached_sized _ (reached_alone r); stocked = stocked _ _ r.problem r.holds r.blocks; first_len = (refl, refl) }
+
+pub returns-then-number-ne0 : goal.returns-then-number-ne0
+returns-then-number-ne0 c = let a = c.args in
+    products_refused c.multiply-row.ensures a.covered (not-false a.covered c.if-not-covered.false-raw) a.free.now _ c.if-number-ne0.true c.refused-then-number-ne0.ensures
+
+pub put_products-requires : goal.put_products-requires
+put_products-requires c = let r = c.requires in
+    let o = c.multiply-row.ensures r.problem r.holds r.blocks in
+    (omega (arith, o.within, o.size), o.within)
+
+pub returns : goal.returns
+returns c = let a = c.args in
+    products_answered c.multiply-row.ensures a.covered (not-false a.covered c.if-not-covered.false-raw) a.free.now _ c.put_products.result _
+    c.if-number-ne0.false c.put_products.ensures c.replied.ensures

@@ -1,0 +1,14 @@
+-- `queries::page_into` meets its contract.
+use native.Mathlib.Omega.{arith}
+use Rattle.rows.specs.Covers.{row_covers}
+use Rattle.queries.proofs.Querying.{page_within, page_answer}
+use borrow.Author.Rules.{rules}
+use Rattle.queries.proofs.page_into.Goals as goal
+
+pub put_page-requires : goal.put_page-requires
+put_page-requires c = let w = page_within (row_covers c.args.n c.args.rows.now) c.args.start c.args.row.now _ _ c.fill-page.ensures in (w.1, omega (arith, w.0, c.requires.1))
+
+pub returns : goal.returns
+returns c = page_answer (row_covers c.args.n c.args.rows.now) c.args.start c.args.row.now _ _
+    c.fill-page.ensures c.args.free.now c.put_page.new.0 c.put_page.result
+    c.put_page.ensures

@@ -1,0 +1,25 @@
+-- `ranges::banned::banned` meets its contract. The invariant: what is banned so far is in no listed set.
+use borrow.Author.Rules.{rules}
+use mathlib.Core.Logic.{⊎_elim}
+use Prim.Native.Nat.{◌-◌}
+use native.Mathlib.Omega.{arith}
+use Rattle.ranges.specs.Listed.{Banned}
+use Rattle.ranges.proofs.Banning.{banned_none, banned_one, banned_as}
+use Rattle.ranges.proofs.banned.banned.Goals as goal
+
+pub loop-i-init : goal.loop-i-init
+loop-i-init c = banned_none _ _ _
+
+pub power-m-requires : goal.power-m-requires
+power-m-requires c = omega (arith, c.requires.quoted.few)
+
+pub rival-found-requires : goal.rival-found-requires
+rival-found-requires c = record { rows_len_bound = c.requires.rows_len_bound; quoted = c.requires.quoted }
+
+pub loop-i-preserved : goal.loop-i-preserved
+loop-i-preserved c =
+    ⊎_elim (λ w. banned_as _ _ _ w.3 (banned_one _ _ _ _ _ _ _ _ c.power-m.ensures c.loop-i.invariant w.1.given.1 c.rival-found.ensures))
+    (λ w. banned_as _ _ _ w.2 c.loop-i.invariant) c.match-found.branch
+
+pub returns : goal.returns
+returns c = c.loop-i.invariant
