@@ -93,6 +93,7 @@ class Function:
         self.clauses = clauses
         self.label = label
         self.stem = names.get("stem") or ""
+        self.in_cycle = ".+" in module
         self.places = {}
         self.by_new = {}
         for i, (old, parent, step, callee, extra) in enumerate(names["places"]):
@@ -168,6 +169,11 @@ class Function:
             return at, ["well_formed"] + rest
         if head in ("requires", "pre"):
             pre = self.names.get("pre")
+            if self.stem or self.in_cycle:
+                # in a recursion the measure stood in front
+                if rest and rest[0] == "0":
+                    return at, ["decreases"] + rest[1:]
+                rest = rest[1:] if rest and rest[0] == "1" else rest
             if pre and pre.get("fields"):
                 labels = pre["fields"]
                 rest = self.nested(labels, rest)
@@ -176,6 +182,16 @@ class Function:
             pass
         self.problems.append("." + ".".join(fields) + " at " + str(at))
         return at, ["??"] + fields
+
+    def place_of(self, at):
+        """c at an earlier place, as a helper takes it."""
+        n, look = 0, self.goal
+        while look and look != at:
+            n, look = n + 1, self.places[look]["parent"]
+        if look is None:
+            self.problems.append("the place " + str(at))
+            return "c"
+        return "c" + ".before" * n
 
     def at_step(self, p, at, rest):
         step = p["step"][1]
@@ -199,6 +215,16 @@ class Function:
                 rest[0] = "true"
             elif first == "left":
                 rest[0] = "false"
+            elif first in ("new", "auto", "last", "kept") and p["callee"] and rest[1:] and rest[1] in "01":
+                # what a parameter holds behind the call, by its place among the parameters
+                k = 1
+                while k < len(rest) and rest[k] == "1":
+                    k += 1
+                params = self.names["params"].get(p["callee"], [])
+                if k < len(rest) and rest[k] == "0" and k - 1 < len(params):
+                    rest = ["auto" if first in ("auto", "kept") else "new", params[k - 1]] + rest[k + 1:]
+                else:
+                    self.problems.append("parameter " + ".".join(rest))
             elif first == "ensures" and p["callee"]:
                 rest = ["ensures"] + self.nested(self.labels("ensures", p["callee"]), rest[1:])
         return [step] + rest
@@ -292,11 +318,9 @@ class Function:
             if head not in heads:
                 return m.group(0)
             fields = tail.split(".")[1:]
-            if not fields:
-                return "c" if head != "c" else "c"
-            at, new = self.path(heads[head], fields, self.label)
+            at, new = self.path(heads[head], fields, self.label) if fields else (heads[head], None)
             if new is None:
-                return "c"
+                return self.place_of(at)
             return "c." + ".".join(new)
 
         text = PATH.sub(turn, text)
@@ -410,13 +434,14 @@ def turn_file(root, crate, rel, names, clauses):
         print(f"left: {crate}/{rel}: no names")
         return
     uses, remarks, invariants, answers, problems = [], [], [], [], []
+    helpers = {}
     parsed = []
     for item in items(text):
         block = "\n".join(item).rstrip()
         if not block:
             continue
         if block.startswith("use "):
-            if re.search(r"\.(Statement|Tie|Kinds|Reads)(\.\{|\s+as|\b)|borrow\.Fn\.|\.Lts", block) or re.search(r"proofs\.\+\w+\.\{statement\}", block):
+            if re.search(r"proofs\.\S*\+\w+\.\{statement|proofs\.\S*\.(Statement|Tie|Kinds|Reads)(\.\{|\s+as|\b)|borrow\.Fn\.|\.Lts", block) or re.search(r"proofs\.\+\w+\.\{statement\}", block):
                 continue
             uses.append(block)
         elif block.startswith("--") and not parsed and not remarks and all(x.startswith(("--", "use ")) or not x for x in item):
@@ -472,6 +497,25 @@ def turn_file(root, crate, rel, names, clauses):
             if body.strip() == "search rules" and len(re.findall(r"(?<![^\s(){};,@\[\]])" + re.escape(name) + r"(?![^\s(){};,@\[\].])", cited)) <= 3:
                 continue
             body = fn.body(body, at)
+            used = []
+            for h in reversed(list(helpers)):
+                of, h_before, h_after, h_sig, h_body, h_unfolding, h_abbrev = helpers[h]
+                call = re.compile(r"(?<![^\s(){};,@\[\]])" + re.escape(h) + "".join(" " + x for x in h_before) + r" c(?:\.before)*(?![^\s(){};,\[\]])")
+                whole = body + "".join(x[1] + x[2] for x in used)
+                if of is not fn or not call.search(whole):
+                    continue
+                if h_abbrev and not h_after:
+                    to = h_body if re.fullmatch(r"[^\s()]+", h_body) else "(" + h_body + ")"
+                    body = call.sub(lambda m: to, body)
+                    used = [(a, call.sub(lambda m: to, b), call.sub(lambda m: to, c)) for a, b, c in used]
+                else:
+                    body = call.sub(lambda m: h, body)
+                    used = [(a, call.sub(lambda m: h, b), call.sub(lambda m: h, c)) for a, b, c in used]
+                    used.append((h, h_sig, (f"λ {' '.join(h_after)}. " if h_after else "") + h_body))
+                    if h_unfolding and h_unfolding not in unfolding:
+                        unfolding += h_unfolding
+            for h, h_sig, h_body in used:
+                body = f"\n    let {h} : {h_sig} = {h_body} in" + (body if body.startswith("\n") else "\n    " + body.lstrip())
             if new.endswith("-requires") or "-requires-" in new:
                 callee = None
                 for q in fn.places.values():
@@ -511,25 +555,43 @@ def turn_file(root, crate, rel, names, clauses):
             label = f"{kind}-{stem}{new_loop}"
             invariants.append(f"{lead}abbrev pub {label} : goal.{label}\n{unfolding}{label} l ={body.rstrip()}")
         elif measure:
-            label = "decreases" + ("-" + name[2:] if cycle and len(fns) > 1 else "")
-            invariants.append(f"{lead}-- ?? measure {block}")
-            problems.append("measure " + name)
+            label = "decreases-" + name[2:].replace("-", "_")
+            params = next((v for f in fns.values() for k, v in f.names["params"].items() if plain(k.split("::")[-1]) == plain(name[2:])), [])
+            args = re.match(re.escape(name) + r"([^=\n]*)=", clauses_text)
+            body = clauses_text[args.end():]
+            body = re.sub(r"\ba((?:\.1)*)\.0(?!\d)", lambda m: "l." + params[m.group(1).count(".1")] if m.group(1).count(".1") < len(params) else m.group(0), body)
+            invariants.insert(0, f"{lead}abbrev pub {label} : goal.{label}\n{label} l ={body.rstrip()}")
+            problems.append("measure " + name + ":" + body)
         elif re.search(r"\.Claims|In 1 |Learnt|Asked", block):
             continue
         else:
             # a helper
-            m2 = re.search(r"\(c : (?:tie|lts|[\w-]+-lts)\.([^\s)]+)([^)]*)\)", signature)
+            m2 = re.search(r"(\(c : )?\b(?:tie|lts|[\w-]+-lts)\.([^\s)]+)", signature)
             if m2:
-                place = m2.group(1)
+                place = m2.group(2)
                 cand = [q for q in fn.places if plain(q) == plain(place)]
                 if cand:
                     place = cand[0]
-                    head = signature[: m2.start()] + f"(c : goal.{stem}{fn.places[place]['new']})"
-                    after = fn.body(signature[m2.end():], place)
-                    body = fn.body(clauses_text, place)
-                    problems += [f"{name}: {p}" for p in fn.problems] + [f"helper {name} at {place}"]
-                    answers.append(f"{lead}{marks}{name} : {head}{after}\n{unfolding}{body}")
-                    continue
+                    # every later place knows the same facts: the helper goes into the answers that cite it
+                    new = fn.places[place]["new"]
+                    if m2.group(1):
+                        close = signature.index(")", m2.end())
+                        sig = re.sub(r"^\s*(→|,)\s*", "", signature[close + 1:])
+                        lead_in = signature[: m2.start()].strip()
+                    else:
+                        sig, lead_in = re.sub(r"^[^→]*→\s*", "", signature), ""
+                    args = re.match(re.escape(name) + r"([^=\n]*)=", clauses_text)
+                    params = args.group(1).split() if args else []
+                    if lead_in not in ("", "(t : ℕ) →") or not args or "c" not in params or re.search(r"\n" + re.escape(name) + " ", clauses_text):
+                        problems.append(f"helper {name} is left")
+                    else:
+                        before = params[: params.index("c")]
+                        after = params[params.index("c") + 1:]
+                        fn.goal = place
+                        sig, body = fn.body(sig, place), fn.body(clauses_text[args.end():], place)
+                        helpers[name] = (fn, before, after, sig, body.strip(), unfolding, "abbrev" in marks)
+                        problems += [f"{name}: {p}" for p in fn.problems]
+                        continue
                 problems.append(f"helper {name}: place {place}")
             answers.append(f"{lead}{marks}{name} : {signature}\n{unfolding}{clauses_text}")
     for i, a in enumerate(answers):

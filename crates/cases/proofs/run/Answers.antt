@@ -8,4 +8,4 @@ pub slice_bounds-answers-end : goal.slice_bounds-answers-end
 slice_bounds-answers-end c = search rules
 
 pub slice_bounds-print-end : goal.slice_bounds-print-end
-slice_bounds-print-end c = sym (length-take-le 1000 c.cover_job-result.new.1.0 (slice_bounds-answers-end c))
+slice_bounds-print-end c = sym (length-take-le 1000 c.cover_job-result.new.answers (slice_bounds-answers-end c.before))

@@ -11,15 +11,15 @@ primes-list-requires c = (reached_sized _ c.requires).inputs
 pub returns-then-list : goal.returns-then-list
 returns-then-list c = primes_many c.args.p (reached_sized _ c.requires) _ c.allowed-may.ensures _ c.primes-list.ensures _ _ c.if-list.true c.refused.ensures
 
--- a list that is found has at most 64 primes
-few : (c : goal.After-primes-list) → c.primes-list.result.count ≤ 64
-few c = few_primes c.args.p (reached_sized _ c.requires) _ c.allowed-may.ensures _ c.primes-list.ensures c.requires
-
 pub put_primes-requires : goal.put_primes-requires
-put_primes-requires c = few c
+put_primes-requires c =
+    let few : c.primes-list.result.count ≤ 64 = few_primes c.args.p (reached_sized _ c.requires) _ c.allowed-may.ensures _ c.primes-list.ensures c.requires in
+    few
 
 pub with_primes-requires : goal.with_primes-requires
-with_primes-requires c = few c
+with_primes-requires c =
+    let few : c.primes-list.result.count ≤ 64 = few_primes c.args.p (reached_sized _ c.requires) _ c.allowed-may.ensures _ c.primes-list.ensures c.requires in
+    few
 
 pub returns-in-TooLong : goal.returns-in-TooLong
 returns-in-TooLong c = primes_long c.args.p (reached_sized _ c.requires) _ c.allowed-may.ensures _ c.primes-list.ensures _ _ _ c.if-list.false

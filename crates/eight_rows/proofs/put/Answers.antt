@@ -9,10 +9,6 @@ use Rattle.eight_rows.proofs.EightRows.{Putting, putting_none, putting_next, put
 use borrow.Author.Rules.{rules}
 use Rattle.eight_rows.proofs.put.Goals as goal
 
--- its vertices are bytes
-vertex : (c : goal.In-loop-i) → c.wide-v.result + c.loop-i.i < 256
-vertex c = omega (arith, c.loop-i-test.true, c.wide-v.ensures, c.requires.at_bound)
-
 pub bounds-job-at : goal.bounds-job-at
 bounds-job-at c = omega (arith, c.requires.at_in_bounds)
 
@@ -23,25 +19,37 @@ pub bounds-job-at-in-loop-i : goal.bounds-job-at-in-loop-i
 bounds-job-at-in-loop-i c = omega (arith, c.loop-i-test.true, c.requires.at_in_bounds)
 
 pub overflow_add-on-in-loop-i-2 : goal.overflow_add-on-in-loop-i-2
-overflow_add-on-in-loop-i-2 c = omega (arith, vertex c)
+overflow_add-on-in-loop-i-2 c =
+    let vertex : c.wide-v.result + c.loop-i.i < 256 = omega (arith, c.loop-i-test.true, c.wide-v.ensures, c.requires.at_bound) in
+    omega (arith, vertex)
 
 pub bounds-on-v : goal.bounds-on-v
-bounds-on-v c = vertex c
+bounds-on-v c =
+    let vertex : c.wide-v.result + c.loop-i.i < 256 = omega (arith, c.loop-i-test.true, c.wide-v.ensures, c.requires.at_bound) in
+    vertex
 
 pub bounds-job-at-in-loop-i-2 : goal.bounds-job-at-in-loop-i-2
 bounds-job-at-in-loop-i-2 c = omega (arith, c.loop-i-test.true, c.requires.at_in_bounds)
 
 pub overflow_add-dc-in-loop-i-2 : goal.overflow_add-dc-in-loop-i-2
-overflow_add-dc-in-loop-i-2 c = omega (arith, vertex c)
+overflow_add-dc-in-loop-i-2 c =
+    let vertex : c.wide-v.result + c.loop-i.i < 256 = omega (arith, c.loop-i-test.true, c.wide-v.ensures, c.requires.at_bound) in
+    omega (arith, vertex)
 
 pub bounds-dc-v : goal.bounds-dc-v
-bounds-dc-v c = vertex c
+bounds-dc-v c =
+    let vertex : c.wide-v.result + c.loop-i.i < 256 = omega (arith, c.loop-i-test.true, c.wide-v.ensures, c.requires.at_bound) in
+    vertex
 
 pub overflow_add-given : goal.overflow_add-given
-overflow_add-given c = omega (arith, vertex c)
+overflow_add-given c =
+    let vertex : c.wide-v.result + c.loop-i.i < 256 = omega (arith, c.loop-i-test.true, c.wide-v.ensures, c.requires.at_bound) in
+    omega (arith, vertex)
 
 pub bounds-given-v : goal.bounds-given-v
-bounds-given-v c = vertex c
+bounds-given-v c =
+    let vertex : c.wide-v.result + c.loop-i.i < 256 = omega (arith, c.loop-i-test.true, c.wide-v.ensures, c.requires.at_bound) in
+    vertex
 
 pub loop-i-smaller : goal.loop-i-smaller
 loop-i-smaller c = omega arith

@@ -50,16 +50,16 @@ tries-loop-i-init t c = (search rules, barred_start _ _ _ _)
 pub tries-extends-requires : goal.tries-extends-requires
 tries-extends-requires t c =
     let grown = c.narrow-t.result.s in
-    (fewer_less c.args.q grown _ c.requires.0, part_and_left c.args.q grown)
+    (fewer_less c.args.q grown _ c.decreases, part_and_left c.args.q grown)
 
 pub tries-returns-then-extends : goal.tries-returns-then-extends
 tries-returns-then-extends t c = λ e. absurd (true_is_not_false e)
 
 pub tries-loop-i-preserved : goal.tries-loop-i-preserved
 tries-loop-i-preserved t c =
-    let member = c.requires.1 in
+    let member = c.requires in
     let row = elim c.if-row-s.branch [ then-row-s w ↦ barred_kept _ _ _ _ _ member _ _ w.minus.ensures w.narrow-t.ensures (w.extends.ensures w.i-is.left) | else-row-s w ↦ barred_shared _ _ _ _ _ member w.if-row-s.false ] in
     (search rules, barred_more _ _ _ _ _ c.loop-i.invariant.1 row)
 
 pub tries-returns : goal.tries-returns
-tries-returns t c = λ e. barred_all _ _ _ _ _ c.requires.1 c.loop-i-test.false c.loop-i.invariant.1
+tries-returns t c = λ e. barred_all _ _ _ _ _ c.requires c.loop-i-test.false c.loop-i.invariant.1

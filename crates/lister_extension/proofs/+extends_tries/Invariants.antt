@@ -11,11 +11,11 @@ use Rattle.lister_extension.proofs.Extending.{dead_left, none_left, asked_member
 use Prim.Native.Nat.{ℕ, ◌+◌, ◌-◌, ◌≤◌, ◌<◌}
 use Rattle.lister_extension.proofs.+extends_tries.Given as goal
 
--- ?? measure abbrev μ-extends : Measures 1 extends-kinds.ps ℕ
-μ-extends κs a = a.1.1.0 + a.1.1.0
+abbrev pub decreases-tries : goal.decreases-tries
+decreases-tries l = l.q + l.q + 1
 
--- ?? measure abbrev μ-tries : Measures 1 tries-kinds.ps ℕ
-μ-tries κs a = a.1.1.1.1.0 + a.1.1.1.1.0 + 1
+abbrev pub decreases-extends : goal.decreases-extends
+decreases-extends l = l.q + l.q
 
 abbrev pub invariant-tries-loop-i : goal.invariant-tries-loop-i
 invariant-tries-loop-i l = (l.i ≤ length l.rows) × BarredBelow l.rows l.i l.s l.free l.b

@@ -7,12 +7,10 @@ use Rattle.model.specs.Table.{term}
 use Rattle.problem.proofs.Moving.{MovedDown, moved_none, moved_next, moved_all}
 use Rattle.problem.proofs.terms_without.Goals as goal
 
--- the array is as long as the candidates, or longer
-long : (c : goal.Start) → c.args.count ≤ length c.args.terms
-long c = omega (arith, c.requires.1, c.well_formed.0.1)
-
 pub loop-i-init : goal.loop-i-init
-loop-i-init c = moved_none _ _ _ c.requires.0 (long c)
+loop-i-init c =
+    let long : c.args.count ≤ length c.args.terms = omega (arith, c.requires.1, c.well_formed.0.1) in
+    moved_none _ _ _ c.requires.0 (long)
 
 pub overflow_add-i : goal.overflow_add-i
 overflow_add-i c = omega (arith, c.loop-i.invariant.within, c.requires.1)
@@ -39,7 +37,11 @@ pub loop-i-smaller : goal.loop-i-smaller
 loop-i-smaller c = omega (arith, c.loop-i.invariant.within)
 
 pub loop-i-preserved : goal.loop-i-preserved
-loop-i-preserved c = moved_next _ _ _ c.requires.0 (long c) _ _ (term 0 0 0) _ c.loop-i.invariant c.loop-i-test.true refl
+loop-i-preserved c =
+    let long : c.args.count ≤ length c.args.terms = omega (arith, c.requires.1, c.well_formed.0.1) in
+    moved_next _ _ _ c.requires.0 (long) _ _ (term 0 0 0) _ c.loop-i.invariant c.loop-i-test.true refl
 
 pub returns : goal.returns
-returns c = moved_all _ _ _ c.requires.0 (long c) _ _ c.loop-i.invariant c.loop-i-test.false
+returns c =
+    let long : c.args.count ≤ length c.args.terms = omega (arith, c.requires.1, c.well_formed.0.1) in
+    moved_all _ _ _ c.requires.0 (long) _ _ c.loop-i.invariant c.loop-i-test.false

@@ -10,5 +10,5 @@ put_page-requires c = let w = page_within (row_covers c.args.n c.args.rows.now) 
 
 pub returns : goal.returns
 returns c = page_answer (row_covers c.args.n c.args.rows.now) c.args.start c.args.row.now _ _
-    c.fill-page.ensures c.args.free.now c.put_page.new.0 c.put_page.result
+    c.fill-page.ensures c.args.free.now c.put_page.new.free c.put_page.result
     c.put_page.ensures

@@ -14,5 +14,5 @@ put_possible_page-requires c = let w = page_within (row_possibles (length c.args
 
 pub returns : goal.returns
 returns c = possible_answer (row_possibles (length c.args.lows.now) c.args.rows.now c.args.lows.now c.args.highs.now) c.args.start c.args.row.now _ _
-    c.fill-page.ensures c.args.free.now c.put_possible_page.last.0 c.put_possible_page.result
+    c.fill-page.ensures c.args.free.now c.put_possible_page.new.free c.put_possible_page.result
     c.put_possible_page.ensures

@@ -11,36 +11,31 @@ use Rattle.answers.proofs.Bytes.{same_long, room_behind, behind, Whole, headed_r
 use borrow.Author.Rules.{rules}
 use Rattle.answers.proofs.writers.put_cheapest.Goals as goal
 
-abbrev Old : tie.Start → List ℕ
-Old c = c.args.free.now
-
--- what stands in front once put_number came back, and once it came back again
-abbrev First : tie.After-put-number → List ℕ
-First c = Whole (0x63 ∷ []) (Old c.before.before.before.before) c.put-number.new.0
-
-first : (c : goal.After-put_number) → InFront (0x63 ∷ low 2 c.args.cost) 3 (Old c) (First c)
-first c = headed (0x63 ∷ []) (Old c) _ _ 2 (omega arith) c.put_number.ensures
-
-first-long : (c : goal.After-put_number) → length (First c) ≡ length (Old c)
-first-long c = let h : 3 ≤ length (Old c) = omega arith in same_long _ _ _ _ (first c) h
-
-all : (c : goal.After-put_number-2) → InFront (0x63 ∷ (low 2 c.args.cost ++ low 8 c.args.set)) 11 (Old c) (put_mid 3 (length (First c) - 3) (First c) c.put_number-2.new.0)
-all c = let h : 3 ≤ length (Old c) = omega arith in behind _ _ _ 3 (first c) _ _ 8 h c.put_number-2.ensures
-
 pub slice_bounds-put_number-count : goal.slice_bounds-put_number-count
 slice_bounds-put_number-count c = simp length-set (omega arith)
 
 pub put_number-requires : goal.put_number-requires
-put_number-requires c = headed_room (0x63 ∷ []) (Old c) 2 (omega arith)
+put_number-requires c = headed_room (0x63 ∷ []) (c.args.free.now) 2 (omega arith)
 
 pub slice_bounds-put_number-count-2 : goal.slice_bounds-put_number-count-2
-slice_bounds-put_number-count-2 c = omega (arith, first-long c)
+slice_bounds-put_number-count-2 c =
+    let first : InFront (0x63 ∷ low 2 c.args.cost) 3 (c.args.free.now) ((Whole (0x63 ∷ []) (c.args.free.now) c.put_number.new.free)) = headed (0x63 ∷ []) (c.args.free.now) _ _ 2 (omega arith) c.put_number.ensures in
+    let first-long : length ((Whole (0x63 ∷ []) (c.args.free.now) c.put_number.new.free)) ≡ length (c.args.free.now) = let h : 3 ≤ length (c.args.free.now) = omega arith in same_long _ _ _ _ (first) h in
+    omega (arith, first-long)
 
 pub put_number-requires-2 : goal.put_number-requires-2
-put_number-requires-2 c = room_behind _ _ _ _ (first c) 8 c.if-free-lt11.false
+put_number-requires-2 c =
+    let first : InFront (0x63 ∷ low 2 c.args.cost) 3 (c.args.free.now) ((Whole (0x63 ∷ []) (c.args.free.now) c.put_number.new.free)) = headed (0x63 ∷ []) (c.args.free.now) _ _ 2 (omega arith) c.put_number.ensures in
+    room_behind _ _ _ _ (first) 8 c.if-free-lt11.false
 
 pub shape_of-free : goal.shape_of-free
-shape_of-free c = same_long _ _ _ _ (all c) c.if-free-lt11.false
+shape_of-free c =
+    let first : InFront (0x63 ∷ low 2 c.args.cost) 3 (c.args.free.now) ((Whole (0x63 ∷ []) (c.args.free.now) c.put_number.new.free)) = headed (0x63 ∷ []) (c.args.free.now) _ _ 2 (omega arith) c.put_number.ensures in
+    let all : InFront (0x63 ∷ (low 2 c.args.cost ++ low 8 c.args.set)) 11 (c.args.free.now) (put_mid 3 (length ((Whole (0x63 ∷ []) (c.args.free.now) c.put_number.new.free)) - 3) ((Whole (0x63 ∷ []) (c.args.free.now) c.put_number.new.free)) c.put_number-2.new.free) = let h : 3 ≤ length (c.args.free.now) = omega arith in behind _ _ _ 3 (first) _ _ 8 h c.put_number-2.ensures in
+    same_long _ _ _ _ (all) c.if-free-lt11.false
 
 pub returns : goal.returns
-returns c = written _ _ _ _ c.if-free-lt11.false (all c)
+returns c =
+    let first : InFront (0x63 ∷ low 2 c.args.cost) 3 (c.args.free.now) ((Whole (0x63 ∷ []) (c.args.free.now) c.put_number.new.free)) = headed (0x63 ∷ []) (c.args.free.now) _ _ 2 (omega arith) c.put_number.ensures in
+    let all : InFront (0x63 ∷ (low 2 c.args.cost ++ low 8 c.args.set)) 11 (c.args.free.now) (put_mid 3 (length ((Whole (0x63 ∷ []) (c.args.free.now) c.put_number.new.free)) - 3) ((Whole (0x63 ∷ []) (c.args.free.now) c.put_number.new.free)) c.put_number-2.new.free) = let h : 3 ≤ length (c.args.free.now) = omega arith in behind _ _ _ 3 (first) _ _ 8 h c.put_number-2.ensures in
+    written _ _ _ _ c.if-free-lt11.false (all)

@@ -10,14 +10,10 @@ use Rattle.answers.proofs.Bytes.{blocks_length, same_long, headed_room, headed, 
 use borrow.Author.Rules.{rules}
 use Rattle.answers.proofs.writers.put_primes.Goals as goal
 
-abbrev Old : tie.Start → List ℕ
-Old c = c.args.free.now
-
-there : (c : goal.Start) → c.args.k ≤ length c.args.terms
-there c = omega (arith, c.well_formed.1.0.1.0.1)
-
 pub returns-then-free-len : goal.returns-then-free-len
-returns-then-free-len c = (omega (arith, blocks_length term_bytes 3 (λ t. refl) c.args.terms c.args.k (there c)), refl)
+returns-then-free-len c =
+    let there : c.args.k ≤ length c.args.terms = omega (arith, c.well_formed.1.0.1.0.1) in
+    (omega (arith, blocks_length term_bytes 3 (λ t. refl) c.args.terms c.args.k (there)), refl)
 
 pub bounds-free-1 : goal.bounds-free-1
 bounds-free-1 c = simp length-set (omega arith)
@@ -26,10 +22,12 @@ pub slice_bounds-put_terms-count : goal.slice_bounds-put_terms-count
 slice_bounds-put_terms-count c = simp length-set (omega arith)
 
 pub put_terms-requires : goal.put_terms-requires
-put_terms-requires c = (c.requires, headed_room (0x70 ∷ _ ∷ []) (Old c) _ c.if-free-len.false)
+put_terms-requires c = (c.requires, headed_room (0x70 ∷ _ ∷ []) (c.args.free.now) _ c.if-free-len.false)
 
 pub shape_of-free : goal.shape_of-free
-shape_of-free c = same_long _ _ _ _ (headed (0x70 ∷ _ ∷ []) (Old c) _ _ (3 * c.args.k) c.if-free-len.false c.put_terms.ensures) c.if-free-len.false
+shape_of-free c = same_long _ _ _ _ (headed (0x70 ∷ _ ∷ []) (c.args.free.now) _ _ (3 * c.args.k) c.if-free-len.false c.put_terms.ensures) c.if-free-len.false
 
 pub returns : goal.returns
-returns c = rw (length-take-le _ _ (there c)) (written _ _ _ _ c.if-free-len.false (headed (0x70 ∷ _ ∷ []) (Old c) _ _ (3 * c.args.k) c.if-free-len.false c.put_terms.ensures))
+returns c =
+    let there : c.args.k ≤ length c.args.terms = omega (arith, c.well_formed.1.0.1.0.1) in
+    rw (length-take-le _ _ (there)) (written _ _ _ _ c.if-free-len.false (headed (0x70 ∷ _ ∷ []) (c.args.free.now) _ _ (3 * c.args.k) c.if-free-len.false c.put_terms.ensures))

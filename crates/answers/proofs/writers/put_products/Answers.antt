@@ -10,14 +10,8 @@ use Rattle.answers.proofs.Bytes.{low_length, blocks_length, same_long, headed_ro
 use borrow.Author.Rules.{rules}
 use Rattle.answers.proofs.writers.put_products.Goals as goal
 
-abbrev Old : tie.Start → List ℕ
-Old c = c.args.free.now
-
-abbrev Sets : tie.Start → List ℕ
-Sets c = c.args.sets.now
-
 pub returns-then-free-len : goal.returns-then-free-len
-returns-then-free-len c = (omega (arith, blocks_length (low 8) 8 (low_length 8) (Sets c) c.args.k c.requires.0), refl)
+returns-then-free-len c = (omega (arith, blocks_length (low 8) 8 (low_length 8) (c.args.sets.now) c.args.k c.requires.0), refl)
 
 pub bounds-free-1 : goal.bounds-free-1
 bounds-free-1 c = simp length-set (omega arith)
@@ -29,10 +23,10 @@ pub slice_bounds-put_sets-count : goal.slice_bounds-put_sets-count
 slice_bounds-put_sets-count c = simp length-set (omega arith)
 
 pub put_sets-requires : goal.put_sets-requires
-put_sets-requires c = (c.requires.0, c.requires.1, headed_room (0x6e ∷ _ ∷ _ ∷ []) (Old c) _ c.if-free-len.false)
+put_sets-requires c = (c.requires.0, c.requires.1, headed_room (0x6e ∷ _ ∷ _ ∷ []) (c.args.free.now) _ c.if-free-len.false)
 
 pub shape_of-free : goal.shape_of-free
-shape_of-free c = same_long _ _ _ _ (headed (0x6e ∷ _ ∷ _ ∷ []) (Old c) _ _ (8 * c.args.k) c.if-free-len.false c.put_sets.ensures) c.if-free-len.false
+shape_of-free c = same_long _ _ _ _ (headed (0x6e ∷ _ ∷ _ ∷ []) (c.args.free.now) _ _ (8 * c.args.k) c.if-free-len.false c.put_sets.ensures) c.if-free-len.false
 
 pub returns : goal.returns
-returns c = rw (length-take-le _ _ c.requires.0) (written _ _ _ _ c.if-free-len.false (headed (0x6e ∷ _ ∷ _ ∷ []) (Old c) _ _ (8 * c.args.k) c.if-free-len.false c.put_sets.ensures))
+returns c = rw (length-take-le _ _ c.requires.0) (written _ _ _ _ c.if-free-len.false (headed (0x6e ∷ _ ∷ _ ∷ []) (c.args.free.now) _ _ (8 * c.args.k) c.if-free-len.false c.put_sets.ensures))

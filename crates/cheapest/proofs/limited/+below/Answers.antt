@@ -8,7 +8,6 @@ use Rattle.cheapest.proofs.Valuing.{priced_with, priced_fits}
 use Rattle.cheapest.proofs.Following.{planned_split, planned_branch}
 use Rattle.cheapest.proofs.Limiting.{below_cut, below_met, below_sufficient, below_with, below_without, below_over, below_parts}
 use Prim.Native.Nat.{ℕ, ◌<◌}
-use Rattle.cheapest.proofs.limited.+below.{statement}
 use Rattle.cheapest.proofs.limited.+below.Goals as goal
 
 abbrev below_at : ℕ → In 2 below-kinds.ps
@@ -18,50 +17,50 @@ abbrev below-below : ℕ → In 2 below-kinds.ps
 below-below t = and 2 below-kinds.ps (falls 2 below-kinds.ps ◌<◌ μ-below t) below.Pre
 
 pub limit_below-lower-requires : goal.limit_below-lower-requires
-limit_below-lower-requires t c = c.requires.priced.0.positive
+limit_below-lower-requires t c = c.requires.common_unit.positive
 
 pub plan-next-requires : goal.plan-next-requires
 plan-next-requires t c =
-    record { rows_len_bound = c.requires.common_unit; costs_len_bound = c.requires.priced.1.few; cost_value = c.requires.priced.1.is }
+    record { rows_len_bound = c.requires.rows_len_bound; costs_len_bound = c.requires.priced.few; cost_value = c.requires.priced.is }
 
 pub total-spent-requires : goal.total-spent-requires
 total-spent-requires t c =
-    c.requires.priced.1.few
+    c.requires.priced.few
 
 pub overflow_add-over : goal.overflow_add-over
 overflow_add-over t c =
     let small = small_entries c.args.costs.now c.type_inv.costs in
-    omega (arith, (priced_fits _ _ _ _ small c.requires.priced.1).1, cost_fits _ _ _ c.requires.priced.1.few small c.total-spent.ensures)
+    omega (arith, (priced_fits _ _ _ _ small c.requires.priced).1, cost_fits _ _ _ c.requires.priced.few small c.total-spent.ensures)
 
 pub overflow_add-cost : goal.overflow_add-cost
 overflow_add-cost t c =
     let small = small_entries c.args.costs.now c.type_inv.costs in
-    omega (arith, (priced_fits _ _ _ _ small c.requires.priced.1).0, cost_fits _ _ _ c.requires.priced.1.few small c.total-spent.ensures)
+    omega (arith, (priced_fits _ _ _ _ small c.requires.priced).0, cost_fits _ _ _ c.requires.priced.few small c.total-spent.ensures)
 
 pub value-p-requires : goal.value-p-requires
 value-p-requires t c =
-    let planned = planned_split _ _ _ _ _ _ _ _ _ c.in-Split.is c.plan-next.ensures in record { rows_len_bound = c.requires.common_unit; common_unit = c.requires.priced.0; priced = (priced_other _ _ _ _ _ _ planned.1.apart planned.1.component c.minus-other.ensures _ _ _ c.requires.priced.1 c.total-spent.ensures, ) }
+    let planned = planned_split _ _ _ _ _ _ _ _ _ c.in-Split.is c.plan-next.ensures in record { rows_len_bound = c.requires.rows_len_bound; common_unit = c.requires.common_unit; priced = (priced_other _ _ _ _ _ _ planned.1.apart planned.1.component c.minus-other.ensures _ _ _ c.requires.priced c.total-spent.ensures, ) }
 
 pub returns-then-over-p : goal.returns-then-over-p
 returns-then-over-p t c =
     let planned = planned_split _ _ _ _ _ _ _ _ _ c.in-Split.is c.plan-next.ensures in
-    below_sufficient _ _ _ _ _ _ _ c.requires.priced.0 c.limit_below-lower.ensures _ _ planned.0
+    below_sufficient _ _ _ _ _ _ _ c.requires.common_unit c.limit_below-lower.ensures _ _ planned.0
     (below_over _ _ _ _ _ _ _ planned.1.apart planned.1.component c.minus-other.ensures _ _ c.value-p.ensures c.total-spent.ensures c.if-over-p.true)
 
 pub total-requires : goal.total-requires
 total-requires t c =
-    c.requires.priced.1.few
+    c.requires.priced.few
 
 pub overflow_add-paid : goal.overflow_add-paid
 overflow_add-paid t c =
     let small = small_entries c.args.costs.now c.type_inv.costs in
-    omega (arith, (priced_fits _ _ _ _ small c.requires.priced.1).0, cost_fits _ _ _ c.requires.priced.1.few small c.total.ensures)
+    omega (arith, (priced_fits _ _ _ _ small c.requires.priced).0, cost_fits _ _ _ c.requires.priced.few small c.total.ensures)
 
 pub below-requires : goal.below-requires
 below-requires t c =
-    let planned = planned_split _ _ _ _ _ _ _ _ _ c.in-Split.is c.plan-next.ensures in record { rows_len_bound = omega (arith, c.requires.rows_len_bound, planned.1.other_less _ c.minus-other.ensures, part_le _ _ planned.0.part); common_unit = c.requires.common_unit; priced = ((
-          c.requires.priced.0,
-          priced_this _ _ _ _ _ _ planned.1.apart planned.1.component c.minus-other.ensures _ _ _ c.value-p.result.set c.requires.priced.1
+    let planned = planned_split _ _ _ _ _ _ _ _ _ c.in-Split.is c.plan-next.ensures in record { rows_len_bound = omega (arith, c.decreases, planned.1.other_less _ c.minus-other.ensures, part_le _ _ planned.0.part); common_unit = c.requires.rows_len_bound; priced = ((
+          c.requires.common_unit,
+          priced_this _ _ _ _ _ _ planned.1.apart planned.1.component c.minus-other.ensures _ _ _ c.value-p.result.set c.requires.priced
               c.total.ensures,
         ), ) }
 
@@ -71,38 +70,38 @@ price-requires t c =
 
 pub overflow_add-paid-in-Branch : goal.overflow_add-paid-in-Branch
 overflow_add-paid-in-Branch t c =
-    omega (arith, (priced_fits _ _ _ _ (small_entries c.args.costs.now c.type_inv.costs) c.requires.priced.1).0, c.price.ensures.small)
+    omega (arith, (priced_fits _ _ _ _ (small_entries c.args.costs.now c.type_inv.costs) c.requires.priced).0, c.price.ensures.small)
 
 pub below-with-requires : goal.below-with-requires
 below-with-requires t c =
-    let planned = planned_branch _ _ _ _ _ _ _ _ _ c.in-Branch.is c.plan-next.ensures in record { rows_len_bound = omega (arith, c.requires.rows_len_bound, minus_member_less _ _ _ planned.1 c.minus-rest.ensures, part_le _ _ planned.0.part); common_unit = c.requires.common_unit; priced = (c.requires.priced.0, priced_with _ _ _ _ _ _ c.requires.priced.1 c.price.ensures planned.2) }
+    let planned = planned_branch _ _ _ _ _ _ _ _ _ c.in-Branch.is c.plan-next.ensures in record { rows_len_bound = omega (arith, c.decreases, minus_member_less _ _ _ planned.1 c.minus-rest.ensures, part_le _ _ planned.0.part); common_unit = c.requires.rows_len_bound; priced = (c.requires.common_unit, priced_with _ _ _ _ _ _ c.requires.priced c.price.ensures planned.2) }
 
 pub returns-then-with-limit : goal.returns-then-with-limit
 returns-then-with-limit t c =
     let planned = planned_branch _ _ _ _ _ _ _ _ _ c.in-Branch.is c.plan-next.ensures in
-    below_sufficient _ _ _ _ _ _ _ c.requires.priced.0 c.limit_below-lower.ensures _ _ planned.0
+    below_sufficient _ _ _ _ _ _ _ c.requires.common_unit c.limit_below-lower.ensures _ _ planned.0
     (below_with _ _ _ _ _ _ _ _ planned.1 c.minus-rest.ensures c.below-with.ensures c.if-with-limit.true)
 
 pub below-requires-in-Branch : goal.below-requires-in-Branch
 below-requires-in-Branch t c =
-    let planned = planned_branch _ _ _ _ _ _ _ _ _ c.in-Branch.is c.plan-next.ensures in record { rows_len_bound = omega (arith, c.requires.rows_len_bound, minus_member_less _ _ _ planned.1 c.minus-rest.ensures, part_le _ _ planned.0.part); common_unit = c.requires.common_unit; priced = (c.requires.priced.0, c.requires.priced.1) }
+    let planned = planned_branch _ _ _ _ _ _ _ _ _ c.in-Branch.is c.plan-next.ensures in record { rows_len_bound = omega (arith, c.decreases, minus_member_less _ _ _ planned.1 c.minus-rest.ensures, part_le _ _ planned.0.part); common_unit = c.requires.rows_len_bound; priced = (c.requires.common_unit, c.requires.priced) }
 
 pub returns-in-Cut : goal.returns-in-Cut
 returns-in-Cut t c =
-    below_cut _ _ _ _ _ _ _ c.requires.priced.0 c.limit_below-lower.ensures _ _ c.in-Cut.is c.plan-next.ensures
+    below_cut _ _ _ _ _ _ _ c.requires.common_unit c.limit_below-lower.ensures _ _ c.in-Cut.is c.plan-next.ensures
 
 pub returns-in-Done : goal.returns-in-Done
 returns-in-Done t c =
-    below_met _ _ _ _ _ _ _ c.requires.priced.0 c.limit_below-lower.ensures _ _ c.requires.priced.1.is c.in-Done.is c.plan-next.ensures
+    below_met _ _ _ _ _ _ _ c.requires.common_unit c.limit_below-lower.ensures _ _ c.requires.priced.is c.in-Done.is c.plan-next.ensures
 
 pub returns-else-over-p : goal.returns-else-over-p
 returns-else-over-p t c =
     let planned = planned_split _ _ _ _ _ _ _ _ _ c.in-Split.is c.plan-next.ensures in
-    below_sufficient _ _ _ _ _ _ _ c.requires.priced.0 c.limit_below-lower.ensures _ _ planned.0
+    below_sufficient _ _ _ _ _ _ _ c.requires.common_unit c.limit_below-lower.ensures _ _ planned.0
     (below_parts _ _ _ _ _ _ _ planned.1.apart planned.1.component c.minus-other.ensures _ _ c.value-p.ensures _ c.if-over-p.false c.below.ensures)
 
 pub returns-else-with-limit : goal.returns-else-with-limit
 returns-else-with-limit t c =
     let planned = planned_branch _ _ _ _ _ _ _ _ _ c.in-Branch.is c.plan-next.ensures in
-    below_sufficient _ _ _ _ _ _ _ c.requires.priced.0 c.limit_below-lower.ensures _ _ planned.0
+    below_sufficient _ _ _ _ _ _ _ c.requires.common_unit c.limit_below-lower.ensures _ _ planned.0
     (below_without _ _ _ _ _ _ _ _ planned.1 c.minus-rest.ensures c.below-with.ensures _ c.if-with-limit.false c.below-in-Branch.ensures)

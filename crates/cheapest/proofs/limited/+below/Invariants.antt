@@ -8,8 +8,7 @@ use Rattle.cheapest.proofs.Valuing.{priced_with, priced_fits}
 use Rattle.cheapest.proofs.Following.{planned_split, planned_branch}
 use Rattle.cheapest.proofs.Limiting.{below_cut, below_met, below_sufficient, below_with, below_without, below_over, below_parts}
 use Prim.Native.Nat.{ℕ, ◌<◌}
-use Rattle.cheapest.proofs.limited.+below.{statement}
 use Rattle.cheapest.proofs.limited.+below.Given as goal
 
--- ?? measure abbrev μ-below : Measures 2 below-kinds.ps ℕ
-μ-below κs a = a.1.1.1.1.0
+abbrev pub decreases-below : goal.decreases-below
+decreases-below l = l.free

@@ -7,8 +7,7 @@ use Rattle.cheapest_bounds.proofs.Costing.{cost_fits, small_entries}
 use Rattle.cheapest.proofs.Valuing.{valued_both, priced_with, priced_less, priced_fits}
 use Rattle.cheapest.proofs.Following.{valued_cut, valued_met, valued_sufficient, planned_split, planned_branch}
 use Prim.Native.Nat.{ℕ, ◌<◌}
-use Rattle.cheapest.proofs.search.+value.{statement}
 use Rattle.cheapest.proofs.search.+value.Given as goal
 
--- ?? measure abbrev μ-value : Measures 2 value-kinds.ps ℕ
-μ-value κs a = a.1.1.1.1.0
+abbrev pub decreases-value : goal.decreases-value
+decreases-value l = l.free

@@ -8,6 +8,7 @@ use lib.ListN.{get_or, length}
 use lib.Seq.{length-take-le}
 use borrow.Rule.Slice.PartMut.{same_len_mid}
 use Rattle.model.specs.Commands.{Kind, kind_of, is, is_query_kind, width}
+use Rattle.codec.specs.Kinds.{kind_is}
 use Rattle.problem.proofs.Keeping.{reached_sized, reached_alone}
 use Rattle.engine.specs.Steps.{Stepped, context_at}
 use Rattle.engine.specs.Jobs.{IsMatrix}

@@ -14,10 +14,6 @@ use Rattle.incidence.proofs.Products.{stands_none, stands_point, stands_cell, st
 use Rattle.incidence.proofs.presence.presence.Goals.{else-has, else-j-m, then-has, then-j-m}
 use Rattle.incidence.proofs.presence.presence.Goals as goal
 
--- the vertices are bytes
-vertex : (c : goal.In-loop-v) → c.loop-v.v < 256
-vertex c = omega (arith, c.loop-v-test.true, power_le _ _ c.requires.1 c.bound-size.ensures)
-
 pub bound-size-requires : goal.bound-size-requires
 bound-size-requires c = c.requires.1
 
@@ -28,19 +24,29 @@ pub loop-v-init : goal.loop-v-init
 loop-v-init c = (λ ts q. stands_none _ _ _ _ _ _ _, first_cell _ _)
 
 pub bounds-on-v : goal.bounds-on-v
-bounds-on-v c = vertex c
+bounds-on-v c =
+    let vertex : c.loop-v.v < 256 = omega (arith, c.loop-v-test.true, power_le _ _ c.requires.1 c.bound-size.ensures) in
+    vertex
 
 pub bounds-on-v-then-power-on : goal.bounds-on-v-then-power-on
-bounds-on-v-then-power-on c = vertex c
+bounds-on-v-then-power-on c =
+    let vertex : c.loop-v.v < 256 = omega (arith, c.loop-v-test.true, power_le _ _ c.requires.1 c.bound-size.ensures) in
+    vertex
 
 pub overflow_cast-v : goal.overflow_cast-v
-overflow_cast-v c = omega (arith, vertex c)
+overflow_cast-v c =
+    let vertex : c.loop-v.v < 256 = omega (arith, c.loop-v-test.true, power_le _ _ c.requires.1 c.bound-size.ensures) in
+    omega (arith, vertex)
 
 pub offset_bounds-held-v : goal.offset_bounds-held-v
-offset_bounds-held-v c = omega (arith, vertex c)
+offset_bounds-held-v c =
+    let vertex : c.loop-v.v < 256 = omega (arith, c.loop-v-test.true, power_le _ _ c.requires.1 c.bound-size.ensures) in
+    omega (arith, vertex)
 
 pub bounds-held-v : goal.bounds-held-v
-bounds-held-v c = vertex c
+bounds-held-v c =
+    let vertex : c.loop-v.v < 256 = omega (arith, c.loop-v-test.true, power_le _ _ c.requires.1 c.bound-size.ensures) in
+    vertex
 
 pub offset_bounds-driving-wide : goal.offset_bounds-driving-wide
 offset_bounds-driving-wide c = omega (arith, c.wide.ensures)
@@ -49,9 +55,11 @@ pub bounds-driving-wide : goal.bounds-driving-wide
 bounds-driving-wide c = omega (arith, c.wide.ensures)
 
 pub loop-v-preserved-then-power-on : goal.loop-v-preserved-then-power-on
-loop-v-preserved-then-power-on c = (
+loop-v-preserved-then-power-on c =
+    let vertex : c.loop-v.v < 256 = omega (arith, c.loop-v-test.true, power_le _ _ c.requires.1 c.bound-size.ensures) in
+    (
       λ ts q. elim c.if-has.branch [ then-has w ↦ stands_point _ _ _ _ _ _ _ _ _ _ _ _ c.bound-size.ensures c.loop-v-test.true c.if-j-m.true c.has.ensures
-          (c.loop-v.invariant.0 ts q) _ _ w.if-has.true (point_sum q _ _ _ _ _ (vertex c) c.if-j-m.true w.block_sum_at-arg-1.ensures w.sum_at-terms.ensures w.wide.ensures) w.block_sum_at | else-has w ↦ stands_cell _ _ _ _ _ _ _ _ _ _ _ _ c.bound-size.ensures c.loop-v-test.true c.if-j-m.true c.has.ensures
+          (c.loop-v.invariant.0 ts q) _ _ w.if-has.true (point_sum q _ _ _ _ _ (vertex) c.if-j-m.true w.block_sum_at-arg-1.ensures w.sum_at-terms.ensures w.wide.ensures) w.block_sum_at | else-has w ↦ stands_cell _ _ _ _ _ _ _ _ _ _ _ _ c.bound-size.ensures c.loop-v-test.true c.if-j-m.true c.has.ensures
           (c.loop-v.invariant.0 ts q) _ w.if-has.false w.product-is ],
       next_output _ _ _ _ c.loop-v-test.true c.if-j-m.true,
     )

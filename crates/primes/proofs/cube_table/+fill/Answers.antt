@@ -7,7 +7,6 @@ use lib.Pow.{pow_pos}
 use Rattle.primes.proofs.BaseThree.{cubes_le}
 use Rattle.primes.proofs.Blocks.{fits_one, one_entry, Split, half_lt, split, clear_first, clear_second, blocks}
 use Rattle.primes.proofs.Pairs.{one_input, pair_block}
-use Rattle.primes.proofs.cube_table.+fill.{statement}
 use Rattle.primes.proofs.cube_table.+fill.Goals as goal
 
 abbrev fill-at : ℕ → In 3 fill-kinds.ps
@@ -17,19 +16,19 @@ abbrev fill-below : ℕ → In 3 fill-kinds.ps
 fill-below t = and 3 fill-kinds.ps (falls 3 fill-kinds.ps ◌<◌ μ-fill t) fill.Pre
 
 pub bounds-may-value : goal.bounds-may-value
-bounds-may-value t c = omega (arith, c.requires.i_bound.1.1, pow_pos c.args.i)
+bounds-may-value t c = omega (arith, c.requires.i_bound.1, pow_pos c.args.i)
 
 pub bounds-table-at : goal.bounds-table-at
-bounds-table-at t c = fits_one _ _ _ c.if-i-eq0.true c.requires.i_bound.1.3
+bounds-table-at t c = fits_one _ _ _ c.if-i-eq0.true c.requires.i_bound.3
 
 pub shape_of-table-then-i-eq0 : goal.shape_of-table-then-i-eq0
 shape_of-table-then-i-eq0 t c = simp length-set
 
 pub returns-then-i-eq0 : goal.returns-then-i-eq0
-returns-then-i-eq0 t c = one_entry _ _ _ _ _ c.if-i-eq0.true c.requires.i_bound.1.3
+returns-then-i-eq0 t c = one_entry _ _ _ _ _ c.if-i-eq0.true c.requires.i_bound.3
 
 pub fill_pair-requires : goal.fill_pair-requires
-fill_pair-requires t c = one_input _ _ _ _ c.if-i-eq1.true c.requires.i_bound.1
+fill_pair-requires t c = one_input _ _ _ _ c.if-i-eq1.true c.requires.i_bound
 
 pub shape_of-table-then-i-eq1 : goal.shape_of-table-then-i-eq1
 shape_of-table-then-i-eq1 t c = c.fill_pair.ensures.beside.size
@@ -41,30 +40,31 @@ pub overflow_sub-k : goal.overflow_sub-k
 overflow_sub-k t c = omega (arith, c.if-i-eq0.false)
 
 pub bound-half-requires : goal.bound-half-requires
-bound-half-requires t c = omega (arith, c.requires.i_bound.1.0)
+bound-half-requires t c = omega (arith, c.requires.i_bound.0)
 
 pub spread-s-requires : goal.spread-s-requires
 spread-s-requires t c = let p = c.requires.?? in
     record { spreads = p.1.0; b_bound = half_lt _ _ p.1.1.0 c.if-i-eq0.false c.bound-half.ensures }
 
 -- the block in three
-in_three : (t : ℕ) (c : goal.After-spread-s) (fill-at t) fill.Post) → Split c.args.i c.bound-half.result c.spread-s.result
-in_three t c = split _ _ _ c.requires.i_bound.1.0 c.if-i-eq0.false c.bound-half.ensures c.spread-s.ensures
+in_three : (t : ℕ) (c : fill-lts.After-spread (G t) (fill-at t) fill.Post) → Split c.before.before.before.before.before.args.i c.before.bound.result c.spread.result
+in_three t c = let c3 = c.before.before.before in
+    split _ _ _ c3.before.before.requires.1.1.0 c3.if1.false c.before.bound.ensures c.spread.ensures
 
 pub overflow_add-low : goal.overflow_add-low
-overflow_add-low t c = omega (arith, c.requires.i_bound.1.3, (in_three t c).thirds)
+overflow_add-low t c = omega (arith, c.requires.i_bound.3, (in_three t c).thirds)
 
 pub fill-requires : goal.fill-requires
-fill-requires t c = let p = c.requires.?? in let q = in_three t c in record { spreads = omega (arith, p.0, c.if-i-eq0.false); i_bound = (p.1.0, (omega (arith, p.1.1.0), omega (arith, p.1.1.1, q.halved, q.weight), clear_first _ _ _ q _ p.1.1.2, omega (arith, p.1.1.3, q.thirds, q.third))) }
+fill-requires t c = let p = c.requires.?? in let q = in_three t c.before in record { spreads = omega (arith, p.0, c.if-i-eq0.false); i_bound = (p.1.0, (omega (arith, p.1.1.0), omega (arith, p.1.1.1, q.halved, q.weight), clear_first _ _ _ q _ p.1.1.2, omega (arith, p.1.1.3, q.thirds, q.third))) }
 
 pub overflow_add-value : goal.overflow_add-value
-overflow_add-value t c = omega (arith, c.requires.i_bound.1.1, (in_three t c).halved)
+overflow_add-value t c = omega (arith, c.requires.i_bound.1, (in_three t c.before.before.before.before).halved)
 
 pub overflow_add-low-2 : goal.overflow_add-low-2
-overflow_add-low-2 t c = omega (arith, c.requires.i_bound.1.3, (in_three t c).thirds)
+overflow_add-low-2 t c = omega (arith, c.requires.i_bound.3, (in_three t c.before.before.before.before).thirds)
 
 pub fill-requires-2 : goal.fill-requires-2
-fill-requires-2 t c = let p = c.requires.?? in let q = in_three t c in record { spreads = omega (arith, p.0, c.if-i-eq0.false); i_bound = (
+fill-requires-2 t c = let p = c.requires.?? in let q = in_three t c.before.before.before.before.before in record { spreads = omega (arith, p.0, c.if-i-eq0.false); i_bound = (
     p.1.0,
     (
       omega (arith, p.1.1.0),
@@ -77,11 +77,11 @@ fill-requires-2 t c = let p = c.requires.?? in let q = in_three t c in record { 
 pub join-requires : goal.join-requires
 join-requires t c =
     let c3 =
-    c in let c7 = c3.before.before.before.before in let c9 = c7.before.before in let p = c9.before.before.before.before.before.pre in let q = in_three t c9 in
+    c.before.before.before in let c7 = c3.before.before.before.before in let c9 = c7.before.before in let p = c9.before.before.before.before.before.pre in let q = in_three t c9 in
     (omega (arith, cubes_le _ p.1.1.0, q.thirds), omega (arith, p.1.1.3, q.thirds, c7.fill.ensures.beside.size, c3.fill2.ensures.beside.size))
 
 pub shape_of-table : goal.shape_of-table
 shape_of-table t c = c.join.ensures.beside.size ∙ c.fill-2.ensures.beside.size ∙ c.fill.ensures.beside.size
 
 pub returns : goal.returns
-returns t c = blocks _ _ _ (in_three t c) _ c.requires.i_bound.1.2 _ _ _ _ _ _ c.fill.ensures c.fill-2.ensures c.join.ensures
+returns t c = blocks _ _ _ (in_three t c.before.before.before.before.before.before.before.before.before.before.before.before) _ c.requires.i_bound.2 _ _ _ _ _ _ c.fill.ensures c.fill-2.ensures c.join.ensures

@@ -5,8 +5,7 @@ use mathlib.Core.Path.{refl}
 use borrow.Author.Rules.{rules}
 use lib.Count.{ones}
 use Rattle.table.proofs.Halves.{first_part, fewer_free, both_halves, first_half_none, two_vertices, four_vertices}
-use Rattle.table.proofs.cubes.+halves.{statement}
 use Rattle.table.proofs.cubes.+halves.Given as goal
 
--- ?? measure abbrev μ-halves : Measures 1 halves-kinds.ps ℕ
-μ-halves κs a = ones a.1.0
+abbrev pub decreases-halves : goal.decreases-halves
+decreases-halves l = ones l.free
