@@ -149,11 +149,16 @@ class Function:
         # the step may stand at an earlier place: every record shows the steps before it. Or at a later one, where today has fewer places
         for word in (head, re.sub("-lem$", "", head)):
             look = at
+            found = []
             while look:
                 p = self.places[look]
                 if plain(p["step"][0]) == word:
-                    return at, self.at_step(p, at, rest)
+                    found.append(p)
                 look = p["parent"]
+            if found:
+                called = [p for p in found if p["callee"]]
+                p = called[0] if called and rest and rest[0] in ("ensures", "result", "new", "auto", "last") else found[0]
+                return at, self.at_step(p, at, rest)
             below = None
             look = self.goal
             while look and look != at:
@@ -164,6 +169,10 @@ class Function:
             if below:
                 return at, self.at_step(below, self.goal, rest)
         if head in ("args", "ranges"):
+            if rest:
+                was = next((b for a, b in self.names["args"] if a == f".{head} .{rest[0]}"), None)
+                if was:
+                    rest = [was.split(".")[-1]] + rest[1:]
             return at, [head] + rest
         if head == "well-formed":
             return at, ["well_formed"] + rest
@@ -311,7 +320,14 @@ class Function:
                 break
             heads[m.group(1)] = self.up(heads[m.group(2)], m.group(3).count(".before"))
             text = text[: m.start()] + text[m.end():]
-        inner = [h for h in heads if h != "c"]
+        while True:
+            m = next((x for x in re.finditer(r"let (" + W + r") = (" + W + r"(?:\." + W + r")*?\.(?:requires|pre))\s+in\s*", text) if x.group(2).split(".")[0] in heads), None)
+            if not m:
+                break
+            name, path = m.group(1), m.group(2)
+            tail = text[m.end():]
+            tail = re.sub(r"(?<![^\s(){};,@\[\]])" + re.escape(name) + r"(?=[.\s(){};,\[\]])", path, tail)
+            text = text[: m.start()] + tail
 
         def turn(m):
             head, tail = m.group(1), m.group(2)

@@ -9,7 +9,7 @@ pub slice_bounds-rows-end : goal.slice_bounds-rows-end
 slice_bounds-rows-end c = search rules
 
 pub slice_bounds-fill-end : goal.slice_bounds-fill-end
-slice_bounds-fill-end c = sym (length-take-le _ _ (slice_bounds-rows-end c))
+slice_bounds-fill-end c = sym (length-take-le _ _ (slice_bounds-rows-end c.before))
 
 pub returns-then-m : goal.returns-then-m
 returns-then-m c = row_filled c.prepare-m.ensures c.if-m.true refl refl c.fill-page.ensures

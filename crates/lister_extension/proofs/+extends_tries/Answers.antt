@@ -26,17 +26,15 @@ extends-scarcest-b-requires t c = omega (arith, c.if-pending-eq0.false)
 
 pub extends-tries-requires : goal.extends-tries-requires
 extends-tries-requires t c =
-    let pre = c.requires in
     let scarcest = c.scarcest-b.ensures in
     let others = c.minus-others.ensures in
-    (group_less _ _ _ _ _ pre.1 scarcest others _ _ pre.0, asked_member _ _ _ _ _ pre.1 scarcest others)
+    (group_less _ _ _ _ _ c.requires scarcest others _ _ c.decreases, asked_member _ _ _ _ _ c.requires scarcest others)
 
 pub extends-extends-requires : goal.extends-extends-requires
-extends-extends-requires t c = let pre = c.requires in
-    let scarcest = c.scarcest-b.ensures in
+extends-extends-requires t c = let scarcest = c.scarcest-b.ensures in
     let others = c.minus-others.ensures in
     let rest = c.minus-then-tries.ensures in
-    (rest_less _ _ _ _ _ pre.1 scarcest others _ _ rest _ pre.0, rest_part _ _ _ _ _ pre.1 scarcest others _ _ rest)
+    (rest_less _ _ _ _ _ c.requires scarcest others _ _ rest _ c.decreases, rest_part _ _ _ _ _ c.requires scarcest others _ _ rest)
 
 pub extends-returns-then-tries : goal.extends-returns-then-tries
 extends-returns-then-tries t c = c.extends.ensures

@@ -15,7 +15,7 @@ pub slice_bounds-weights-end : goal.slice_bounds-weights-end
 slice_bounds-weights-end c = omega (arith, (reached_sized _ c.requires.reached).few)
 
 pub slice_bounds-cheapest-end : goal.slice_bounds-cheapest-end
-slice_bounds-cheapest-end c = sym (length-take-le _ _ (slice_bounds-weights-end c))
+slice_bounds-cheapest-end c = sym (length-take-le _ _ (slice_bounds-weights-end c.before))
 
 pub cheapest-requires : goal.cheapest-requires
 cheapest-requires c = record { rows_len_bound = c.requires.rows_len_bound; costs_len_bound = omega (arith, slice_bounds-cheapest-end c, (reached_sized _ c.requires.reached).few) }

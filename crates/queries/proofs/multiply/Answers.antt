@@ -12,16 +12,14 @@ pub returns-then-not-covered : goal.returns-then-not-covered
 returns-then-not-covered c = let a = c.args in products_uncovered a.p _ _ a.free.now _ (not-true a.covered c.if-not-covered.true-raw) c.refused.ensures
 
 pub multiply-row-requires : goal.multiply-row-requires
-multiply-row-requires c = let r = c.requires in
-    record { sized = reached_sized _ (reached_alone r); stocked = stocked _ _ r.problem r.holds r.blocks; first_len = (refl, refl) }
+multiply-row-requires c = record { sized = reached_sized _ (reached_alone c.requires); stocked = stocked _ _ c.requires.problem c.requires.holds c.requires.blocks; first_len = (refl, refl) }
 
 pub returns-then-number-ne0 : goal.returns-then-number-ne0
 returns-then-number-ne0 c = let a = c.args in
     products_refused c.multiply-row.ensures a.covered (not-false a.covered c.if-not-covered.false-raw) a.free.now _ c.if-number-ne0.true c.refused-then-number-ne0.ensures
 
 pub put_products-requires : goal.put_products-requires
-put_products-requires c = let r = c.requires in
-    let o = c.multiply-row.ensures r.problem r.holds r.blocks in
+put_products-requires c = let o = c.multiply-row.ensures c.requires.problem c.requires.holds c.requires.blocks in
     (omega (arith, o.within, o.size), o.within)
 
 pub returns : goal.returns

@@ -7,7 +7,7 @@ use borrow.Author.Rules.{rules}
 use Rattle.queries.proofs.possible_into.Goals as goal
 
 pub fill-page-requires : goal.fill-page-requires
-fill-page-requires c = let pre = c.requires.?? in record { rows_len_bound = pre.0.0; low_len_bound = pre.1.0.0; high_len = pre.1.0.1; by_index = pre.1.1 }
+fill-page-requires c = record { rows_len_bound = c.requires.rows_len_bound.0; low_len_bound = c.requires.lows_len_bound.0; high_len = c.requires.lows_len_bound.1; by_index = c.requires.by_index }
 
 pub put_possible_page-requires : goal.put_possible_page-requires
 put_possible_page-requires c = let w = page_within (row_possibles (length c.args.lows.now) c.args.rows.now c.args.lows.now c.args.highs.now) c.args.start c.args.row.now _ _ c.fill-page.ensures in (w.1, omega (arith, w.0, c.requires.rows_len_bound.1))

@@ -20,7 +20,7 @@ pub empty-p-requires : goal.empty-p-requires
 empty-p-requires c = tt
 
 pub loop-at-init : goal.loop-at-init
-loop-at-init c = let pre = c.requires.?? in going_first pre.0.0 pre.0.1 c.empty-p.ensures pre.1 refl
+loop-at-init c = going_first c.requires.job_len_bound.0 c.requires.job_len_bound.1 c.empty-p.ensures c.requires.blocks_at refl
 
 pub bounds-job-at : goal.bounds-job-at
 bounds-job-at c = c.loop-at-test.true

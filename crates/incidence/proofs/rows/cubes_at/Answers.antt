@@ -26,4 +26,4 @@ pub loop-k-preserved : goal.loop-k-preserved
 loop-k-preserved c = (search rules, row_next has_vertex _ _ _ c.well_formed.0.1.0.1 c.requires _ _ c.loop-k-test.true c.loop-k.invariant.0 c.loop-k.invariant.1 _ _ _ c.in_cube.ensures c.flag.ensures)
 
 pub returns : goal.returns
-returns c = row_done has_vertex c.args.t1 c.args.count _ _ _ c.loop-k-test.false c.loop-k.invariant.1
+returns c = row_done has_vertex c.args.terms c.args.count _ _ _ c.loop-k-test.false c.loop-k.invariant.1

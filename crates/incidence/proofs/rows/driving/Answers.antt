@@ -30,4 +30,4 @@ pub loop-k-preserved : goal.loop-k-preserved
 loop-k-preserved c = (search rules, row_next drives_output _ _ _ c.well_formed.0.1.0.1 c.requires.0 _ _ c.loop-k-test.true c.loop-k.invariant.0 c.loop-k.invariant.1 _ _ _ c.has.ensures c.flag.ensures)
 
 pub returns : goal.returns
-returns c = row_done drives_output c.args.t1 c.args.count _ _ _ c.loop-k-test.false c.loop-k.invariant.1
+returns c = row_done drives_output c.args.terms c.args.count _ _ _ c.loop-k-test.false c.loop-k.invariant.1

@@ -7,7 +7,7 @@ pub overflow_sub-rest : goal.overflow_sub-rest
 overflow_sub-rest c = c.requires.single.1
 
 pub number-k-requires : goal.number-k-requires
-number-k-requires c = let p = c.requires.?? in record { spreads = p.0; cube = without_cube _ _ _ _ p.1.0 }
+number-k-requires c = record { spreads = c.requires.spreads; cube = without_cube _ _ _ _ c.requires.cube }
 
 pub bounds-table-k : goal.bounds-table-k
 bounds-table-k c = place_lt _ _ _ (without_cube _ _ _ _ c.requires.cube) c.number-k.ensures

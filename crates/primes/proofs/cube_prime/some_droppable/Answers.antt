@@ -9,7 +9,7 @@ pub loop-bit-init : goal.loop-bit-init
 loop-bit-init c = none_yet _ _ _ _
 
 pub droppable-requires : goal.droppable-requires
-droppable-requires c = let p = c.requires.?? in record { spreads = p.0; cube = p.1; single = (none_single _ _ _ _ _ c.loop-bit.invariant, c.loop-bit-test.true) }
+droppable-requires c = record { spreads = c.requires.spreads; cube = c.requires.cube; single = (none_single _ _ _ _ _ c.loop-bit.invariant, c.loop-bit-test.true) }
 
 pub returns-then-droppable : goal.returns-then-droppable
 returns-then-droppable c = one_droppable _ _ _ _ _ _ c.loop-bit.invariant c.droppable.ensures c.if-droppable.true

@@ -43,8 +43,7 @@ pub bound-half-requires : goal.bound-half-requires
 bound-half-requires t c = omega (arith, c.requires.i_bound.0)
 
 pub spread-s-requires : goal.spread-s-requires
-spread-s-requires t c = let p = c.requires.?? in
-    record { spreads = p.1.0; b_bound = half_lt _ _ p.1.1.0 c.if-i-eq0.false c.bound-half.ensures }
+spread-s-requires t c = record { spreads = c.requires.spreads; b_bound = half_lt _ _ c.requires.i_bound.0 c.if-i-eq0.false c.bound-half.ensures }
 
 -- the block in three
 in_three : (t : ℕ) (c : fill-lts.After-spread (G t) (fill-at t) fill.Post) → Split c.before.before.before.before.before.args.i c.before.bound.result c.spread.result
@@ -55,7 +54,7 @@ pub overflow_add-low : goal.overflow_add-low
 overflow_add-low t c = omega (arith, c.requires.i_bound.3, (in_three t c).thirds)
 
 pub fill-requires : goal.fill-requires
-fill-requires t c = let p = c.requires.?? in let q = in_three t c.before in record { spreads = omega (arith, p.0, c.if-i-eq0.false); i_bound = (p.1.0, (omega (arith, p.1.1.0), omega (arith, p.1.1.1, q.halved, q.weight), clear_first _ _ _ q _ p.1.1.2, omega (arith, p.1.1.3, q.thirds, q.third))) }
+fill-requires t c = let q = in_three t c.before in record { spreads = omega (arith, c.decreases, c.if-i-eq0.false); i_bound = (c.requires.spreads, (omega (arith, c.requires.i_bound.0), omega (arith, c.requires.i_bound.1, q.halved, q.weight), clear_first _ _ _ q _ c.requires.i_bound.2, omega (arith, c.requires.i_bound.3, q.thirds, q.third))) }
 
 pub overflow_add-value : goal.overflow_add-value
 overflow_add-value t c = omega (arith, c.requires.i_bound.1, (in_three t c.before.before.before.before).halved)
@@ -64,13 +63,13 @@ pub overflow_add-low-2 : goal.overflow_add-low-2
 overflow_add-low-2 t c = omega (arith, c.requires.i_bound.3, (in_three t c.before.before.before.before).thirds)
 
 pub fill-requires-2 : goal.fill-requires-2
-fill-requires-2 t c = let p = c.requires.?? in let q = in_three t c.before.before.before.before.before in record { spreads = omega (arith, p.0, c.if-i-eq0.false); i_bound = (
-    p.1.0,
+fill-requires-2 t c = let q = in_three t c.before.before.before.before.before in record { spreads = omega (arith, c.decreases, c.if-i-eq0.false); i_bound = (
+    c.requires.spreads,
     (
-      omega (arith, p.1.1.0),
-      omega (arith, p.1.1.1, q.halved, q.weight),
-      clear_second _ _ _ q _ p.1.1.2,
-      omega (arith, p.1.1.3, q.thirds, q.third, c.fill.ensures.beside.size),
+      omega (arith, c.requires.i_bound.0),
+      omega (arith, c.requires.i_bound.1, q.halved, q.weight),
+      clear_second _ _ _ q _ c.requires.i_bound.2,
+      omega (arith, c.requires.i_bound.3, q.thirds, q.third, c.fill.ensures.beside.size),
     ),
   ) }
 

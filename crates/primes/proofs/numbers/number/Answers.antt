@@ -10,7 +10,7 @@ pub spread-requires : goal.spread-requires
 spread-requires c = record { spreads = c.requires.spreads; b_bound = c.requires.cube.care_lt }
 
 pub spread-requires-2 : goal.spread-requires-2
-spread-requires-2 c = let p = c.requires.?? in record { spreads = p.0; b_bound = omega (arith, within_le _ _ p.1.value_in, p.1.care_lt) }
+spread-requires-2 c = record { spreads = c.requires.spreads; b_bound = omega (arith, within_le _ _ c.requires.cube.value_in, c.requires.cube.care_lt) }
 
 pub overflow_add-result : goal.overflow_add-result
 overflow_add-result c = let a = c.args in

@@ -19,20 +19,18 @@ pub loop-next-init : goal.loop-next-init
 loop-next-init c = passed_first _ _ _ _ c.requires.part_or_end
 
 pub prime_outputs-outputs-requires : goal.prime_outputs-outputs-requires
-prime_outputs-outputs-requires c = let p = c.requires.?? in
-    record { spreads = p.0; cube = passed_eight _ _ _ _ _ _ c.bound-size.ensures p.1.0.1 c.loop-next.invariant p.1.0.0 c.loop-next-test.true }
+prime_outputs-outputs-requires c = record { spreads = c.requires.spreads; cube = passed_eight _ _ _ _ _ _ c.bound-size.ensures c.requires.n_bound.1 c.loop-next.invariant c.requires.n_bound.0 c.loop-next-test.true }
 
 pub returns-then-outputs-ne0 : goal.returns-then-outputs-ne0
-returns-then-outputs-ne0 c = let p = c.requires.?? in
-    passed_found _ _ _ _ _ _ c.bound-size.ensures p.1.0.1 c.loop-next.invariant p.1.0.0 c.loop-next-test.true _ c.prime_outputs-outputs.ensures c.if-outputs-ne0.true
+returns-then-outputs-ne0 c = passed_found _ _ _ _ _ _ c.bound-size.ensures c.requires.n_bound.1 c.loop-next.invariant c.requires.n_bound.0 c.loop-next-test.true _ c.prime_outputs-outputs.ensures c.if-outputs-ne0.true
 
 pub overflow_add-care : goal.overflow_add-care
 overflow_add-care c = omega (arith, c.requires.n_bound.1, power_le _ _ c.requires.n_bound.0 c.bound-size.ensures, c.bound-size.ensures)
 
 pub next_part-next-requires : goal.next_part-next-requires
-next_part-next-requires c = let p = c.requires.?? in let e = c.bound-size.ensures in (
-  omega (arith, p.1.0.1, power_le _ _ p.1.0.0 e, e),
-  not_last _ _ _ e p.1.0.1 _ _ refl c.loop-next-test.true (c.loop-next.invariant.place.part (omega (arith, c.loop-next-test.true, e))),
+next_part-next-requires c = let e = c.bound-size.ensures in (
+  omega (arith, c.requires.n_bound.1, power_le _ _ c.requires.n_bound.0 e, e),
+  not_last _ _ _ e c.requires.n_bound.1 _ _ refl c.loop-next-test.true (c.loop-next.invariant.place.part (omega (arith, c.loop-next-test.true, e))),
 )
 
 pub loop-next-smaller : goal.loop-next-smaller

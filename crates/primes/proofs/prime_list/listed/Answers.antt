@@ -13,8 +13,7 @@ pub loop-care-init : goal.loop-care-init
 loop-care-init c = walked_first _ _ _ _ c.empty-list.ensures
 
 pub first_prime-found-requires : goal.first_prime-found-requires
-first_prime-found-requires c = let p = c.requires.?? in
-    record { spreads = p.0; n_bound = (p.1, omega (arith, c.loop-care-test.true, c.bound-size.ensures)); part_or_end = c.loop-care.invariant.place }
+first_prime-found-requires c = record { spreads = c.requires.spreads; n_bound = (c.requires.n_bound, omega (arith, c.loop-care-test.true, c.bound-size.ensures)); part_or_end = c.loop-care.invariant.place }
 
 pub overflow_add-care : goal.overflow_add-care
 overflow_add-care c = record { fits = omega (arith, c.loop-care-test.true) }

@@ -10,11 +10,11 @@ pub slice_bounds-all-end : goal.slice_bounds-all-end
 slice_bounds-all-end c = search rules
 
 pub slice_bounds-reduce-end : goal.slice_bounds-reduce-end
-slice_bounds-reduce-end c = sym (length-take-le _ _ (slice_bounds-all-end c))
+slice_bounds-reduce-end c = sym (length-take-le _ _ (slice_bounds-all-end c.before))
 
 pub reduce-requires : goal.reduce-requires
 reduce-requires c = let few = c.put_rows-n.ensures.within in
-    let long = slice_bounds-reduce-end c in
+    let long = slice_bounds-reduce-end c.before in
     record { rows_len_bound = omega (arith, long, few); rows_in_bounds = omega (arith, long, few, c.requires.out_len) }
 
 pub shape_of-out : goal.shape_of-out

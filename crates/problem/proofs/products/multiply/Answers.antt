@@ -12,11 +12,10 @@ pub slice_bounds-rows-end : goal.slice_bounds-rows-end
 slice_bounds-rows-end c = search rules
 
 pub slice_bounds-multiply_rows-end : goal.slice_bounds-multiply_rows-end
-slice_bounds-multiply_rows-end c = sym (length-take-le _ _ (slice_bounds-rows-end c))
+slice_bounds-multiply_rows-end c = sym (length-take-le _ _ (slice_bounds-rows-end c.before))
 
 pub multiply_rows-requires : goal.multiply_rows-requires
-multiply_rows-requires c = let pre = c.requires.?? in
-    record { n_bound = (pre.0.few, pre.1.1.0, pre.1.1.1); rows_below = cells_below c.put_rows-k.ensures pre.1.0 }
+multiply_rows-requires c = record { n_bound = (c.requires.sized.few, c.requires.first_len.0, c.requires.first_len.1); rows_below = cells_below c.put_rows-k.ensures c.requires.stocked }
 
 pub returns : goal.returns
 returns c = multiplied c.put_rows-k.ensures _ refl _ _ _ _ _ c.multiply_rows.ensures

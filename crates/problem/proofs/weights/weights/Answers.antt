@@ -34,12 +34,12 @@ loop-i-smaller c = omega arith
 pub loop-i-preserved : goal.loop-i-preserved
 loop-i-preserved c = (
   omega arith,
-  mapped_next (term_cost c.args.w) 64 (term 0 0 0) c.args.t2 c.loop-i.i c.loop-i.all _ (omega (arith, c.requires))
+  mapped_next (term_cost c.args.w) 64 (term 0 0 0) c.args.terms c.loop-i.i c.loop-i.all _ (omega (arith, c.requires))
       (omega (arith, c.well_formed.0.1, c.requires)) c.weight.ensures c.loop-i.invariant.1,
 )
 
 pub returns : goal.returns
 returns c =
     let e : c.loop-i.i ≡ c.args.count = omega (arith, c.loop-i.invariant.0) in
-    mapped_front (term_cost c.args.w) 64 c.args.t2 _ c.loop-i.all (omega (arith, c.requires, c.well_formed.0.1))
-    (subst (λ (k : ℕ). MappedBelow (term_cost c.args.w) 64 c.args.t2 k c.loop-i.all) e c.loop-i.invariant.1)
+    mapped_front (term_cost c.args.w) 64 c.args.terms _ c.loop-i.all (omega (arith, c.requires, c.well_formed.0.1))
+    (subst (λ (k : ℕ). MappedBelow (term_cost c.args.w) 64 c.args.terms k c.loop-i.all) e c.loop-i.invariant.1)
