@@ -83,6 +83,7 @@ entry_in (p ∷ ps) zero l = Memᴰ.head refl
 entry_in (p ∷ ps) (suc k) l = Memᴰ.tail (entry_in ps k (omega arith))
 
 entry_at : {p : ℕ} (ps : List ℕ) → Memᴰ p ps → (k : ℕ) × (k < length ps) × (get_or ps k 0 ≡ p)
+entry_at {p = p} [] x' = elim x' [ ]
 entry_at (q ∷ ps) (Memᴰ.head e) = (0, omega arith, sym e)
 entry_at (q ∷ ps) (Memᴰ.tail m) = let a = entry_at ps m in (suc a.0, omega (arith, a.1), a.2)
 

@@ -20,22 +20,22 @@ pub slice_bounds-step-end : goal.slice_bounds-step-end
 slice_bounds-step-end c = omega (arith, c.loop-i.invariant.room, c.loop-i.invariant.second_size)
 
 pub slice_bounds-step-end-then-other : goal.slice_bounds-step-end-then-other
-slice_bounds-step-end-then-other c = sym (length-take-le _ _ (slice_bounds-step-end c.before))
+slice_bounds-step-end-then-other c = sym (length-take-le _ _ (omega (arith, c.loop-i.invariant.room, c.loop-i.invariant.second_size)))
 
 pub step-held-requires : goal.step-held-requires
-step-held-requires c = (omega (arith, c.loop-i.invariant.room, length-take-le c.loop-i.held c.loop-i.second (slice_bounds-step-end c.before.before.before)), c.loop-i.invariant.first_size)
+step-held-requires c = (omega (arith, c.loop-i.invariant.room, length-take-le c.loop-i.held c.loop-i.second (omega (arith, c.loop-i.invariant.room, c.loop-i.invariant.second_size))), c.loop-i.invariant.first_size)
 
 pub slice_bounds-step-end-else-other : goal.slice_bounds-step-end-else-other
 slice_bounds-step-end-else-other c = omega (arith, c.loop-i.invariant.room, c.loop-i.invariant.first_size)
 
 pub slice_bounds-step-end-else-other-2 : goal.slice_bounds-step-end-else-other-2
-slice_bounds-step-end-else-other-2 c = sym (length-take-le _ _ (slice_bounds-step-end-else-other c.before))
+slice_bounds-step-end-else-other-2 c = sym (length-take-le _ _ (omega (arith, c.loop-i.invariant.room, c.loop-i.invariant.first_size)))
 
 pub step-held-requires-else-other : goal.step-held-requires-else-other
-step-held-requires-else-other c = (omega (arith, c.loop-i.invariant.room, length-take-le c.loop-i.held c.loop-i.first (slice_bounds-step-end-else-other c.before.before.before)), c.loop-i.invariant.second_size)
+step-held-requires-else-other c = (omega (arith, c.loop-i.invariant.room, length-take-le c.loop-i.held c.loop-i.first (omega (arith, c.loop-i.invariant.room, c.loop-i.invariant.first_size))), c.loop-i.invariant.second_size)
 
 pub returns-then-held-eq1025 : goal.returns-then-held-eq1025
-returns-then-held-eq1025 c = refused c.args.n c.args.rows.now _ _ _ (elim c.if-other.branch [ then-other w ↦ first_full c.requires.n_bound.0 c.requires.rows_below c.loop-i.invariant c.loop-i-test.true w.if-other.true w.first-1.ensures w.second-is w.other-is c.if-held-eq1025.true | else-other w ↦ second_full c.requires.n_bound.0 c.requires.rows_below c.loop-i.invariant c.loop-i-test.true w.if-other.false w.second-1.ensures w.other-is w.second-is c.if-held-eq1025.true ])
+returns-then-held-eq1025 c = refused c.args.n c.args.rows.now _ _ _ (elim c.if-other.branch [ then-other w ↦ first_full c.requires.n_bound.0 c.requires.rows_below c.loop-i.invariant c.loop-i-test.true w.if-other.true w.step-held.ensures w.first-is w.held-is c.if-held-eq1025.true | else-other w ↦ second_full c.requires.n_bound.0 c.requires.rows_below c.loop-i.invariant c.loop-i-test.true w.if-other.false w.step-held-else-other.ensures w.held-is w.first-is c.if-held-eq1025.true ])
 
 pub overflow_add-i : goal.overflow_add-i
 overflow_add-i c = omega (arith, c.loop-i-test.true)
@@ -44,7 +44,7 @@ pub loop-i-smaller : goal.loop-i-smaller
 loop-i-smaller c = omega (arith, c.loop-i-test.true)
 
 pub loop-i-preserved : goal.loop-i-preserved
-loop-i-preserved c = elim c.if-other.branch [ then-other w ↦ to_first c.requires.n_bound.0 c.requires.rows_below c.loop-i.invariant c.loop-i-test.true w.if-other.true w.first-1.ensures w.second-is w.other-is w.held-is c.if-held-eq1025.false | else-other w ↦ to_second c.requires.n_bound.0 c.requires.rows_below c.loop-i.invariant c.loop-i-test.true w.if-other.false w.second-1.ensures w.held-is w.other-is w.second-is c.if-held-eq1025.false ]
+loop-i-preserved c = elim c.if-other.branch [ then-other w ↦ to_first c.requires.n_bound.0 c.requires.rows_below c.loop-i.invariant c.loop-i-test.true w.if-other.true w.step-held.ensures w.first-is w.held-is w.second-is c.if-held-eq1025.false | else-other w ↦ to_second c.requires.n_bound.0 c.requires.rows_below c.loop-i.invariant c.loop-i-test.true w.if-other.false w.step-held-else-other.ensures w.second-is w.held-is w.first-is c.if-held-eq1025.false ]
 
 pub sort-requires : goal.sort-requires
 sort-requires c = omega (arith, c.loop-i.invariant.room, c.loop-i.invariant.second_size)

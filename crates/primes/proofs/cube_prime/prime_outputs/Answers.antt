@@ -5,9 +5,6 @@ use borrow.Author.Rules.{rules}
 use Rattle.primes.proofs.Literals.{place_lt, prime_nothing, prime_droppable, prime_all}
 use Rattle.primes.proofs.cube_prime.prime_outputs.Goals as goal
 
-pub number-k-requires : goal.number-k-requires
-number-k-requires c = c.requires.??
-
 pub bounds-table-k : goal.bounds-table-k
 bounds-table-k c = place_lt _ _ _ c.requires.cube c.number-k.ensures
 
