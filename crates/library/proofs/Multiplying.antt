@@ -7,7 +7,7 @@ use mathlib.Core.List.{List, [], ◌∷◌, ◌++◌, map, append_assoc}
 use lib.Dec.{T, eqb, eqb→eq}
 use lib.ListN.{length, replicate}
 use borrow.Author.Tests.{eq-eqb, ne_eqb}
-use denote.Ref.{Bor}
+use denote.Ref.{MutBor}
 use Rattle.model.specs.Table.{Table}
 use Rattle.model.specs.Candidates.{covering}
 use Rattle.model.specs.Refusals.{Refusal, refuse, first_of}
@@ -47,13 +47,13 @@ module _ {p : Table} {count : ℕ} (a b : ℕ) {x : Bool} (e : x ≡ right_room 
   room_wrong f = record { first = rw (← e, f); admitted = λ z. absurd (omega (arith, z)); room = λ z. absurd (omega (arith, z)) }
 
 -- one of two rows that are as long
-turned : (n : ℕ) (first second : Bor (List ℕ)) {k : ℕ} → length first.now ≡ k → length second.now ≡ k → length (turn n first second).now ≡ k
+turned : (n : ℕ) (first second : MutBor (List ℕ)) {k : ℕ} → length first.now ≡ k → length second.now ≡ k → length (turn n first second).now ≡ k
 turned zero first second e f = e
 turned (suc n) first second e f = turned n second first f e
 
 -- ---- the refusals in their order
 
-module _ (p : Table) (words : List ℕ) (first second : Bor (List ℕ)) where
+module _ (p : Table) (words : List ℕ) (first second : MutBor (List ℕ)) where
   abbrev a : ℕ
   a = length first.now
 
@@ -107,7 +107,7 @@ module _ (p : Table) (words : List ℕ) (first second : Bor (List ℕ)) where
         pub back_uncovered : c ≡ false → HandedBack (multiply_covers p words (length first.now) (length second.now)) first second first 12 0
         back_uncovered k = back_refused (sym (left ∙ rw k)) (λ e. omega (arith, e))
 
-        pub back_multiplied : c ≡ true → {row : Bor (List ℕ)} {number count : ℕ} → Multiplies q (replicate 256 0) first second row number count
+        pub back_multiplied : c ≡ true → {row : MutBor (List ℕ)} {number count : ℕ} → Multiplies q (replicate 256 0) first second row number count
             → HandedBack (multiply_covers p words (length first.now) (length second.now)) first second row number count
         unfolding multiply_covers
         back_multiplied k {row} {number} {count} m = go (has_too_many (covering (call_basis p words))) refl

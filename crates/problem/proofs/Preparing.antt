@@ -7,7 +7,7 @@ use mathlib.Core.List.{List, [], ◌∷◌, map}
 use lib.ListN.{length, take, replicate, length-take, length-map, length-replicate}
 use lib.Seq.{length-take-le}
 use lib.Pow.{pow_mono}
-use denote.Ref.{Bor}
+use denote.Ref.{MutBor}
 use Rattle.model.specs.Base.{bit, below}
 use Rattle.model.specs.Table.{Table, Cell, on_cells}
 use Rattle.model.specs.Sets.{covers, cover, irredundants, cheapest, of_rows, row_of, members}
@@ -130,7 +130,7 @@ pub stocked : (p : Problem) (held : List ℕ) (q : model.Problem) → Holds p q 
 stocked p held q h b = record { cands = q.cands; stored = held_cands p held q h b }
 
 -- of the rows of the cells, as of the problem itself
-pub multiplied : {p : Problem} {held out : List ℕ} {k : ℕ} → CellRows p held out k → (n : ℕ) → n ≡ p.candidates.count → (first second row : Bor (List ℕ)) (number count : ℕ)
+pub multiplied : {p : Problem} {held out : List ℕ} {k : ℕ} → CellRows p held out k → (n : ℕ) → n ≡ p.candidates.count → (first second row : MutBor (List ℕ)) (number count : ℕ)
     → MultipliedRows n (take k out) first second row number count → Multiplies p held first second row number count
 multiplied {p} {out = out} {k} c n e first second row number count m q h b = record {
   told = o.told ∙ rw many;

@@ -1,6 +1,6 @@
 -- What the contracts on the covering matrix cite.
 use Rattle.std.specs.Prelude.{ℕ, ◌≤◌, ◌≡◌, Bool, List, map, length, take, replicate}
-use Rattle.std.specs.Borrow.{Bor}
+use denote.Ref.{MutBor}
 use Rattle.model.specs.Table.{on_cells}
 use Rattle.model.specs.Sets.{coverable, irredundants, cheapest, row_of, of_rows}
 use Rattle.model.specs.Presence.{presence, all_of}
@@ -48,5 +48,5 @@ pub record Prepares (p : Problem) (held out : List ℕ) (m : Matrix) : Type 0 wh
   pub matrix : (q : model.Problem) → Holds p q → BlocksAt q.cands held → MatrixOf (basis_of q) (take m.count out) m.covered
 
 -- what the multiplication of the problem that p and held hold tells and hands back
-abbrev pub Multiplies : Problem → List ℕ → Bor (List ℕ) → Bor (List ℕ) → Bor (List ℕ) → ℕ → ℕ → Type 0
+abbrev pub Multiplies : Problem → List ℕ → MutBor (List ℕ) → MutBor (List ℕ) → MutBor (List ℕ) → ℕ → ℕ → Type 0
 Multiplies p held first second row number count = (q : model.Problem) → Holds p q → BlocksAt q.cands held → MultipliedTo (covering (basis_of q)) first second row number count

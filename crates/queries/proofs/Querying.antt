@@ -6,7 +6,7 @@ use mathlib.Core.Bool.{Bool, true, false, not, cond}
 use mathlib.Core.List.{List, [], ◌∷◌, map, append-nil, Memᴰ}
 use lib.Dec.{T, T_not}
 use lib.ListN.{get_or, length, take, drop, replicate, length-take, length-append, length-map}
-use denote.Ref.{Bor}
+use denote.Ref.{MutBor}
 use lib.Seq.{take_at}
 use Rattle.model.specs.Base.{bit}
 use Rattle.model.specs.Sets.{Covering, members, Best, cover, coverable, cheapest, cost, of_rows}
@@ -232,7 +232,7 @@ cheapest_uncovered p rows b old e z q x f d l = query_uncovered p b x model.Kind
 pub products_uncovered : (p : Problem) (held : List ℕ) (b : Bool) (old : List ℕ) (e : Effect) → b ≡ false → e ≡ refused_as p 12 → HandlesN p held b old old e
 products_uncovered p held b old e z q x f h d l = query_uncovered p b x model.Kind.N tt f d old e z q
 
-module _ {p : Problem} {held : List ℕ} {first second row : Bor (List ℕ)} {number count : ℕ} (m : Multiplies p held first second row number count) (b : Bool) (z : b ≡ true) where
+module _ {p : Problem} {held : List ℕ} {first second row : MutBor (List ℕ)} {number count : ℕ} (m : Multiplies p held first second row number count) (b : Bool) (z : b ≡ true) where
   -- the number told is 17 where 17 applies, else 0
   told_many : (x : Context) → Found p x → BlocksAt x.problem.cands held → (number ≡ 0 → ⊥) → (has_too_many (covering_of x) ≡ true) × (number ≡ 17)
   told_many x f h d = go (has_too_many (covering_of x)) refl

@@ -6,19 +6,13 @@ use Rattle.problem.proofs.Preparing.{prepared}
 use borrow.Author.Rules.{rules}
 use Rattle.problem.proofs.matrix.put_rows.Goals as goal
 
-pub slice_bounds-all-end : goal.slice_bounds-all-end
-slice_bounds-all-end c = search rules
-
 pub slice_bounds-reduce-end : goal.slice_bounds-reduce-end
-slice_bounds-reduce-end c = sym (length-take-le _ _ (slice_bounds-all-end c.before))
+slice_bounds-reduce-end c = sym (length-take-le _ _ (search rules))
 
 pub reduce-requires : goal.reduce-requires
 reduce-requires c = let few = c.put_rows-n.ensures.within in
-    let long = slice_bounds-reduce-end c.before in
+    let long = length-take-le c.put_rows-n.result c.put_rows-n.new.out (omega (arith, few, c.put_rows-n.ensures.size)) in
     record { rows_len_bound = omega (arith, long, few); rows_in_bounds = omega (arith, long, few, c.requires.out_len) }
 
-pub shape_of-out : goal.shape_of-out
-shape_of-out c = search rules
-
 pub returns : goal.returns
-returns c = prepared c.put_rows-n.ensures _ _ (shape_of-out c ∙ c.requires.out_len) c.reduce.ensures
+returns c = prepared c.put_rows-n.ensures _ _ (search rules) c.reduce.ensures

@@ -8,11 +8,8 @@ use Rattle.problem.proofs.products.multiply.Goals as goal
 pub put_rows-k-requires : goal.put_rows-k-requires
 put_rows-k-requires c = record { sized = c.requires.sized; out_len = refl }
 
-pub slice_bounds-rows-end : goal.slice_bounds-rows-end
-slice_bounds-rows-end c = search rules
-
 pub slice_bounds-multiply_rows-end : goal.slice_bounds-multiply_rows-end
-slice_bounds-multiply_rows-end c = sym (length-take-le _ _ (slice_bounds-rows-end c.before))
+slice_bounds-multiply_rows-end c = sym (length-take-le _ _ (search rules))
 
 pub multiply_rows-requires : goal.multiply_rows-requires
 multiply_rows-requires c = record { n_bound = (c.requires.sized.few, c.requires.first_len.0, c.requires.first_len.1); rows_below = cells_below c.put_rows-k.ensures c.requires.stocked }
