@@ -4,6 +4,7 @@
 // test gives each member a private row to keep: none of that row's free candidates may then be taken. Only `false` says something, so what is
 // asked first, what is asked together and where to stop asking are free to choose: the functions that only choose have no contract.
 #![tactic(auto)]
+
 ghost use Rattle.std.specs.Prelude.{◌≡◌, true, false, ◌<◌};
 ghost use Rattle.bits.specs.Bits.{Part, Member};
 ghost use Rattle.lister_narrowing.specs.Narrowing.{NoneBetween, Tightened};

@@ -3,6 +3,7 @@
 // `narrow` excludes and takes candidates, pass by pass over the rows, until a pass changes nothing or finds that no irredundant cover is
 // left. The contracts only say that no irredundant cover is lost; how much is excluded is measured by the benchmark.
 #![tactic(auto)]
+
 ghost use Rattle.std.specs.Prelude.{◌≡◌, true};
 ghost use Rattle.lister_narrowing.specs.Narrowing.{Only, United, Scanned, Infeasible, Tightened};
 

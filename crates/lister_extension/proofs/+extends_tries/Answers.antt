@@ -1,15 +1,13 @@
 -- The proof of the cycle of calls {extends, tries}: `tries` at q calls `extends` at q or less, and `extends` at q calls both at less than q, so the
 -- measure is 2q for `extends` and 2q + 1 for `tries`.
 use borrow.Author.Rules.{rules}
-use mathlib.Core.Logic.{⊎_elim}
 use native.Mathlib.Omega.{arith}
-use lib.ListN.{length}
+use lib.ListN.{get_or}
 use Rattle.bits.proofs.Decide.{true_is_not_false}
 use Rattle.bits.proofs.Parts.{part_and_left}
-use Rattle.lister_extension.proofs.Extending.{BarredBelow, barred_shared, barred_kept, barred_start, barred_more, barred_all}
+use Rattle.lister_extension.proofs.Extending.{Barred, barred_shared, barred_kept, barred_start, barred_more, barred_all}
 use Rattle.lister_extension.proofs.Extending.{dead_left, none_left, asked_member, group_less, rest_part, rest_less, fewer_less}
-use Prim.Native.Nat.{ℕ, ◌+◌, ◌-◌, ◌≤◌, ◌<◌}
-use Rattle.lister_extension.proofs.+extends_tries.Goals.{else-row-s, then-row-s}
+use Rattle.lister_extension.proofs.+extends_tries.Goals.{tries-else-row-s, tries-then-row-s+else-extends}
 use Rattle.lister_extension.proofs.+extends_tries.Goals as goal
 
 pub extends-returns-then-t : goal.extends-returns-then-t
@@ -56,7 +54,12 @@ tries-returns-then-extends t c = λ e. absurd (true_is_not_false e)
 pub tries-loop-i-preserved : goal.tries-loop-i-preserved
 tries-loop-i-preserved t c =
     let member = c.requires in
-    let row = elim c.if-row-s.branch [ then-row-s w ↦ barred_kept _ _ _ _ _ member _ _ w.minus.ensures w.narrow-t.ensures (w.extends.ensures w.i-is.left) | else-row-s w ↦ barred_shared _ _ _ _ _ member w.if-row-s.false ] in
+    let row : Barred c.args.rows.now c.args.s c.args.free c.args.b (get_or c.args.rows.now c.loop-i.i 0) =
+    elim c.if-row-s.branch [
+      | tries-then-row-s+else-extends w ↦ barred_kept _ _ _ _ _ member _ _ w.minus.ensures w.narrow-t.ensures (w.extends.ensures w.if-extends.false)
+      | tries-else-row-s w ↦ barred_shared _ _ _ _ _ member w.if-row-s.false
+    ]
+    in
     (search rules, barred_more _ _ _ _ _ c.loop-i.invariant.1 row)
 
 pub tries-returns : goal.tries-returns

@@ -1,14 +1,8 @@
 -- The proof of the cycle of calls {extends, tries}: `tries` at q calls `extends` at q or less, and `extends` at q calls both at less than q, so the
 -- measure is 2q for `extends` and 2q + 1 for `tries`.
-use borrow.Author.Rules.{rules}
-use mathlib.Core.Logic.{⊎_elim}
-use native.Mathlib.Omega.{arith}
 use lib.ListN.{length}
-use Rattle.bits.proofs.Decide.{true_is_not_false}
-use Rattle.bits.proofs.Parts.{part_and_left}
-use Rattle.lister_extension.proofs.Extending.{BarredBelow, barred_shared, barred_kept, barred_start, barred_more, barred_all}
-use Rattle.lister_extension.proofs.Extending.{dead_left, none_left, asked_member, group_less, rest_part, rest_less, fewer_less}
-use Prim.Native.Nat.{ℕ, ◌+◌, ◌-◌, ◌≤◌, ◌<◌}
+use Rattle.lister_extension.proofs.Extending.{BarredBelow}
+use Prim.Native.Nat.{◌+◌, ◌-◌, ◌≤◌}
 use Rattle.lister_extension.proofs.+extends_tries.Given as goal
 
 abbrev pub decreases-tries : goal.decreases-tries

@@ -1,5 +1,4 @@
 -- `lister_extension::claims` is safe and ends.
-use borrow.Author.Rules.{rules}
 use native.Mathlib.Omega.{arith}
 use Rattle.bits.proofs.Parts.{minus_member_less}
 use Rattle.lister_extension.proofs.claims.Goals as goal

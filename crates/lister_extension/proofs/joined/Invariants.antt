@@ -1,5 +1,4 @@
 -- `lister_extension::joined` is safe and ends.
-use borrow.Author.Rules.{rules}
 use Prim.Native.Nat.{◌≤◌, ◌-◌}
 use lib.ListN.{length}
 use Rattle.lister_extension.proofs.joined.Given as goal

@@ -1,5 +1,4 @@
 -- `lister_extension::linked` is safe and ends.
-use borrow.Author.Rules.{rules}
 use Prim.Native.Nat.{◌≤◌, ◌-◌}
 use Rattle.lister_extension.proofs.linked.Given as goal
 

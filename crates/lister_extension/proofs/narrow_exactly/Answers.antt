@@ -1,7 +1,6 @@
 -- `lister_extension::narrow_exactly` meets its contract.
 use Rattle.bits.proofs.Parts.{part_self}
 use Rattle.lister_extension.proofs.Extending.{tightened_tested}
-use borrow.Author.Rules.{rules}
 use Rattle.lister_extension.proofs.narrow_exactly.Goals as goal
 
 pub extends-requires : goal.extends-requires

@@ -1,8 +1,6 @@
 -- `lister_extension::private_rows` is safe and ends.
 use borrow.Author.Rules.{rules}
-use mathlib.Core.Path.{◌≡◌, refl, ap, ◌∙◌}
-use mathlib.Core.Logic.{⊎_elim}
-use Prim.Native.Nat.{◌-◌, ◌≤◌}
+use mathlib.Core.Path.{refl, ap, ◌∙◌}
 use lib.ListN.{length, length-set}
 use Rattle.bits.proofs.Decide.{decides_true}
 use Rattle.lister_extension.proofs.private_rows.Goals.{else-is_single, then-is_single}

@@ -1,10 +1,7 @@
 -- `lister_extension::private_rows` is safe and ends.
-use borrow.Author.Rules.{rules}
-use mathlib.Core.Path.{◌≡◌, refl, ap, ◌∙◌}
-use mathlib.Core.Logic.{⊎_elim}
+use mathlib.Core.Path.{◌≡◌}
 use Prim.Native.Nat.{◌-◌, ◌≤◌}
-use lib.ListN.{length, length-set}
-use Rattle.bits.proofs.Decide.{decides_true}
+use lib.ListN.{length}
 use Rattle.lister_extension.proofs.private_rows.Given as goal
 
 abbrev pub invariant-loop-i : goal.invariant-loop-i

@@ -1,10 +1,9 @@
 -- `lister_extension::scarcest` meets its contract. The invariant: pick is a member of q, and rest is a part of q.
-use borrow.Author.Rules.{rules}
 use mathlib.Core.Path.{sym, subst}
-use mathlib.Core.Logic.{⊎_elim}
 use native.Mathlib.Omega.{arith}
-use Rattle.bits.specs.Bits.{Part, Member}
+use Rattle.bits.specs.Bits.{Member}
 use Rattle.bits.proofs.Parts.{part_self, part_trans, minus_part, minus_member_less, member_of_more}
+use Rattle.lister_extension.proofs.scarcest.Goals.{then-count-k, else-count-k}
 use Rattle.lister_extension.proofs.scarcest.Goals as goal
 
 pub lowest-pick-requires : goal.lowest-pick-requires
@@ -32,10 +31,10 @@ pub loop-rest-preserved : goal.loop-rest-preserved
 loop-rest-preserved c =
     let inv = c.loop-rest.invariant in
     let lowest = c.lowest-b.ensures.member in (
-      ⊎_elim
-          (λ w. subst (Member _) (sym w.1) (member_of_more _ _ _ inv.1 lowest))
-          (λ w. subst (Member _) (sym w.1) inv.0)
-          c.if-count-k.branch,
+      elim c.if-count-k.branch [
+        | then-count-k w ↦ subst (Member _) (sym w.pick-is) (member_of_more _ _ _ inv.1 lowest)
+        | else-count-k w ↦ subst (Member _) (sym w.pick-is) inv.0
+      ],
       part_trans _ _ _ (minus_part _ _ _ c.minus-rest.ensures) inv.1,
     )
 

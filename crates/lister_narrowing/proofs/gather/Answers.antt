@@ -1,14 +1,11 @@
 -- `lister_narrowing::gather` meets its contract. The invariant: what the rows passed tell.
 use borrow.Author.Rules.{rules}
 use mathlib.Core.Path.{refl}
-use mathlib.Core.Logic.{⊎_elim}
-use Prim.Native.Nat.{◌-◌, ◌≤◌}
 use native.Mathlib.Omega.{arith}
-use lib.ListN.{length}
 use Rattle.bits.proofs.Decide.{decides_true, decides_false}
 use Rattle.lister_narrowing.proofs.Tightening.{row_dead}
-use Rattle.lister_narrowing.proofs.Scanning.{Passed, passed_none, passed_open, passed_own, passed_shared, passed_as, passed_all, scanned_dead}
-use Rattle.lister_narrowing.proofs.gather.Goals.{then-own-eq0}
+use Rattle.lister_narrowing.proofs.Scanning.{passed_none, passed_open, passed_own, passed_shared, passed_as, passed_all, scanned_dead}
+use Rattle.lister_narrowing.proofs.gather.Goals.{then-own-eq0+else-open-eq0, else-own-eq0+then-is_single, else-own-eq0+else-is_single}
 use Rattle.lister_narrowing.proofs.gather.Goals as goal
 
 pub loop-i-init : goal.loop-i-init
@@ -30,12 +27,14 @@ pub loop-i-preserved : goal.loop-i-preserved
 loop-i-preserved c =
     let inv = c.loop-i.invariant.1 in (
       search rules,
-      ⊎_elim
-          (λ w. passed_as w.3 w.4 w.5 w.6 (passed_open _ _ _ _ _ _ _ _ inv (omega arith) w.0.taken _ w.2.ensures))
-          (⊎_elim
-          (λ w. passed_as w.4 w.5 w.6 w.7 (passed_own _ _ _ _ _ _ _ _ inv _ w.3.ensures.small w.3.ensures.is))
-          (λ w. passed_as w.3 w.4 w.5 w.6 (passed_shared _ _ _ _ _ _ _ _ inv w.0.left (decides_false _ _ w.1.ensures w.2.left))))
-          c.if-own-eq0.branch,
+      elim c.if-own-eq0.branch [
+        | then-own-eq0+else-open-eq0 w ↦ passed_as w.common-is w.owners-is w.unmet-is w.forced-is
+            (passed_open _ _ _ _ _ _ _ _ inv (omega arith) w.if-own-eq0.true _ w.only-forced.ensures)
+        | else-own-eq0+then-is_single w ↦ passed_as w.common-is w.owners-is w.unmet-is w.forced-is
+            (passed_own _ _ _ _ _ _ _ _ inv _ w.index-k.ensures.small w.index-k.ensures.is)
+        | else-own-eq0+else-is_single w ↦ passed_as w.common-is w.owners-is w.unmet-is w.forced-is
+            (passed_shared _ _ _ _ _ _ _ _ inv w.if-own-eq0.false (decides_false _ _ w.is_single.ensures w.if-is_single.false))
+      ],
     )
 
 pub returns : goal.returns

@@ -1,8 +1,6 @@
 -- `lister_narrowing::narrow` meets its contract. The invariant: base and rest lose no irredundant cover of s and free.
-use borrow.Author.Rules.{rules}
-use native.Mathlib.Omega.{arith}
 use Rattle.lister_narrowing.specs.Narrowing.{Tightened}
-use Rattle.lister_narrowing.proofs.Tightening.{untouched, tightened_self, tightened_more, tightened_on}
+use Rattle.lister_narrowing.proofs.Tightening.{untouched}
 use Rattle.lister_narrowing.proofs.narrow.Given as goal
 
 abbrev pub invariant-loop-t : goal.invariant-loop-t

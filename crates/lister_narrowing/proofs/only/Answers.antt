@@ -3,7 +3,6 @@ use mathlib.Core.Path.{refl}
 use mathlib.Core.Logic.{inl, inr}
 use Rattle.lister_narrowing.specs.Narrowing.{Only}
 use Rattle.bits.proofs.Decide.{decides_true, decides_false}
-use borrow.Author.Rules.{rules}
 use Rattle.lister_narrowing.proofs.only.Goals as goal
 
 pub returns-then-is_single : goal.returns-then-is_single

@@ -1,6 +1,5 @@
 -- `lister_narrowing::tighten` meets its contract.
 use Rattle.lister_narrowing.proofs.Tightening.{tightened_once}
-use borrow.Author.Rules.{rules}
 use Rattle.lister_narrowing.proofs.tighten.Goals as goal
 
 pub returns : goal.returns

@@ -1,10 +1,6 @@
 -- `lister_narrowing::united` meets its contract. The invariant: rest is a part of s, and acc is in what the other members have in common.
-use borrow.Author.Rules.{rules}
-use native.Mathlib.Omega.{arith}
 use Rattle.bits.specs.Bits.{Part}
 use Rattle.lister_narrowing.specs.Narrowing.{United}
-use Rattle.bits.proofs.Parts.{part_self, part_trans, minus_part, minus_member_less}
-use Rattle.lister_narrowing.proofs.Scanning.{united_none, united_more}
 use Rattle.lister_narrowing.proofs.united.Given as goal
 
 abbrev pub invariant-loop-rest : goal.invariant-loop-rest

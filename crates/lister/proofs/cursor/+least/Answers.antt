@@ -1,7 +1,6 @@
 -- The proof of the cycle of calls {least}: the measure is i.
-use borrow.Author.Rules.{rules}
 use native.Mathlib.Omega.{arith}
-use Prim.Native.Nat.{ℕ, ◌<◌, ◌-◌}
+use Prim.Native.Nat.{◌-◌}
 use lib.Pow.{pow_pos}
 use Rattle.bits.proofs.Decide.{decides_true, decides_false}
 use Rattle.rows.proofs.Nodes.{halves, low_node, high_node}
@@ -31,7 +30,7 @@ least-requires t c =
     let power = c.power-m.ensures in
     let pos = not_zero_pos c.if-i-eq0.false in
     let node = c.requires.node in
-    record { node = omega (arith, c.decreases, pos); range_kept = (high_node _ _ _ power node pos, high_range _ _ _ _ c.requires.range_kept _ power node pos) }
+    (omega (arith, c.decreases, pos), (high_node _ _ _ power node pos, high_range _ _ _ _ c.requires.range_kept _ power node pos))
 
 pub returns-then-t-m-ne0 : goal.returns-then-t-m-ne0
 returns-then-t-m-ne0 t c =
@@ -44,7 +43,7 @@ least-requires-then-t-m-eq0 t c =
     let power = c.power-m.ensures in
     let pos = not_zero_pos c.if-i-eq0.false in
     let node = c.requires.node in
-    record { node = omega (arith, c.decreases, pos); range_kept = (low_node _ _ node pos, low_range _ _ _ _ c.requires.range_kept _ power node pos) }
+    (omega (arith, c.decreases, pos), (low_node _ _ node pos, low_range _ _ _ _ c.requires.range_kept _ power node pos))
 
 pub returns-then-t-m-eq0 : goal.returns-then-t-m-eq0
 returns-then-t-m-eq0 t c =
@@ -58,7 +57,7 @@ least-low-requires t c =
     let pos = not_zero_pos c.if-i-eq0.false in
     let node = c.requires.node in
     let range = low_open _ _ _ _ c.requires.range_kept _ power node pos _ c.minus-rest.ensures _ c.narrow.ensures in
-    record { node = omega (arith, c.decreases, pos); range_kept = (low_node _ _ node pos, range) }
+    (omega (arith, c.decreases, pos), (low_node _ _ node pos, range))
 
 pub overflow_add-s-in-Nothing : goal.overflow_add-s-in-Nothing
 overflow_add-s-in-Nothing t c =
@@ -73,7 +72,7 @@ least-requires-in-Nothing t c =
     let node = c.requires.node in
     let rest = c.minus-rest.ensures in
     let range = high_open _ _ _ _ c.requires.range_kept _ power node pos _ rest _ c.narrow_exactly.ensures in
-    record { node = omega (arith, c.decreases, pos); range_kept = (high_node _ _ _ power node pos, range) }
+    (omega (arith, c.decreases, pos), (high_node _ _ _ power node pos, range))
 
 pub returns-in-At : goal.returns-in-At
 returns-in-At t c =

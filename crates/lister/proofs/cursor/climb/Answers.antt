@@ -1,15 +1,13 @@
 -- `lister::cursor::climb` meets its contract. The invariant: nothing is found from at up to the first multiple of 2^i above it.
-use borrow.Author.Rules.{rules}
 use mathlib.Core.Path.{refl, ap}
-use mathlib.Core.Logic.{⊎_elim}
 use Prim.Native.Nat.{ℕ, ◌-◌}
 use native.Mathlib.Omega.{arith}
 use lib.Bits.{and_le_l}
 use lib.Pow.{pow_pos}
 use Rattle.bits.proofs.Decide.{decides_true, decides_false}
 use Rattle.lister.proofs.Tree.{range_node}
-use Rattle.lister.proofs.Climbing.{Climbed, starts, out_of_range, at_once, climbed_none, climbed_one, climbed_zero, climbed_found, climbed_all, climb_node, impossible_level}
-use Rattle.lister.proofs.cursor.climb.Goals.{else-at-m-eq0, then-at-m-eq0}
+use Rattle.lister.proofs.Climbing.{starts, out_of_range, at_once, climbed_none, climbed_one, climbed_zero, climbed_found, climbed_all, climb_node, impossible_level}
+use Rattle.lister.proofs.cursor.climb.Goals.{then-at-m-eq0+in_default, else-at-m-eq0}
 use Rattle.lister.proofs.cursor.climb.Goals as goal
 
 pub returns-then-low_mask-at : goal.returns-then-low_mask-at
@@ -70,7 +68,10 @@ loop-i-preserved c =
     let below = c.loop-i-test.true in
     let power = c.power-m.ensures in
     let begins = starts _ _ _ _ inv below _ power _ refl in
-    elim c.if-at-m-eq0.branch [ then-at-m-eq0 w ↦ climbed_zero _ _ _ _ inv below _ power w.if-at-m-eq0.true _ begins _ w.least-found.ensures w.in-At.is | else-at-m-eq0 w ↦ climbed_one _ _ _ _ inv below _ power w.if-at-m-eq0.false ]
+    elim c.if-at-m-eq0.branch [
+      | then-at-m-eq0+in_default w ↦ climbed_zero _ _ _ _ inv below _ power w.if-at-m-eq0.true _ begins _ w.least-found.ensures w.in_default.is
+      | else-at-m-eq0 w ↦ climbed_one _ _ _ _ inv below _ power w.if-at-m-eq0.false
+    ]
 
 pub returns : goal.returns
 returns c = climbed_all _ _ _ _ c.loop-i.invariant c.loop-i-test.false

@@ -1,10 +1,8 @@
 -- `lister::cursor::fill` meets its contract. The invariant: the first i of out are the covers that the cursor is past, the rest is as it was.
-use borrow.Author.Rules.{rules}
 use Prim.Native.Nat.{◌-◌}
-use native.Mathlib.Omega.{arith}
 use lib.ListN.{length}
 use Rattle.rows.specs.Covers.{row_covers}
-use Rattle.lister.proofs.Listing.{row_covers_rising, row_covers_small, Filling, filling_none, filling_more, filled_over, filled_full}
+use Rattle.lister.proofs.Listing.{Filling}
 use Rattle.lister.proofs.cursor.fill.Given as goal
 
 abbrev pub invariant-loop-i : goal.invariant-loop-i

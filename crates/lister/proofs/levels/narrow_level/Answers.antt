@@ -1,6 +1,5 @@
 -- `lister::levels::narrow_level` meets its contract.
 use Rattle.lister.proofs.Leveling.{tightened_none}
-use borrow.Author.Rules.{rules}
 use Rattle.lister.proofs.levels.narrow_level.Goals as goal
 
 pub returns-then-possible-eq0 : goal.returns-then-possible-eq0

@@ -1,7 +1,6 @@
 -- `lister::levels::own_levels` meets its contract.
 use native.Mathlib.Omega.{arith}
 use Rattle.lister.proofs.Leveling.{highest_pos, own_first, own_second}
-use borrow.Author.Rules.{rules}
 use Rattle.lister.proofs.levels.own_levels.Goals as goal
 
 pub overflow_sub-b : goal.overflow_sub-b

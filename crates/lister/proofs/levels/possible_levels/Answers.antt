@@ -1,11 +1,8 @@
 -- `lister::levels::possible_levels` meets its contract. The invariant: what the rows passed tell.
 use borrow.Author.Rules.{rules}
 use mathlib.Core.Path.{refl}
-use mathlib.Core.Logic.{⊎_elim}
-use Prim.Native.Nat.{◌-◌, ◌≤◌}
 use native.Mathlib.Omega.{arith}
-use lib.ListN.{length}
-use Rattle.lister.proofs.Leveling.{LevelsPassed, highest_pos, levels_none, levels_open, levels_met, levels_as, levels_all}
+use Rattle.lister.proofs.Leveling.{highest_pos, levels_none, levels_open, levels_met, levels_as, levels_all}
 use Rattle.lister.proofs.levels.possible_levels.Goals.{else-own-eq0, then-own-eq0}
 use Rattle.lister.proofs.levels.possible_levels.Goals as goal
 

@@ -1,7 +1,6 @@
 -- `lister::cursor::Cursor::past` meets its contract.
 use borrow.Author.Tests.{lt-ltb, le-ltb}
 use Rattle.lister.specs.Lister.{advanced}
-use borrow.Author.Rules.{rules}
 use Rattle.lister.proofs.cursor.Cursor.past.Goals as goal
 
 pub returns-then-self : goal.returns-then-self

@@ -1,6 +1,5 @@
 -- `lister::cursor::Cursor::seek` meets its contract.
 use Rattle.lister.proofs.Listing.{sought_over, sought_found, sought_none}
-use borrow.Author.Rules.{rules}
 use Rattle.lister.proofs.cursor.Cursor.seek.Goals as goal
 
 pub returns-then-self : goal.returns-then-self
