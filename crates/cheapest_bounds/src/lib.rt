@@ -3,6 +3,7 @@
 // `costs` adds up, `units` tells in what steps costs come. A cover pays for each row: `disjoint` adds up a floor for each of some rows that
 // have no candidate in common, `ascent` lets each row charge its members, so that rows with a common member share its cost.
 #![tactic(auto)]
+
 pub mod ascent;
 pub mod costs;
 pub mod disjoint;

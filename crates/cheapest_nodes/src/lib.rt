@@ -3,6 +3,7 @@
 // `plan` decides: `residue` keeps what is left of the rows, crate `cheapest_bounds` tells what any cover must still cost, `dominance` drops
 // candidates that others stand in for, `components` parts what can be searched apart, `branching` chooses a candidate.
 #![tactic(auto)]
+
 pub mod branching;
 pub mod components;
 pub mod dominance;

@@ -1,8 +1,7 @@
 -- `cheapest::greedy::greedy` meets its contract. The invariant: what is taken and what is left are parts of free.
-use borrow.Author.Rules.{rules}
 use native.Mathlib.Omega.{arith}
 use Rattle.bits.proofs.Parts.{minus_member_less}
-use Rattle.cheapest.proofs.FirstCover.{PartsOf, parts_none, parts_more}
+use Rattle.cheapest.proofs.FirstCover.{parts_none, parts_more}
 use Rattle.cheapest.proofs.greedy.greedy.Goals as goal
 
 pub loop-rest-init : goal.loop-rest-init

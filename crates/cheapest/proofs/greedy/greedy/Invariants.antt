@@ -1,8 +1,5 @@
 -- `cheapest::greedy::greedy` meets its contract. The invariant: what is taken and what is left are parts of free.
-use borrow.Author.Rules.{rules}
-use native.Mathlib.Omega.{arith}
-use Rattle.bits.proofs.Parts.{minus_member_less}
-use Rattle.cheapest.proofs.FirstCover.{PartsOf, parts_none, parts_more}
+use Rattle.cheapest.proofs.FirstCover.{PartsOf}
 use Rattle.cheapest.proofs.greedy.greedy.Given as goal
 
 abbrev pub invariant-loop-rest : goal.invariant-loop-rest

@@ -1,7 +1,6 @@
 -- `cheapest::greedy::start` meets its contract.
 use Rattle.bits.proofs.Decide.{decides_true}
 use Rattle.cheapest.proofs.FirstCover.{known_cover, known_none}
-use borrow.Author.Rules.{rules}
 use Rattle.cheapest.proofs.greedy.start.Goals as goal
 
 pub returns-then-covers : goal.returns-then-covers

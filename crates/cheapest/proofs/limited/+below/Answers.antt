@@ -1,5 +1,4 @@
 -- The proof of the cycle of calls {below}: the measure is free.
-use borrow.Author.Rules.{rules}
 use native.Mathlib.Omega.{arith}
 use Rattle.bits.proofs.Parts.{part_le, minus_member_less}
 use Rattle.cheapest_bounds.proofs.Costing.{cost_fits, small_entries}
@@ -7,14 +6,7 @@ use Rattle.cheapest.proofs.Parting.{priced_other, priced_this}
 use Rattle.cheapest.proofs.Valuing.{priced_with, priced_fits}
 use Rattle.cheapest.proofs.Following.{planned_split, planned_branch}
 use Rattle.cheapest.proofs.Limiting.{below_cut, below_met, below_sufficient, below_with, below_without, below_over, below_parts}
-use Prim.Native.Nat.{ℕ, ◌<◌}
 use Rattle.cheapest.proofs.limited.+below.Goals as goal
-
-abbrev below_at : ℕ → In 2 below-kinds.ps
-below_at t = and 2 below-kinds.ps (is 2 below-kinds.ps μ-below t) below.Pre
-
-abbrev below-below : ℕ → In 2 below-kinds.ps
-below-below t = and 2 below-kinds.ps (falls 2 below-kinds.ps ◌<◌ μ-below t) below.Pre
 
 pub limit_below-lower-requires : goal.limit_below-lower-requires
 limit_below-lower-requires t c = c.requires.common_unit.positive
@@ -39,7 +31,7 @@ overflow_add-cost t c =
 
 pub value-p-requires : goal.value-p-requires
 value-p-requires t c =
-    let planned = planned_split _ _ _ _ _ _ _ _ _ c.in-Split.is c.plan-next.ensures in record { rows_len_bound = c.requires.rows_len_bound; common_unit = c.requires.common_unit; priced = (priced_other _ _ _ _ _ _ planned.1.apart planned.1.component c.minus-other.ensures _ _ _ c.requires.priced c.total-spent.ensures, ) }
+    let planned = planned_split _ _ _ _ _ _ _ _ _ c.in-Split.is c.plan-next.ensures in record { rows_len_bound = c.requires.rows_len_bound; common_unit = c.requires.common_unit; priced = priced_other _ _ _ _ _ _ planned.1.apart planned.1.component c.minus-other.ensures _ _ _ c.requires.priced c.total-spent.ensures }
 
 pub returns-then-over-p : goal.returns-then-over-p
 returns-then-over-p t c =
@@ -58,11 +50,10 @@ overflow_add-paid t c =
 
 pub below-requires : goal.below-requires
 below-requires t c =
-    let planned = planned_split _ _ _ _ _ _ _ _ _ c.in-Split.is c.plan-next.ensures in record { rows_len_bound = omega (arith, c.decreases, planned.1.other_less _ c.minus-other.ensures, part_le _ _ planned.0.part); common_unit = c.requires.rows_len_bound; priced = ((
-          c.requires.common_unit,
-          priced_this _ _ _ _ _ _ planned.1.apart planned.1.component c.minus-other.ensures _ _ _ c.value-p.result.set c.requires.priced
-              c.total.ensures,
-        ), ) }
+    let planned = planned_split _ _ _ _ _ _ _ _ _ c.in-Split.is c.plan-next.ensures in (
+      omega (arith, c.decreases, planned.1.other_less _ c.minus-other.ensures, part_le _ _ planned.0.part),
+      (c.requires.rows_len_bound, (c.requires.common_unit, priced_this _ _ _ _ _ _ planned.1.apart planned.1.component c.minus-other.ensures _ _ _ c.value-p.result.set c.requires.priced c.total.ensures)),
+    )
 
 pub price-requires : goal.price-requires
 price-requires t c =
@@ -74,7 +65,10 @@ overflow_add-paid-in-Branch t c =
 
 pub below-with-requires : goal.below-with-requires
 below-with-requires t c =
-    let planned = planned_branch _ _ _ _ _ _ _ _ _ c.in-Branch.is c.plan-next.ensures in record { rows_len_bound = omega (arith, c.decreases, minus_member_less _ _ _ planned.1 c.minus-rest.ensures, part_le _ _ planned.0.part); common_unit = c.requires.rows_len_bound; priced = (c.requires.common_unit, priced_with _ _ _ _ _ _ c.requires.priced c.price.ensures planned.2) }
+    let planned = planned_branch _ _ _ _ _ _ _ _ _ c.in-Branch.is c.plan-next.ensures in (
+      omega (arith, c.decreases, minus_member_less _ _ _ planned.1 c.minus-rest.ensures, part_le _ _ planned.0.part),
+      (c.requires.rows_len_bound, (c.requires.common_unit, priced_with _ _ _ _ _ _ c.requires.priced c.price.ensures planned.2)),
+    )
 
 pub returns-then-with-limit : goal.returns-then-with-limit
 returns-then-with-limit t c =
@@ -84,7 +78,10 @@ returns-then-with-limit t c =
 
 pub below-requires-in-Branch : goal.below-requires-in-Branch
 below-requires-in-Branch t c =
-    let planned = planned_branch _ _ _ _ _ _ _ _ _ c.in-Branch.is c.plan-next.ensures in record { rows_len_bound = omega (arith, c.decreases, minus_member_less _ _ _ planned.1 c.minus-rest.ensures, part_le _ _ planned.0.part); common_unit = c.requires.rows_len_bound; priced = (c.requires.common_unit, c.requires.priced) }
+    let planned = planned_branch _ _ _ _ _ _ _ _ _ c.in-Branch.is c.plan-next.ensures in (
+      omega (arith, c.decreases, minus_member_less _ _ _ planned.1 c.minus-rest.ensures, part_le _ _ planned.0.part),
+      (c.requires.rows_len_bound, (c.requires.common_unit, c.requires.priced)),
+    )
 
 pub returns-in-Cut : goal.returns-in-Cut
 returns-in-Cut t c =

@@ -1,19 +1,11 @@
 -- The proof of the cycle of calls {value}: the measure is free.
-use borrow.Author.Rules.{rules}
 use native.Mathlib.Omega.{arith}
 use Rattle.bits.proofs.Parts.{part_le, minus_member_less}
 use Rattle.cheapest.proofs.Parting.{priced_other, priced_this, valued_over, valued_parts}
 use Rattle.cheapest_bounds.proofs.Costing.{cost_fits, small_entries}
 use Rattle.cheapest.proofs.Valuing.{valued_both, priced_with, priced_less, priced_fits}
 use Rattle.cheapest.proofs.Following.{valued_cut, valued_met, valued_sufficient, planned_split, planned_branch}
-use Prim.Native.Nat.{ℕ, ◌<◌}
 use Rattle.cheapest.proofs.search.+value.Goals as goal
-
-abbrev value-at : ℕ → In 2 value-kinds.ps
-value-at t = and 2 value-kinds.ps (is 2 value-kinds.ps μ-value t) value.Pre
-
-abbrev value-below : ℕ → In 2 value-kinds.ps
-value-below t = and 2 value-kinds.ps (falls 2 value-kinds.ps ◌<◌ μ-value t) value.Pre
 
 pub limit_below-limit-requires : goal.limit_below-limit-requires
 limit_below-limit-requires t c = c.requires.common_unit.positive
@@ -37,10 +29,10 @@ overflow_add-cost t c =
 
 pub value-p-requires : goal.value-p-requires
 value-p-requires t c =
-    let planned = planned_split _ _ _ _ _ _ _ _ _ c.in-Split.is c.plan-next.ensures in record { rows_len_bound = omega (arith, c.decreases, planned.1.less, part_le _ _ planned.0.part); common_unit = c.requires.rows_len_bound; priced = ((
-          c.requires.common_unit,
-          priced_other _ _ _ _ _ _ planned.1.apart planned.1.component c.minus-other.ensures _ _ _ c.requires.priced c.total-spent.ensures,
-        ), ) }
+    let planned = planned_split _ _ _ _ _ _ _ _ _ c.in-Split.is c.plan-next.ensures in (
+      omega (arith, c.decreases, planned.1.less, part_le _ _ planned.0.part),
+      (c.requires.rows_len_bound, (c.requires.common_unit, priced_other _ _ _ _ _ _ planned.1.apart planned.1.component c.minus-other.ensures _ _ _ c.requires.priced c.total-spent.ensures)),
+    )
 
 pub returns-then-over-p : goal.returns-then-over-p
 returns-then-over-p t c =
@@ -59,11 +51,10 @@ overflow_add-paid t c =
 
 pub value-requires : goal.value-requires
 value-requires t c =
-    let planned = planned_split _ _ _ _ _ _ _ _ _ c.in-Split.is c.plan-next.ensures in record { rows_len_bound = omega (arith, c.decreases, planned.1.other_less _ c.minus-other.ensures, part_le _ _ planned.0.part); common_unit = c.requires.rows_len_bound; priced = ((
-          c.requires.common_unit,
-          priced_this _ _ _ _ _ _ planned.1.apart planned.1.component c.minus-other.ensures _ _ _ c.value-p.result.set c.requires.priced
-              c.total.ensures,
-        ), ) }
+    let planned = planned_split _ _ _ _ _ _ _ _ _ c.in-Split.is c.plan-next.ensures in (
+      omega (arith, c.decreases, planned.1.other_less _ c.minus-other.ensures, part_le _ _ planned.0.part),
+      (c.requires.rows_len_bound, (c.requires.common_unit, priced_this _ _ _ _ _ _ planned.1.apart planned.1.component c.minus-other.ensures _ _ _ c.value-p.result.set c.requires.priced c.total.ensures)),
+    )
 
 pub price-requires : goal.price-requires
 price-requires t c =
@@ -75,11 +66,17 @@ overflow_add-paid-in-Branch t c =
 
 pub value-with-requires : goal.value-with-requires
 value-with-requires t c =
-    let planned = planned_branch _ _ _ _ _ _ _ _ _ c.in-Branch.is c.plan-next.ensures in record { rows_len_bound = omega (arith, c.decreases, minus_member_less _ _ _ planned.1 c.minus-rest.ensures, part_le _ _ planned.0.part); common_unit = c.requires.rows_len_bound; priced = (c.requires.common_unit, priced_with _ _ _ _ _ _ c.requires.priced c.price.ensures planned.2) }
+    let planned = planned_branch _ _ _ _ _ _ _ _ _ c.in-Branch.is c.plan-next.ensures in (
+      omega (arith, c.decreases, minus_member_less _ _ _ planned.1 c.minus-rest.ensures, part_le _ _ planned.0.part),
+      (c.requires.rows_len_bound, (c.requires.common_unit, priced_with _ _ _ _ _ _ c.requires.priced c.price.ensures planned.2)),
+    )
 
 pub value-requires-in-Branch : goal.value-requires-in-Branch
 value-requires-in-Branch t c =
-    let planned = planned_branch _ _ _ _ _ _ _ _ _ c.in-Branch.is c.plan-next.ensures in record { rows_len_bound = omega (arith, c.decreases, minus_member_less _ _ _ planned.1 c.minus-rest.ensures, part_le _ _ planned.0.part); common_unit = c.requires.rows_len_bound; priced = (c.requires.common_unit, priced_less _ _ _ _ _ c.requires.priced c.value-with.ensures.within) }
+    let planned = planned_branch _ _ _ _ _ _ _ _ _ c.in-Branch.is c.plan-next.ensures in (
+      omega (arith, c.decreases, minus_member_less _ _ _ planned.1 c.minus-rest.ensures, part_le _ _ planned.0.part),
+      (c.requires.rows_len_bound, (c.requires.common_unit, priced_less _ _ _ _ _ c.requires.priced c.value-with.ensures.within)),
+    )
 
 pub returns-in-Cut : goal.returns-in-Cut
 returns-in-Cut t c =

@@ -2,7 +2,6 @@
 use Rattle.cheapest_bounds.proofs.Costing.{small_entries}
 use Rattle.cheapest.proofs.FirstCover.{priced_start, none_below, least_cost}
 use Rattle.cheapest.proofs.Optimality.{optimal_none, optimal_cover}
-use borrow.Author.Rules.{rules}
 use Rattle.cheapest.proofs.search.cheapest.Goals as goal
 
 pub value-best-requires : goal.value-best-requires
@@ -16,14 +15,13 @@ returns-then-best-eq-NO_COST c =
     (small_entries c.args.costs.now c.type_inv.costs) c.requires.costs_len_bound c.if-best-eq-NO_COST.true)
 
 pub first-s-requires : goal.first-s-requires
-first-s-requires c =
-    (
-      c.requires.rows_len_bound,
-      (
-        c.unit-unit.ensures.unit,
-        (c.requires.costs_len_bound, (c.requires.costs_len_bound, least_cost _ _ _ _ _ _ c.low_mask-free.ensures c.start.ensures c.value-best.ensures c.if-best-eq-NO_COST.false)),
-      ),
-    )
+first-s-requires c = record {
+  rows_len_bound = c.requires.rows_len_bound;
+  common_unit = c.unit-unit.ensures.unit;
+  n_bound = c.requires.costs_len_bound;
+  costs_len_bound = c.requires.costs_len_bound;
+  least_cost = least_cost _ _ _ _ _ _ c.low_mask-free.ensures c.start.ensures c.value-best.ensures c.if-best-eq-NO_COST.false;
+}
 
 pub returns : goal.returns
 returns c =

@@ -1,11 +1,10 @@
 -- `cheapest::search::first` meets its contract. The invariant: the witness is a cover in [s, s + 2^i) that costs best, and none that does is below s.
-use borrow.Author.Rules.{rules}
 use native.Mathlib.Omega.{arith}
 use Prim.Native.Nat.{◌-◌}
 use lib.Pow.{pow_pos}
 use Rattle.rows.proofs.Nodes.{halves}
 use Rattle.cheapest_bounds.proofs.Costing.{cost_fits, small_entries}
-use Rattle.cheapest.proofs.FirstCover.{left_over, Witnessed, witnessed_none, witnessed_lacks, witnessed_with, witnessed_without, witnessed_all, power_single, best_fits, priced_without}
+use Rattle.cheapest.proofs.FirstCover.{left_over, witnessed_none, witnessed_lacks, witnessed_with, witnessed_without, witnessed_all, power_single, best_fits, priced_without}
 use Rattle.cheapest.proofs.search.first.Goals as goal
 
 pub loop-i-init : goal.loop-i-init
@@ -23,8 +22,12 @@ low_mask-requires c = omega (arith, c.loop-i.invariant.node.small)
 
 pub value-without-requires : goal.value-without-requires
 value-without-requires c =
-    record { rows_len_bound = c.requires.rows_len_bound; common_unit = c.requires.common_unit; priced = (priced_without _ _ _ _ _ _ _ _ c.requires.costs_len_bound (small_entries c.args.costs.now c.type_inv.costs) c.requires.least_cost c.loop-i.invariant _
-            (omega arith), ) }
+    record {
+      rows_len_bound = c.requires.rows_len_bound;
+      common_unit = c.requires.common_unit;
+      priced = priced_without _ _ _ _ _ _ _ _ c.requires.costs_len_bound (small_entries c.args.costs.now c.type_inv.costs) c.requires.least_cost c.loop-i.invariant _
+          (omega arith);
+    }
 
 pub loop-i-preserved-then-without-best : goal.loop-i-preserved-then-without-best
 loop-i-preserved-then-without-best c =

@@ -1,5 +1,4 @@
 -- `cheapest_bounds::ascent::affordable` meets its contract.
-use borrow.Author.Rules.{rules}
 use Rattle.cheapest_bounds.proofs.Ascending.{affordable_all, affordable_none, affordable_trimmed}
 use Rattle.cheapest_bounds.proofs.ascent.affordable.Goals as goal
 

@@ -2,7 +2,6 @@
 use native.Mathlib.Omega.{arith}
 use Rattle.cheapest_bounds.proofs.Costing.{small_entries}
 use Rattle.cheapest_bounds.proofs.Ascending.{raised_six, raised_small, dual}
-use borrow.Author.Rules.{rules}
 use Rattle.cheapest_bounds.proofs.ascent.ascent.Goals as goal
 
 pub overflow_add-result-5 : goal.overflow_add-result-5

@@ -1,8 +1,7 @@
 -- `cheapest_bounds::ascent::charge` meets its contract. The invariant: the members passed have paid y, and the others can.
-use borrow.Author.Rules.{rules}
 use native.Mathlib.Omega.{arith}
 use Rattle.bits.proofs.Parts.{minus_member_less}
-use Rattle.cheapest_bounds.proofs.Ascending.{Charging, charging_none, charging_can, charging_more, charging_all}
+use Rattle.cheapest_bounds.proofs.Ascending.{charging_none, charging_can, charging_more, charging_all}
 use Rattle.cheapest_bounds.proofs.ascent.charge.Goals as goal
 
 pub overflow_cast-y16 : goal.overflow_cast-y16

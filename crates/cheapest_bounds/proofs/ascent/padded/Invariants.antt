@@ -1,9 +1,7 @@
 -- `cheapest_bounds::ascent::padded` meets its contract. The invariant: the first i entries are the costs', the others are 0.
-use borrow.Author.Rules.{rules}
 use Prim.Native.Nat.{◌-◌, ◌≤◌}
-use native.Mathlib.Omega.{arith}
 use lib.ListN.{length}
-use Rattle.cheapest_bounds.proofs.Ascending.{Padding, padding_none, padding_more, padding_all}
+use Rattle.cheapest_bounds.proofs.Ascending.{Padding}
 use Rattle.cheapest_bounds.proofs.ascent.padded.Given as goal
 
 abbrev pub invariant-loop-i : goal.invariant-loop-i

@@ -1,8 +1,6 @@
 -- `cheapest_bounds::ascent::pay` meets its contract.
-use mathlib.Core.Logic.{⊎_elim}
 use native.Mathlib.Omega.{arith}
 use Rattle.cheapest_bounds.proofs.Ascending.{floor_less, paid_none, paid_some}
-use borrow.Author.Rules.{rules}
 use Rattle.cheapest_bounds.proofs.ascent.pay.Goals.{else-half, then-half}
 use Rattle.cheapest_bounds.proofs.ascent.pay.Goals as goal
 
@@ -17,7 +15,7 @@ returns-then-all-eq0 c = paid_none _ _
 
 pub charge-requires : goal.charge-requires
 charge-requires c =
-    record { left_len = c.requires; floor = floor_less _ _ _ _ c.floor-all.ensures (elim c.if-half.branch [ then-half w ↦ omega (arith, w.EQ0) | else-half w ↦ omega (arith, w.EQ0) ]) }
+    record { left_len = c.requires; floor = floor_less _ _ _ _ c.floor-all.ensures (elim c.if-half.branch [ then-half w ↦ omega (arith, w.y-is) | else-half w ↦ omega (arith, w.y-is) ]) }
 
 pub returns : goal.returns
 returns c =

@@ -1,9 +1,7 @@
 -- `cheapest_bounds::costs::floor` meets its contract. The invariant: no member of x that is not in rest costs less than low.
-use borrow.Author.Rules.{rules}
 use native.Mathlib.Omega.{arith}
-use mathlib.Core.Logic.{⊎_elim}
 use Rattle.bits.proofs.Parts.{minus_member_less}
-use Rattle.cheapest_bounds.proofs.Bounding.{Floored, floored_none, floored_more, floored_all}
+use Rattle.cheapest_bounds.proofs.Bounding.{floored_none, floored_more, floored_all}
 use Rattle.cheapest_bounds.proofs.costs.floor.Goals.{else-p-low, then-p-low}
 use Rattle.cheapest_bounds.proofs.costs.floor.Goals as goal
 

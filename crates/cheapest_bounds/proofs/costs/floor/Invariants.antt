@@ -1,9 +1,5 @@
 -- `cheapest_bounds::costs::floor` meets its contract. The invariant: no member of x that is not in rest costs less than low.
-use borrow.Author.Rules.{rules}
-use native.Mathlib.Omega.{arith}
-use mathlib.Core.Logic.{⊎_elim}
-use Rattle.bits.proofs.Parts.{minus_member_less}
-use Rattle.cheapest_bounds.proofs.Bounding.{Floored, floored_none, floored_more, floored_all}
+use Rattle.cheapest_bounds.proofs.Bounding.{Floored}
 use Rattle.cheapest_bounds.proofs.costs.floor.Given as goal
 
 abbrev pub invariant-loop-rest : goal.invariant-loop-rest

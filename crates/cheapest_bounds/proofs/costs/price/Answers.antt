@@ -1,7 +1,6 @@
 -- `cheapest_bounds::costs::price` meets its contract.
 use native.Mathlib.Omega.{arith}
 use Rattle.cheapest_bounds.proofs.Bounding.{priced, priced_past}
-use borrow.Author.Rules.{rules}
 use Rattle.cheapest_bounds.proofs.costs.price.Goals as goal
 
 pub overflow_cast-result : goal.overflow_cast-result

@@ -1,9 +1,5 @@
 -- `cheapest_bounds::costs::total` meets its contract. The invariant: the sum and the cost of rest make the cost of x.
-use borrow.Author.Rules.{rules}
-use mathlib.Core.Path.{◌≡◌}
-use Prim.Native.Nat.{◌+◌}
 use native.Mathlib.Omega.{arith}
-use Rattle.cheapest_bounds.specs.Costs.{cost_of}
 use Rattle.bits.proofs.Parts.{minus_member_less}
 use Rattle.cheapest_bounds.proofs.Costing.{small_entries, totalled, total_fits, total_all}
 use Rattle.cheapest_bounds.proofs.costs.total.Goals as goal

@@ -1,11 +1,7 @@
 -- `cheapest_bounds::disjoint::bound` meets its contract. The invariant: each cover there has members in used that cost sum or more.
-use borrow.Author.Rules.{rules}
 use Prim.Native.Nat.{◌-◌, ◌≤◌}
-use native.Mathlib.Omega.{arith}
 use lib.ListN.{length}
-use mathlib.Core.Logic.{⊎_elim}
-use Rattle.cheapest_bounds.proofs.Costing.{small_entries}
-use Rattle.cheapest_bounds.proofs.Bounding.{Packed, packed_none, packed_more, packed_as, packed_small, packed_all, bound_lost}
+use Rattle.cheapest_bounds.proofs.Bounding.{Packed}
 use Rattle.cheapest_bounds.proofs.disjoint.bound.Given as goal
 
 abbrev pub invariant-loop-i : goal.invariant-loop-i

@@ -1,9 +1,7 @@
 -- `cheapest_bounds::units::common` meets its contract. The invariant: u is the greatest common divisor of the costs passed.
 use borrow.Author.Rules.{rules}
-use Prim.Native.Nat.{◌-◌, ◌≤◌}
 use native.Mathlib.Omega.{arith}
-use lib.ListN.{length}
-use Rattle.cheapest_bounds.proofs.Measuring.{Folded, folded_none, folded_more, folded_all, folded_one}
+use Rattle.cheapest_bounds.proofs.Measuring.{folded_none, folded_more, folded_all, folded_one}
 use Rattle.cheapest_bounds.proofs.units.common.Goals as goal
 
 pub loop-i-init : goal.loop-i-init

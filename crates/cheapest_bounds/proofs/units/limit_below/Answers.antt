@@ -1,5 +1,4 @@
 -- `cheapest_bounds::units::limit_below` meets its contract.
-use borrow.Author.Rules.{rules}
 use native.Mathlib.Omega.{arith}
 use Rattle.cheapest_bounds.proofs.Measuring.{limit_zero, limit_small, limit_is}
 use Rattle.cheapest_bounds.proofs.units.limit_below.Goals as goal

@@ -1,5 +1,4 @@
 -- `cheapest_bounds::units::unit` meets its contract.
-use borrow.Author.Rules.{rules}
 use native.Mathlib.Omega.{arith}
 use Rattle.cheapest_bounds.proofs.Measuring.{unit_free, unit_greatest}
 use Rattle.cheapest_bounds.proofs.units.unit.Goals as goal

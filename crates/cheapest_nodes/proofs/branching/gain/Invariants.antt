@@ -1,7 +1,4 @@
 -- `cheapest_nodes::branching::gain` meets its contract.
-use mathlib.Core.Logic.{⊎_elim}
-use native.Mathlib.Omega.{arith}
-use borrow.Author.Rules.{rules}
 use Prim.Native.Nat.{◌-◌, ◌≤◌, ◌<◌}
 use lib.ListN.{length}
 use Rattle.cheapest_nodes.proofs.branching.gain.Given as goal

@@ -1,8 +1,5 @@
 -- `cheapest_nodes::branching::most_effective` meets its contract. The invariant: pick is a member of x, most is a count, and rest is a part of x.
-use borrow.Author.Rules.{rules}
-use Prim.Native.Nat.{◌<◌}
 use native.Mathlib.Omega.{arith}
-use Rattle.bits.specs.Bits.{Part, Member}
 use Rattle.bits.proofs.Parts.{part_trans, minus_part, minus_member_less, member_of_more}
 use Rattle.cheapest_bounds.proofs.Costing.{product_fits}
 use Rattle.cheapest_nodes.proofs.branching.most_effective.Goals as goal
@@ -33,12 +30,11 @@ loop-rest-smaller-then-most-price c =
     minus_member_less _ _ _ c.lowest-m.ensures.member c.minus-rest-in-loop-rest.ensures
 
 pub loop-rest-preserved-then-most-price : goal.loop-rest-preserved-then-most-price
-loop-rest-preserved-then-most-price c =
-    (
-      member_of_more _ _ _ c.loop-rest.invariant.1 c.lowest-m.ensures.member,
-      part_trans _ _ _ (minus_part _ _ _ c.minus-rest-in-loop-rest.ensures) c.loop-rest.invariant.1,
-      c.gain-more.ensures,
-    )
+loop-rest-preserved-then-most-price c = (
+  member_of_more _ _ _ c.loop-rest.invariant.1 c.lowest-m.ensures.member,
+  part_trans _ _ _ (minus_part _ _ _ c.minus-rest-in-loop-rest.ensures) c.loop-rest.invariant.1,
+  c.gain-more.ensures,
+)
 
 pub loop-rest-smaller : goal.loop-rest-smaller
 loop-rest-smaller c =

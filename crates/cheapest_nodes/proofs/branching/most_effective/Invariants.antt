@@ -1,10 +1,6 @@
 -- `cheapest_nodes::branching::most_effective` meets its contract. The invariant: pick is a member of x, most is a count, and rest is a part of x.
-use borrow.Author.Rules.{rules}
 use Prim.Native.Nat.{◌<◌}
-use native.Mathlib.Omega.{arith}
 use Rattle.bits.specs.Bits.{Part, Member}
-use Rattle.bits.proofs.Parts.{part_trans, minus_part, minus_member_less, member_of_more}
-use Rattle.cheapest_bounds.proofs.Costing.{product_fits}
 use Rattle.cheapest_nodes.proofs.branching.most_effective.Given as goal
 
 abbrev pub invariant-loop-rest : goal.invariant-loop-rest

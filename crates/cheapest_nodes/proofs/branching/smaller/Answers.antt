@@ -1,7 +1,6 @@
 -- `cheapest_nodes::branching::smaller` meets its contract.
 use mathlib.Core.Path.{refl, ◌∙◌}
 use mathlib.Core.Logic.{inl, inr, ⊎_elim}
-use borrow.Author.Rules.{rules}
 use Rattle.bits.proofs.Parts.{fewer_either}
 use Rattle.cheapest_nodes.proofs.branching.smaller.Goals as goal
 

@@ -1,5 +1,4 @@
 -- `cheapest_nodes::components::component` meets its contract.
-use borrow.Author.Rules.{rules}
 use Rattle.bits.proofs.Decide.{decides_true}
 use Rattle.cheapest_nodes.proofs.Closing.{component_all, component_grown}
 use Rattle.cheapest_nodes.proofs.components.component.Goals as goal

@@ -1,5 +1,4 @@
 -- `cheapest_nodes::components::grown` is safe and ends.
-use borrow.Author.Rules.{rules}
 use Prim.Native.Nat.{◌≤◌, ◌-◌}
 use Rattle.cheapest_nodes.proofs.components.grown.Given as goal
 

@@ -1,5 +1,4 @@
 -- `cheapest_nodes::components::spread` is safe and ends.
-use borrow.Author.Rules.{rules}
 use Prim.Native.Nat.{◌≤◌, ◌-◌}
 use lib.ListN.{length}
 use Rattle.cheapest_nodes.proofs.components.spread.Given as goal

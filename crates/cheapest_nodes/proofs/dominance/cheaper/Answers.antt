@@ -1,7 +1,5 @@
 -- `cheapest_nodes::dominance::cheaper` meets its contract. The invariant: rest is a part of x.
-use borrow.Author.Rules.{rules}
 use native.Mathlib.Omega.{arith}
-use Rattle.bits.specs.Bits.{Part}
 use Rattle.bits.proofs.Parts.{part_self, part_trans, minus_part, minus_member_less}
 use Rattle.cheapest_nodes.proofs.Thinning.{cheaper_one, cheaper_none}
 use Rattle.cheapest_nodes.proofs.dominance.cheaper.Goals as goal

@@ -1,8 +1,7 @@
 -- `cheapest_nodes::dominance::restrict` meets its contract. The invariant: the entries of the members passed have only what is in row.
-use borrow.Author.Rules.{rules}
 use native.Mathlib.Omega.{arith}
 use Rattle.bits.proofs.Parts.{minus_member_less}
-use Rattle.cheapest_nodes.proofs.Restricting.{Restricting, restricting_none, restricting_more, restricting_all}
+use Rattle.cheapest_nodes.proofs.Restricting.{restricting_none, restricting_more, restricting_all}
 use Rattle.cheapest_nodes.proofs.dominance.restrict.Goals as goal
 
 pub loop-rest-init : goal.loop-rest-init

@@ -1,8 +1,5 @@
 -- `cheapest_nodes::dominance::restrict` meets its contract. The invariant: the entries of the members passed have only what is in row.
-use borrow.Author.Rules.{rules}
-use native.Mathlib.Omega.{arith}
-use Rattle.bits.proofs.Parts.{minus_member_less}
-use Rattle.cheapest_nodes.proofs.Restricting.{Restricting, restricting_none, restricting_more, restricting_all}
+use Rattle.cheapest_nodes.proofs.Restricting.{Restricting}
 use Rattle.cheapest_nodes.proofs.dominance.restrict.Given as goal
 
 abbrev pub invariant-loop-rest : goal.invariant-loop-rest

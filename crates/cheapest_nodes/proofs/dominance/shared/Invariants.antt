@@ -1,12 +1,7 @@
 -- `cheapest_nodes::dominance::shared` meets its contract. The invariant: the entries are in the unmet rows passed that have their candidates.
-use mathlib.Core.Path.{sym, subst, refl}
-use borrow.Author.Rules.{rules}
-use mathlib.Core.Logic.{⊎_elim}
 use Prim.Native.Nat.{◌-◌, ◌≤◌}
-use native.Mathlib.Omega.{arith}
 use lib.ListN.{length}
 use Rattle.cheapest_nodes.specs.Nodes.{Shared}
-use Rattle.cheapest_nodes.proofs.Restricting.{shared_none, shared_met, shared_more, shared_all}
 use Rattle.cheapest_nodes.proofs.dominance.shared.Given as goal
 
 abbrev pub invariant-loop-i : goal.invariant-loop-i

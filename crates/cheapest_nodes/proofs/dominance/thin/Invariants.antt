@@ -1,11 +1,6 @@
 -- `cheapest_nodes::dominance::thin` meets its contract. The invariant: f is thinned from free, and rest is a part of free.
-use Rattle.bits.proofs.Parts.{part_trans, minus_part, minus_member_less}
-use Rattle.cheapest_nodes.proofs.Thinning.{free_part, thinned_unmet, thinned_trans, thinned_drop}
-use borrow.Author.Rules.{rules}
-use native.Mathlib.Omega.{arith}
 use Rattle.bits.specs.Bits.{Part}
 use Rattle.cheapest_nodes.specs.Nodes.{Thinned}
-use Rattle.cheapest_nodes.proofs.Restricting.{shared_one}
 use Rattle.cheapest_nodes.proofs.dominance.thin.Given as goal
 
 abbrev pub invariant-loop-rest : goal.invariant-loop-rest

@@ -1,12 +1,7 @@
 -- `cheapest_nodes::dominance::unmet_members` meets its contract. The invariant: acc has the rows passed that s does not meet.
-use borrow.Author.Rules.{rules}
-use mathlib.Core.Path.{sym, subst}
-use mathlib.Core.Logic.{⊎_elim}
 use Prim.Native.Nat.{◌-◌, ◌≤◌}
-use native.Mathlib.Omega.{arith}
 use lib.ListN.{length}
 use Rattle.rows.specs.Covers.{Unmet}
-use Rattle.rows.proofs.Unmet.{unmet_none, unmet_met, unmet_more, unmet_all}
 use Rattle.cheapest_nodes.proofs.dominance.unmet_members.Given as goal
 
 abbrev pub invariant-loop-i : goal.invariant-loop-i

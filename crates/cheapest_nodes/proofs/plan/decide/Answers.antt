@@ -3,7 +3,6 @@ use Rattle.bits.proofs.Decide.{decides_true}
 use Rattle.cheapest_bounds.proofs.Costing.{cost_fits, small_entries}
 use Rattle.cheapest_nodes.proofs.Planning.{cut_bound, sufficient_thinned, done_next, lost_next, split_next, branch_next}
 use native.Mathlib.Omega.{arith}
-use borrow.Author.Rules.{rules}
 use Rattle.cheapest_nodes.proofs.plan.decide.Goals as goal
 
 pub overflow_add-cost : goal.overflow_add-cost

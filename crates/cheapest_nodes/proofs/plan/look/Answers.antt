@@ -2,7 +2,6 @@
 use mathlib.Core.Path.{sym}
 use lib.Seq.{length-take-le}
 use Rattle.cheapest_nodes.proofs.Planning.{residue_open, planned_whole}
-use borrow.Author.Rules.{rules}
 use Rattle.cheapest_nodes.proofs.plan.look.Goals as goal
 
 pub slice_bounds-decide-end-2 : goal.slice_bounds-decide-end-2

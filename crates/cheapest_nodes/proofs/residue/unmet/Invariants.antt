@@ -1,11 +1,8 @@
 -- `cheapest_nodes::residue::unmet` meets its contract. The invariant: the first n of out are what is free of the unmet rows among the first i.
-use borrow.Author.Rules.{rules}
-use mathlib.Core.Path.{◌≡◌, refl, ap, ◌∙◌}
+use mathlib.Core.Path.{◌≡◌}
 use Prim.Native.Nat.{◌-◌, ◌≤◌}
-use native.Mathlib.Omega.{arith}
-use lib.ListN.{length, length-set}
-use mathlib.Core.Logic.{⊎_elim}
-use Rattle.cheapest_nodes.proofs.Planning.{Leaves, leaves_none, leaves_skip, leaves_take, leaves_as, leaves_all}
+use lib.ListN.{length}
+use Rattle.cheapest_nodes.proofs.Planning.{Leaves}
 use Rattle.cheapest_nodes.proofs.residue.unmet.Given as goal
 
 abbrev pub invariant-loop-i : goal.invariant-loop-i
