@@ -5,11 +5,8 @@ use Rattle.library.proofs.Calling.{row_filled, row_refused}
 use borrow.Author.Rules.{rules}
 use Rattle.library.proofs.fill_row.Goals as goal
 
-pub slice_bounds-rows-end : goal.slice_bounds-rows-end
-slice_bounds-rows-end c = search rules
-
 pub slice_bounds-fill-end : goal.slice_bounds-fill-end
-slice_bounds-fill-end c = sym (length-take-le _ _ (slice_bounds-rows-end c.before))
+slice_bounds-fill-end c = sym (length-take-le _ _ (search rules))
 
 pub returns-then-m : goal.returns-then-m
 returns-then-m c = row_filled c.prepare-m.ensures c.if-m.true refl refl c.fill-page.ensures
