@@ -414,7 +414,7 @@ def turned_tuple(fn, body, labels):
     while len(parts) < len(labels):
         last = parts[-1]
         if last.startswith("(") and last.endswith(")"):
-            more = [p.strip() for p in split_top(last[1:-1], ",")]
+            more = [p.strip() for p in split_top(last[1:-1], ",") if p.strip()]
             if len(more) < 2:
                 break
             parts = parts[:-1] + more
@@ -539,6 +539,8 @@ def turn_file(root, crate, rel, names, clauses):
                         callee = q["callee"]
                 callee = callee or next((q["callee"] for q in fn.places.values() if q["callee"] and plain(q["callee"].split("::")[-1]) == re.sub(r"-requires(-\d+)?$", "", key)), None)
                 labels = fn.labels("requires", callee) if callee else None
+                if fn.in_cycle and callee and callee.rsplit("::", 1)[-1] in rel.split("+")[-1]:
+                    labels = None
                 body = turned_tuple(fn, body, labels)
             elif re.match(r"returns", key):
                 body = turned_tuple(fn, body, fn.labels("ensures", fn.label))
@@ -578,7 +580,7 @@ def turn_file(root, crate, rel, names, clauses):
             body = re.sub(r"\ba((?:\.1)*)\.0(?!\d)", lambda m: "l." + params[m.group(1).count(".1")] if m.group(1).count(".1") < len(params) else m.group(0), body)
             invariants.insert(0, f"{lead}abbrev pub {label} : goal.{label}\n{label} l ={body.rstrip()}")
             problems.append("measure " + name + ":" + body)
-        elif re.search(r"\.Claims|In 1 |Learnt|Asked", block):
+        elif re.search(r"\.Claims|\bIn \d |Learnt|Asked", block):
             continue
         else:
             # a helper

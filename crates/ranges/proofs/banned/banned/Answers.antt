@@ -5,6 +5,7 @@ use Prim.Native.Nat.{◌-◌}
 use native.Mathlib.Omega.{arith}
 use Rattle.ranges.specs.Listed.{Banned}
 use Rattle.ranges.proofs.Banning.{banned_none, banned_one, banned_as}
+use Rattle.ranges.proofs.banned.banned.Goals.{in-At, in_default}
 use Rattle.ranges.proofs.banned.banned.Goals as goal
 
 pub loop-i-init : goal.loop-i-init
@@ -18,8 +19,9 @@ rival-found-requires c = record { rows_len_bound = c.requires.rows_len_bound; qu
 
 pub loop-i-preserved : goal.loop-i-preserved
 loop-i-preserved c =
-    ⊎_elim (λ w. banned_as _ _ _ w.3 (banned_one _ _ _ _ _ _ _ _ c.power-m.ensures c.loop-i.invariant w.1.given.1 c.rival-found.ensures))
-    (λ w. banned_as _ _ _ w.2 c.loop-i.invariant) c.match-found.branch
+    elim c.match-found.branch [
+      in-At w ↦ banned_as _ _ _ w.acc-is (banned_one _ _ _ _ _ _ _ _ c.power-m.ensures c.loop-i.invariant w.in-At.is c.rival-found.ensures)
+      | in_default w ↦ banned_as _ _ _ w.acc-is c.loop-i.invariant ]
 
 pub returns : goal.returns
 returns c = c.loop-i.invariant

@@ -11,7 +11,7 @@ use lib.Pow.{pow_pos}
 use Rattle.lister.specs.Selected.{Passed}
 use Rattle.ranges.specs.Listed.{row_possibles}
 use Rattle.ranges.proofs.Walking.{one_passed, level_fits, level_passed}
-use Rattle.ranges.proofs.cursor.beyond.Goals.{else-x-m-eq0, then-x-m-eq0}
+use Rattle.ranges.proofs.cursor.beyond.Goals.{else-x-m-eq0, then-x-m-eq0+else-alive-m-ne0+else-promising}
 use Rattle.ranges.proofs.cursor.beyond.Goals as goal
 
 pub loop-i-init : goal.loop-i-init
@@ -49,7 +49,7 @@ pub loop-i-preserved : goal.loop-i-preserved
 loop-i-preserved c =
     (
       c.loop-i.invariant.0,
-      elim c.if-x-m-eq0.branch [ then-x-m-eq0 w ↦ level_passed _ _ _ _ c.requires.quoted c.args.x c.loop-i.i _ _ c.power-m.ensures refl (w.c-is.ensures w.i-is.left) _ w.EQ3 | else-x-m-eq0 w ↦ subst (Passed _ _) (sym w.notes-is) c.loop-i.invariant.1 ],
+      elim c.if-x-m-eq0.branch [ then-x-m-eq0+else-alive-m-ne0+else-promising w ↦ level_passed _ _ _ _ c.requires.quoted c.args.x c.loop-i.i _ _ c.power-m.ensures refl (w.promising.ensures w.if-promising.false) _ w.c-is | else-x-m-eq0 w ↦ subst (Passed _ _) (sym w.c-is) c.loop-i.invariant.1 ],
     )
 
 pub returns : goal.returns
