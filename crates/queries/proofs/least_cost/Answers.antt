@@ -9,22 +9,22 @@ use borrow.Author.Rules.{rules}
 use Rattle.queries.proofs.least_cost.Goals as goal
 
 pub returns-then-not-covered : goal.returns-then-not-covered
-returns-then-not-covered c = let a = c.args in cheapest_uncovered a.p a.rows.now _ a.free.now _ (not-true a.covered c.if-not-covered.true-raw) c.refused.ensures
+returns-then-not-covered c = let a = c.args in cheapest_uncovered a.p a.rows.now _ a.free.now _ (c.if-not-covered.true) c.refused.ensures
 
 pub slice_bounds-weights-end : goal.slice_bounds-weights-end
 slice_bounds-weights-end c = omega (arith, (reached_sized _ c.requires.reached).few)
 
 pub slice_bounds-cheapest-end : goal.slice_bounds-cheapest-end
-slice_bounds-cheapest-end c = sym (length-take-le _ _ (slice_bounds-weights-end c.before))
+slice_bounds-cheapest-end c = sym (length-take-le _ _ (omega (arith, (reached_sized _ c.requires.reached).few)))
 
 pub cheapest-requires : goal.cheapest-requires
-cheapest-requires c = record { rows_len_bound = c.requires.rows_len_bound; costs_len_bound = omega (arith, slice_bounds-cheapest-end c, (reached_sized _ c.requires.reached).few) }
+cheapest-requires c = record { rows_len_bound = c.requires.rows_len_bound; costs_len_bound = omega (arith, length-take-le c.args.p.candidates.count c.args.p.candidates.weights (omega (arith, (reached_sized _ c.requires.reached).few)), (reached_sized _ c.requires.reached).few) }
 
 pub returns-in-Nothing : goal.returns-in-Nothing
 returns-in-Nothing c = let a = c.args in cheapest_none a.p a.rows.now _ _ refl a.free.now _ _
-    (not-false a.covered c.if-not-covered.false-raw) c.in-Nothing.is c.cheapest.ensures
+    (c.if-not-covered.false) c.in-Nothing.is c.cheapest.ensures
 
 pub returns-in-Cover : goal.returns-in-Cover
 returns-in-Cover c = let a = c.args in cheapest_answered a.p a.rows.now _ _ refl _ _ _
     c.in-Cover.is c.cheapest.ensures a.free.now _ c.put_cheapest.result _
-    (not-false a.covered c.if-not-covered.false-raw) c.put_cheapest.ensures c.replied.ensures
+    (c.if-not-covered.false) c.put_cheapest.ensures c.replied.ensures

@@ -9,14 +9,14 @@ use borrow.Author.Rules.{rules}
 use Rattle.queries.proofs.multiply.Goals as goal
 
 pub returns-then-not-covered : goal.returns-then-not-covered
-returns-then-not-covered c = let a = c.args in products_uncovered a.p _ _ a.free.now _ (not-true a.covered c.if-not-covered.true-raw) c.refused.ensures
+returns-then-not-covered c = let a = c.args in products_uncovered a.p _ _ a.free.now _ (c.if-not-covered.true) c.refused.ensures
 
 pub multiply-row-requires : goal.multiply-row-requires
 multiply-row-requires c = record { sized = reached_sized _ (reached_alone c.requires); stocked = stocked _ _ c.requires.problem c.requires.holds c.requires.blocks; first_len = (refl, refl) }
 
 pub returns-then-number-ne0 : goal.returns-then-number-ne0
 returns-then-number-ne0 c = let a = c.args in
-    products_refused c.multiply-row.ensures a.covered (not-false a.covered c.if-not-covered.false-raw) a.free.now _ c.if-number-ne0.true c.refused-then-number-ne0.ensures
+    products_refused c.multiply-row.ensures a.covered (c.if-not-covered.false) a.free.now _ c.if-number-ne0.true c.refused-then-number-ne0.ensures
 
 pub put_products-requires : goal.put_products-requires
 put_products-requires c = let o = c.multiply-row.ensures c.requires.problem c.requires.holds c.requires.blocks in
@@ -24,5 +24,5 @@ put_products-requires c = let o = c.multiply-row.ensures c.requires.problem c.re
 
 pub returns : goal.returns
 returns c = let a = c.args in
-    products_answered c.multiply-row.ensures a.covered (not-false a.covered c.if-not-covered.false-raw) a.free.now _ c.put_products.result _
+    products_answered c.multiply-row.ensures a.covered (c.if-not-covered.false) a.free.now _ c.put_products.result _
     c.if-number-ne0.false c.put_products.ensures c.replied.ensures
