@@ -22,6 +22,8 @@ blocks_early {held} q v l = subst (λ (cs : List Candidate). BlocksAt cs held) (
 pub blocks_kept : {held : List ℕ} (x : Context) (k : model.Kind) → T (not (is k model.Kind.F)) → T (not (is k model.Kind.D)) → T (allowed k x.problem.place) → Valid x.problem
     → BlocksAt x.problem.cands held → BlocksAt (problem_after x k).cands held
 unfolding problem_after
+blocks_kept {held = held} x model.Kind.F f d a v h = elim f [ ]
+blocks_kept {held = held} x model.Kind.D f d a v h = elim d [ ]
 blocks_kept x model.Kind.I f d a v h = let l = place_last model.Kind.I x.problem.place a in blocks_early x.problem v (omega (arith, l)) h
 blocks_kept x model.Kind.W f d a v h = h
 blocks_kept x model.Kind.R f d a v h = h

@@ -10,7 +10,7 @@ use borrow.Author.Rules.{rules}
 use Rattle.engine.proofs.row_block.read_rows.Goals as goal
 
 pub read_ones-i-requires : goal.read_ones-i-requires
-read_ones-i-requires c = let start = c.before.before.before.before.before.before.before.before.before in let z = reached_sized _ start.requires.0 in record { n_bound = (z.inputs, z.outputs); at_in_bounds = start.requires.1.2 }
+read_ones-i-requires c = let z = reached_sized _ c.requires.reached in record { n_bound = (z.inputs, z.outputs); at_in_bounds = c.requires.begun_le_place.2 }
 
 pub read_eights-end-requires : goal.read_eights-end-requires
 read_eights-end-requires c = let z = reached_sized _ c.requires.reached in record { n_bound = (z.inputs, z.outputs); at_in_bounds = c.read_ones-i.ensures.within }

@@ -84,7 +84,7 @@ pub term_at-requires : goal.term_at-requires
 term_at-requires c =
     let read : let a = c.args in
     Read a.p a.job.now a.at c.kind_of-k.result c.early_refusal-number.result (length a.job.now - a.at - 1) = record { here = c.requires.at_in_bounds; kind = c.kind_of-k.ensures; left = refl; early = c.early_refusal-number.ensures } in
-    term_there (read) c.if-number-ne0.false c.in-T.keys5
+    term_there (read) c.if-number-ne0.false c.in-T.in-T-own.keys5
 
 pub term-requires : goal.term-requires
 term-requires c =
@@ -206,7 +206,7 @@ pub returns-in-T : goal.returns-in-T
 returns-in-T c =
     let read : let a = c.args in
     Read a.p a.job.now a.at c.kind_of-k.result c.early_refusal-number.result (length a.job.now - a.at - 1) = record { here = c.requires.at_in_bounds; kind = c.kind_of-k.ensures; left = refl; early = c.early_refusal-number.ensures } in
-    step_term (read) c.if-number-ne0.false c.in-T.keys5 c.term_at.ensures c.term.ensures
+    step_term (read) c.if-number-ne0.false c.in-T.in-T-own.keys5 c.term_at.ensures c.term.ensures
 
 pub returns-in-F : goal.returns-in-F
 returns-in-F c =
