@@ -3,6 +3,7 @@
 // Each function here and in crate `queries`, which has L, V, C and N, handles one kind of command behind the tests of 3, 4 and 5. A refusal leaves the
 // free part and the record alone. `held` has the sets of the blocks, which stand beside the record: only F and D change them.
 #![tactic(auto)]
+
 ghost use Rattle.std.specs.Prelude.{◌≡◌, ◌+◌, ◌≤◌, ◌<◌, length, drop};
 ghost use Rattle.model.specs.Commands as model;
 ghost use Rattle.model.specs.Commands.{rows_of_b};

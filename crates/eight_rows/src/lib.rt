@@ -3,6 +3,7 @@
 // The vertices of a B differ, so that no row of it bars another: each is held to the rows before the B. A no leaves the B to
 // `commands::eight_rows`, which tells its refusal.
 #![tactic(auto)]
+
 ghost use Rattle.std.specs.Prelude.{◌≡◌, ◌+◌, ◌*◌, ◌≤◌, ◌<◌, T, get_or, length, drop};
 ghost use Rattle.std.specs.Int.Bits.{bit_and};
 ghost use Rattle.model.specs.Commands.{rows_of_b};

@@ -4,6 +4,7 @@
 // that the job leaves, for the program `dump`. `step` is any command of a job, `row_block` the R and B commands in one go, with
 // crate `eight_rows` for a B, `job` goes through them. The calls for Rattle are those of crate `library`.
 #![tactic(auto)]
+
 ghost use Rattle.std.specs.Prelude.{◌≡◌, []};
 ghost use Rattle.model.specs.Calls.{Met};
 ghost use Rattle.incidence.specs.Stored.{BlocksAt};

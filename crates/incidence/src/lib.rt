@@ -4,6 +4,7 @@
 // from (`OnBytes` of specs/Rows) and of every list of candidates that the arrays store (`Stored` of specs/Stored), and names the definition
 // of crate `model` that the function computes. proofs/Uses has what a caller needs of the contracts.
 #![tactic(auto)]
+
 pub mod blocks;
 pub mod presence;
 pub mod rows;

@@ -5,6 +5,7 @@
 // the blocks at each vertex, is lent empty.
 // The tests come in the calls' own order: 6, 8 by rising vertex, 11, then 9 and 10 term by term, then 12, and 17 of the multiplication.
 #![tactic(auto)]
+
 ghost use Rattle.std.specs.Prelude.{◌≡◌, map, ◌≤◌, length};
 ghost use Rattle.model.specs.Library.{unpack, list_covers, right_room, multiply_covers};
 ghost use Rattle.bits.specs.Lists as lists;

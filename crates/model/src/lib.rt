@@ -3,6 +3,7 @@
 // What a reader must believe is in specs/, in the order of paper 01; docs/REVIEW.md leads from each sentence of the paper to
 // its definition and its theorem. The only code here is the term, the block and the prices, which other crates pass around.
 #![tactic(auto)]
+
 ghost use Rattle.std.specs.Prelude.{◌≡◌};
 ghost use Rattle.model.specs.Table.{in_cube};
 

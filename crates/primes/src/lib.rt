@@ -5,6 +5,7 @@
 // there (`cube_prime`, `prime_list`). Each contract speaks of every table that the bytes come from. proofs/Uses has what a caller
 // needs of the contracts.
 #![tactic(auto)]
+
 pub mod cube_prime;
 pub mod cube_table;
 pub mod numbers;

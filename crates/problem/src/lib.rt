@@ -5,6 +5,7 @@
 // its covering matrix, `products` the multiplication of its cells.
 // proofs/Keeping says that the record goes on holding the problem of the definitions.
 #![tactic(auto)]
+
 ghost use Rattle.std.specs.Prelude.{◌≡◌, ◌≤◌, ◌<◌, max};
 ghost use Rattle.model.specs.Candidates.{usual};
 ghost use Rattle.model.specs.Commands as model;

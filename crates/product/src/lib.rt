@@ -3,6 +3,7 @@
 // `cell` is one cell, from one lent row into the other, and `sorting` puts the last products in order. No function here knows of tables:
 // crate `incidence` makes the rows.
 #![tactic(auto)]
+
 ghost use Rattle.std.specs.Prelude.{◌≤◌, ◌≡◌, length};
 ghost use Rattle.product.specs.Outcome.{RowsBelow, MultipliedRows};
 

@@ -1,5 +1,6 @@
 // L, V and C over the rows of a problem, and N, which multiplies those of its cells.
 #![tactic(auto)]
+
 ghost use Rattle.std.specs.Prelude.{◌≡◌, ℕ, ◌≤◌, get_or, length};
 ghost use Rattle.rows.specs.Covers.{row_covers};
 ghost use Rattle.ranges.specs.Listed.{row_possibles};

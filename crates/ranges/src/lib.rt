@@ -5,6 +5,7 @@
 // it is passed in which none is. `rivals` decides both, by sets that cost less. `weights` puts weights together from the ends, `notes`
 // remembers what may save a search, `banned` leaves out candidates that no listed set has.
 #![tactic(auto)]
+
 pub mod banned;
 pub mod cursor;
 pub mod notes;

@@ -3,5 +3,6 @@
 // `covering` tests a cover and an irredundant one, `reduction` drops the rows that need not be looked at and puts thin ones first. No function
 // here knows of tables: crate `incidence` makes the rows.
 #![tactic(auto)]
+
 pub mod covering;
 pub mod reduction;

@@ -6,6 +6,7 @@
 //
 // What the cube of one term may drive is found by its halves; crate `primes` has a table of what each cube may drive.
 #![tactic(auto)]
+
 pub mod blocks;
 pub mod cells;
 pub mod cubes;

@@ -53,7 +53,7 @@ pub returns-then-e-ne0 : goal.returns-then-e-ne0
 returns-then-e-ne0 c =
     let i = c.loop-at.invariant in
     let matrix = λ (t : T (is_query_kind (kind_of (get_or c.args.job.now c.loop-at.at 0)))).
-        c.refresh-m.ensures.matrix i.problem i.holds i.blocks i.matrix (subst⁻¹ (λ (k : Kind). T (is_query_kind k)) c.kind_of-k.ensures t) in
+    c.refresh-m.ensures.matrix i.problem i.holds i.blocks i.matrix (subst⁻¹ (λ (k : Kind). T (is_query_kind k)) c.kind_of-k.ensures t) in
     let stepped = c.step-e.ensures.in_problem i.problem i.holds i.blocks i.valid matrix in
     going_refused i c.loop-at-test.true stepped c.if-e-ne0.true refl
 
@@ -61,7 +61,7 @@ pub overflow_add-written : goal.overflow_add-written
 overflow_add-written c =
     let i = c.loop-at.invariant in
     let matrix = λ (t : T (is_query_kind (kind_of (get_or c.args.job.now c.loop-at.at 0)))).
-        c.refresh-m.ensures.matrix i.problem i.holds i.blocks i.matrix (subst⁻¹ (λ (k : Kind). T (is_query_kind k)) c.kind_of-k.ensures t) in
+    c.refresh-m.ensures.matrix i.problem i.holds i.blocks i.matrix (subst⁻¹ (λ (k : Kind). T (is_query_kind k)) c.kind_of-k.ensures t) in
     let stepped = c.step-e.ensures.in_problem i.problem i.holds i.blocks i.valid matrix in
     omega (arith, room_left i c.loop-at-test.true stepped c.if-e-ne0.false, c.requires.job_len_bound.1)
 
@@ -72,7 +72,7 @@ pub returns-then-is_end : goal.returns-then-is_end
 returns-then-is_end c =
     let i = c.loop-at.invariant in
     let matrix = λ (t : T (is_query_kind (kind_of (get_or c.args.job.now c.loop-at.at 0)))).
-        c.refresh-m.ensures.matrix i.problem i.holds i.blocks i.matrix (subst⁻¹ (λ (k : Kind). T (is_query_kind k)) c.kind_of-k.ensures t) in
+    c.refresh-m.ensures.matrix i.problem i.holds i.blocks i.matrix (subst⁻¹ (λ (k : Kind). T (is_query_kind k)) c.kind_of-k.ensures t) in
     let stepped = c.step-e.ensures.in_problem i.problem i.holds i.blocks i.valid matrix in
     let end_is = c.is_end.ensures ∙ ap (λ (k : Kind). is k Kind.E) c.kind_of-k.ensures in
     going_ended i c.loop-at-test.true stepped c.if-e-ne0.false (sym end_is ∙ c.if-is_end.true) refl
@@ -84,7 +84,7 @@ pub overflow_add-at-in-loop-at : goal.overflow_add-at-in-loop-at
 overflow_add-at-in-loop-at c =
     let i = c.loop-at.invariant in
     let matrix = λ (t : T (is_query_kind (kind_of (get_or c.args.job.now c.loop-at.at 0)))).
-        c.refresh-m.ensures.matrix i.problem i.holds i.blocks i.matrix (subst⁻¹ (λ (k : Kind). T (is_query_kind k)) c.kind_of-k.ensures t) in
+    c.refresh-m.ensures.matrix i.problem i.holds i.blocks i.matrix (subst⁻¹ (λ (k : Kind). T (is_query_kind k)) c.kind_of-k.ensures t) in
     let stepped = c.step-e.ensures.in_problem i.problem i.holds i.blocks i.valid matrix in
     let width_is = ap (λ (w : ℕ). c.loop-at.at + 1 + w) (c.width_of.ensures ∙ ap width c.kind_of-k.ensures) in
     let w = width_fits i c.loop-at-test.true stepped c.if-e-ne0.false in
@@ -94,17 +94,17 @@ pub read_rows-block-requires : goal.read_rows-block-requires
 read_rows-block-requires c =
     let i = c.loop-at.invariant in
     let matrix = λ (t : T (is_query_kind (kind_of (get_or c.args.job.now c.loop-at.at 0)))).
-        c.refresh-m.ensures.matrix i.problem i.holds i.blocks i.matrix (subst⁻¹ (λ (k : Kind). T (is_query_kind k)) c.kind_of-k.ensures t) in
+    c.refresh-m.ensures.matrix i.problem i.holds i.blocks i.matrix (subst⁻¹ (λ (k : Kind). T (is_query_kind k)) c.kind_of-k.ensures t) in
     let stepped = c.step-e.ensures.in_problem i.problem i.holds i.blocks i.valid matrix in
     let end_is = c.is_end.ensures ∙ ap (λ (k : Kind). is k Kind.E) c.kind_of-k.ensures in
     let width_is = ap (λ (w : ℕ). c.loop-at.at + 1 + w) (c.width_of.ensures ∙ ap width c.kind_of-k.ensures) in
     let next_matrix : c.is_query-ready.result ≡ true → T (is_query_kind (kind_of (get_or c.args.job.now c.loop-at.at 0))) × IsMatrix i.problem c.refresh-m.new.rows c.refresh-m.result = λ e.
-        let q : T (is_query_kind (kind_of (get_or c.args.job.now c.loop-at.at 0))) = subst⁻¹ (λ (b : Bool). T b) (sym (c.is_query-ready.ensures ∙ ap is_query_kind c.kind_of-k.ensures) ∙ e) tt in
-        (q, matrix q) in
+    let q : T (is_query_kind (kind_of (get_or c.args.job.now c.loop-at.at 0))) = subst⁻¹ (λ (b : Bool). T b) (sym (c.is_query-ready.ensures ∙ ap is_query_kind c.kind_of-k.ensures) ∙ e) tt in
+    (q, matrix q) in
     let r = c.refresh-m.ensures in
     let next : Going c.args.job.now c.args.answers.now (with_tail c.loop-at.written c.loop-at.answers c.step-e.new.free) c.step-e.new.held c.step-e.result.problem
-        c.refresh-m.new.rows c.refresh-m.result c.is_query-ready.result (c.loop-at.at + 1 + c.width_of.result) (c.loop-at.written + c.step-e.result.written) =
-        going_next i c.loop-at-test.true stepped c.if-e-ne0.false refl r.size r.within next_matrix (sym end_is ∙ c.if-is_end.false) width_is in
+    c.refresh-m.new.rows c.refresh-m.result c.is_query-ready.result (c.loop-at.at + 1 + c.width_of.result) (c.loop-at.written + c.step-e.result.written) =
+    going_next i c.loop-at-test.true stepped c.if-e-ne0.false refl r.size r.within next_matrix (sym end_is ∙ c.if-is_end.false) width_is in
     let place = c.starts.ensures (subst⁻¹ (λ (b : Bool). T b) c.if-starts.true tt) in
     record { reached = reached_alone (reached next); begun_le_place = (place.0, place.1, next.within) }
 
@@ -115,17 +115,17 @@ pub loop-at-preserved-then-starts : goal.loop-at-preserved-then-starts
 loop-at-preserved-then-starts c =
     let i = c.loop-at.invariant in
     let matrix = λ (t : T (is_query_kind (kind_of (get_or c.args.job.now c.loop-at.at 0)))).
-        c.refresh-m.ensures.matrix i.problem i.holds i.blocks i.matrix (subst⁻¹ (λ (k : Kind). T (is_query_kind k)) c.kind_of-k.ensures t) in
+    c.refresh-m.ensures.matrix i.problem i.holds i.blocks i.matrix (subst⁻¹ (λ (k : Kind). T (is_query_kind k)) c.kind_of-k.ensures t) in
     let stepped = c.step-e.ensures.in_problem i.problem i.holds i.blocks i.valid matrix in
     let end_is = c.is_end.ensures ∙ ap (λ (k : Kind). is k Kind.E) c.kind_of-k.ensures in
     let width_is = ap (λ (w : ℕ). c.loop-at.at + 1 + w) (c.width_of.ensures ∙ ap width c.kind_of-k.ensures) in
     let next_matrix : c.is_query-ready.result ≡ true → T (is_query_kind (kind_of (get_or c.args.job.now c.loop-at.at 0))) × IsMatrix i.problem c.refresh-m.new.rows c.refresh-m.result = λ e.
-        let q : T (is_query_kind (kind_of (get_or c.args.job.now c.loop-at.at 0))) = subst⁻¹ (λ (b : Bool). T b) (sym (c.is_query-ready.ensures ∙ ap is_query_kind c.kind_of-k.ensures) ∙ e) tt in
-        (q, matrix q) in
+    let q : T (is_query_kind (kind_of (get_or c.args.job.now c.loop-at.at 0))) = subst⁻¹ (λ (b : Bool). T b) (sym (c.is_query-ready.ensures ∙ ap is_query_kind c.kind_of-k.ensures) ∙ e) tt in
+    (q, matrix q) in
     let r = c.refresh-m.ensures in
     let next : Going c.args.job.now c.args.answers.now (with_tail c.loop-at.written c.loop-at.answers c.step-e.new.free) c.step-e.new.held c.step-e.result.problem
-        c.refresh-m.new.rows c.refresh-m.result c.is_query-ready.result (c.loop-at.at + 1 + c.width_of.result) (c.loop-at.written + c.step-e.result.written) =
-        going_next i c.loop-at-test.true stepped c.if-e-ne0.false refl r.size r.within next_matrix (sym end_is ∙ c.if-is_end.false) width_is in
+    c.refresh-m.new.rows c.refresh-m.result c.is_query-ready.result (c.loop-at.at + 1 + c.width_of.result) (c.loop-at.written + c.step-e.result.written) =
+    going_next i c.loop-at-test.true stepped c.if-e-ne0.false refl r.size r.within next_matrix (sym end_is ∙ c.if-is_end.false) width_is in
     going_behind next c.read_rows-block.ensures
 
 pub loop-at-smaller : goal.loop-at-smaller
@@ -135,17 +135,17 @@ pub loop-at-preserved : goal.loop-at-preserved
 loop-at-preserved c =
     let i = c.loop-at.invariant in
     let matrix = λ (t : T (is_query_kind (kind_of (get_or c.args.job.now c.loop-at.at 0)))).
-        c.refresh-m.ensures.matrix i.problem i.holds i.blocks i.matrix (subst⁻¹ (λ (k : Kind). T (is_query_kind k)) c.kind_of-k.ensures t) in
+    c.refresh-m.ensures.matrix i.problem i.holds i.blocks i.matrix (subst⁻¹ (λ (k : Kind). T (is_query_kind k)) c.kind_of-k.ensures t) in
     let stepped = c.step-e.ensures.in_problem i.problem i.holds i.blocks i.valid matrix in
     let end_is = c.is_end.ensures ∙ ap (λ (k : Kind). is k Kind.E) c.kind_of-k.ensures in
     let width_is = ap (λ (w : ℕ). c.loop-at.at + 1 + w) (c.width_of.ensures ∙ ap width c.kind_of-k.ensures) in
     let next_matrix : c.is_query-ready.result ≡ true → T (is_query_kind (kind_of (get_or c.args.job.now c.loop-at.at 0))) × IsMatrix i.problem c.refresh-m.new.rows c.refresh-m.result = λ e.
-        let q : T (is_query_kind (kind_of (get_or c.args.job.now c.loop-at.at 0))) = subst⁻¹ (λ (b : Bool). T b) (sym (c.is_query-ready.ensures ∙ ap is_query_kind c.kind_of-k.ensures) ∙ e) tt in
-        (q, matrix q) in
+    let q : T (is_query_kind (kind_of (get_or c.args.job.now c.loop-at.at 0))) = subst⁻¹ (λ (b : Bool). T b) (sym (c.is_query-ready.ensures ∙ ap is_query_kind c.kind_of-k.ensures) ∙ e) tt in
+    (q, matrix q) in
     let r = c.refresh-m.ensures in
     let next : Going c.args.job.now c.args.answers.now (with_tail c.loop-at.written c.loop-at.answers c.step-e.new.free) c.step-e.new.held c.step-e.result.problem
-        c.refresh-m.new.rows c.refresh-m.result c.is_query-ready.result (c.loop-at.at + 1 + c.width_of.result) (c.loop-at.written + c.step-e.result.written) =
-        going_next i c.loop-at-test.true stepped c.if-e-ne0.false refl r.size r.within next_matrix (sym end_is ∙ c.if-is_end.false) width_is in
+    c.refresh-m.new.rows c.refresh-m.result c.is_query-ready.result (c.loop-at.at + 1 + c.width_of.result) (c.loop-at.written + c.step-e.result.written) =
+    going_next i c.loop-at-test.true stepped c.if-e-ne0.false refl r.size r.within next_matrix (sym end_is ∙ c.if-is_end.false) width_is in
     next
 
 pub shape_of-answers : goal.shape_of-answers

@@ -57,20 +57,23 @@ bounds-driving-wide c = omega (arith, c.wide.ensures)
 
 pub loop-v-preserved-then-power-on : goal.loop-v-preserved-then-power-on
 loop-v-preserved-then-power-on c =
-    let vertex : c.loop-v.v < 256 = omega (arith, c.loop-v-test.true, power_le _ _ c.requires.1 c.bound-size.ensures) in
-    (
-      λ ts q. elim c.if-has.branch [ then-has w ↦ stands_point _ _ _ _ _ _ _ _ _ _ _ _ c.bound-size.ensures c.loop-v-test.true c.if-j-m.true c.has.ensures
-          (c.loop-v.invariant.0 ts q) _ _ w.if-has.true (point_sum q _ _ _ _ _ (vertex) c.if-j-m.true w.wide.ensures w.sum_at-terms.ensures w.block_sum_at.ensures) w.product-is | else-has w ↦ stands_cell _ _ _ _ _ _ _ _ _ _ _ _ c.bound-size.ensures c.loop-v-test.true c.if-j-m.true c.has.ensures
-          (c.loop-v.invariant.0 ts q) _ w.if-has.false w.product-is ],
+    let vertex : c.loop-v.v < 256 = omega (arith, c.loop-v-test.true, power_le _ _ c.requires.1 c.bound-size.ensures) in (
+      λ ts q. elim c.if-has.branch [
+        | then-has w ↦ stands_point _ _ _ _ _ _ _ _ _ _ _ _ c.bound-size.ensures c.loop-v-test.true c.if-j-m.true c.has.ensures
+            (c.loop-v.invariant.0 ts q) _ _ w.if-has.true (point_sum q _ _ _ _ _ (vertex) c.if-j-m.true w.wide.ensures w.sum_at-terms.ensures w.block_sum_at.ensures) w.product-is
+        | else-has w ↦ stands_cell _ _ _ _ _ _ _ _ _ _ _ _ c.bound-size.ensures c.loop-v-test.true c.if-j-m.true c.has.ensures
+            (c.loop-v.invariant.0 ts q) _ w.if-has.false w.product-is
+      ],
       next_output _ _ _ _ c.loop-v-test.true c.if-j-m.true,
     )
 
 pub loop-v-preserved : goal.loop-v-preserved
 loop-v-preserved c = (
   λ ts q. elim c.else-j-m.branch [
-      else-j-m-via-then-j-m+else-power-on w ↦ stands_left _ _ _ _ _ _ _ _ _ _ _ _ c.bound-size.ensures c.loop-v-test.true c.loop-v.invariant.1.output w.power.ensures
-      (lt-leb _ _ w.if-power-on.false) (c.loop-v.invariant.0 ts q)
-      | else-j-m-via-else-j-m w ↦ stands_vertex _ _ _ _ _ _ _ _ _ _ c.loop-v.invariant.1.output w.if-j-m.false (c.loop-v.invariant.0 ts q) ],
+    | else-j-m-via-then-j-m+else-power-on w ↦ stands_left _ _ _ _ _ _ _ _ _ _ _ _ c.bound-size.ensures c.loop-v-test.true c.loop-v.invariant.1.output w.power.ensures
+        (lt-leb _ _ w.if-power-on.false) (c.loop-v.invariant.0 ts q)
+    | else-j-m-via-else-j-m w ↦ stands_vertex _ _ _ _ _ _ _ _ _ _ c.loop-v.invariant.1.output w.if-j-m.false (c.loop-v.invariant.0 ts q)
+  ],
   next_vertex _ _ _ c.loop-v-test.true,
 )
 

@@ -17,10 +17,10 @@ overflow_mul-set c = omega (arith, row_room has_vertex _ _ _ c.well_formed.0.1.0
 
 pub overflow_add-set : goal.overflow_add-set
 overflow_add-set c = omega (
-      arith,
-      row_room has_vertex _ _ _ c.well_formed.0.1.0.1 c.requires _ _ c.loop-k-test.true c.loop-k.invariant.0 c.loop-k.invariant.1,
-      flag_le c.in_cube.result _ c.flag.ensures,
-    )
+  arith,
+  row_room has_vertex _ _ _ c.well_formed.0.1.0.1 c.requires _ _ c.loop-k-test.true c.loop-k.invariant.0 c.loop-k.invariant.1,
+  flag_le c.in_cube.result _ c.flag.ensures,
+)
 
 pub loop-k-preserved : goal.loop-k-preserved
 loop-k-preserved c = (search rules, row_next has_vertex _ _ _ c.well_formed.0.1.0.1 c.requires _ _ c.loop-k-test.true c.loop-k.invariant.0 c.loop-k.invariant.1 _ _ _ c.in_cube.ensures c.flag.ensures)

@@ -20,11 +20,11 @@ has-requires c = c.requires.1
 
 pub overflow_add-set : goal.overflow_add-set
 overflow_add-set c = omega (
-      arith,
-      row_room drives_output _ _ _ c.well_formed.0.1.0.1 c.requires.0 _ _ c.loop-k-test.true
-          c.loop-k.invariant.0 c.loop-k.invariant.1,
-      flag_le c.has.result _ c.flag.ensures,
-    )
+  arith,
+  row_room drives_output _ _ _ c.well_formed.0.1.0.1 c.requires.0 _ _ c.loop-k-test.true
+      c.loop-k.invariant.0 c.loop-k.invariant.1,
+  flag_le c.has.result _ c.flag.ensures,
+)
 
 pub loop-k-preserved : goal.loop-k-preserved
 loop-k-preserved c = (search rules, row_next drives_output _ _ _ c.well_formed.0.1.0.1 c.requires.0 _ _ c.loop-k-test.true c.loop-k.invariant.0 c.loop-k.invariant.1 _ _ _ c.has.ensures c.flag.ensures)

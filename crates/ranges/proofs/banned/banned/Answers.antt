@@ -20,8 +20,9 @@ rival-found-requires c = record { rows_len_bound = c.requires.rows_len_bound; qu
 pub loop-i-preserved : goal.loop-i-preserved
 loop-i-preserved c =
     elim c.match-found.branch [
-      in-At w ↦ banned_as _ _ _ w.acc-is (banned_one _ _ _ _ _ _ _ _ c.power-m.ensures c.loop-i.invariant w.in-At.is c.rival-found.ensures)
-      | in_default w ↦ banned_as _ _ _ w.acc-is c.loop-i.invariant ]
+      | in-At w ↦ banned_as _ _ _ w.acc-is (banned_one _ _ _ _ _ _ _ _ c.power-m.ensures c.loop-i.invariant w.in-At.is c.rival-found.ensures)
+      | in_default w ↦ banned_as _ _ _ w.acc-is c.loop-i.invariant
+    ]
 
 pub returns : goal.returns
 returns c = c.loop-i.invariant

@@ -46,11 +46,10 @@ overflow_add-c c =
     omega (arith, level_fits c.args.x c.loop-i.i _ _ c.power-m.ensures refl (omega (arith, c.requires.quoted.few)) (omega arith) c.if-x-m-eq0.true)
 
 pub loop-i-preserved : goal.loop-i-preserved
-loop-i-preserved c =
-    (
-      c.loop-i.invariant.0,
-      elim c.if-x-m-eq0.branch [ then-x-m-eq0+else-alive-m-ne0+else-promising w ↦ level_passed _ _ _ _ c.requires.quoted c.args.x c.loop-i.i _ _ c.power-m.ensures refl (w.promising.ensures w.if-promising.false) _ w.c-is | else-x-m-eq0 w ↦ subst (Passed _ _) (sym w.c-is) c.loop-i.invariant.1 ],
-    )
+loop-i-preserved c = (
+  c.loop-i.invariant.0,
+  elim c.if-x-m-eq0.branch [ then-x-m-eq0+else-alive-m-ne0+else-promising w ↦ level_passed _ _ _ _ c.requires.quoted c.args.x c.loop-i.i _ _ c.power-m.ensures refl (w.promising.ensures w.if-promising.false) _ w.c-is | else-x-m-eq0 w ↦ subst (Passed _ _) (sym w.c-is) c.loop-i.invariant.1 ],
+)
 
 pub returns : goal.returns
 returns c = c.loop-i.invariant.1

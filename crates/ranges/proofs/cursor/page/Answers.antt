@@ -33,12 +33,11 @@ pub loop-i-smaller : goal.loop-i-smaller
 loop-i-smaller c = omega (arith, c.loop-i.invariant.1.same)
 
 pub loop-i-preserved : goal.loop-i-preserved
-loop-i-preserved c =
-    (
-      search rules,
-      filling_more _ (list_rising _ _ _ _ c.requires.quoted) (list_small _ _ _ _ c.requires.quoted) _ _ _ _ _ c.loop-i.invariant.1 _ _
-          c.loop-i-test.true c.if-c.false c.past.ensures c.seek-c-in-loop-i.ensures,
-    )
+loop-i-preserved c = (
+  search rules,
+  filling_more _ (list_rising _ _ _ _ c.requires.quoted) (list_small _ _ _ _ c.requires.quoted) _ _ _ _ _ c.loop-i.invariant.1 _ _
+      c.loop-i-test.true c.if-c.false c.past.ensures c.seek-c-in-loop-i.ensures,
+)
 
 pub shape_of-out : goal.shape_of-out
 shape_of-out c = omega (arith, c.loop-i.invariant.1.same)

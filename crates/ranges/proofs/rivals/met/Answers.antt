@@ -13,12 +13,11 @@ pub loop-i-init : goal.loop-i-init
 loop-i-init c = (search rules, refl, meeting_none _ _ _)
 
 pub loop-i-preserved : goal.loop-i-preserved
-loop-i-preserved c =
-    (
-      search rules,
-      elim c.if-rows-i-ne0.branch [ then-rows-i-ne0 w ↦ ap length w.out-is ∙ (simp length-set) ∙ c.loop-i.invariant.1 | else-rows-i-ne0 w ↦ ap length w.out-is ∙ c.loop-i.invariant.1 ],
-      elim c.if-rows-i-ne0.branch [ then-rows-i-ne0 w ↦ meeting_as _ _ _ w.out-is w.n-is (meeting_take _ _ _ _ _ c.loop-i.invariant.2 (omega (arith, c.loop-i.invariant.2.few)) w.if-rows-i-ne0.true) | else-rows-i-ne0 w ↦ meeting_as _ _ _ w.out-is w.n-is (meeting_skip _ _ _ _ _ c.loop-i.invariant.2 w.if-rows-i-ne0.false) ],
-    )
+loop-i-preserved c = (
+  search rules,
+  elim c.if-rows-i-ne0.branch [ then-rows-i-ne0 w ↦ ap length w.out-is ∙ (simp length-set) ∙ c.loop-i.invariant.1 | else-rows-i-ne0 w ↦ ap length w.out-is ∙ c.loop-i.invariant.1 ],
+  elim c.if-rows-i-ne0.branch [ then-rows-i-ne0 w ↦ meeting_as _ _ _ w.out-is w.n-is (meeting_take _ _ _ _ _ c.loop-i.invariant.2 (omega (arith, c.loop-i.invariant.2.few)) w.if-rows-i-ne0.true) | else-rows-i-ne0 w ↦ meeting_as _ _ _ w.out-is w.n-is (meeting_skip _ _ _ _ _ c.loop-i.invariant.2 w.if-rows-i-ne0.false) ],
+)
 
 pub returns : goal.returns
 returns c = meeting_all _ _ _ _ _ _ c.loop-i.invariant.2 (omega arith) c.loop-i.invariant.1

@@ -21,11 +21,15 @@ returns-then-limit-cost c =
 
 pub below-best-requires : goal.below-best-requires
 below-best-requires c =
-    let few : length c.args.high.now ≤ 64 = omega (arith, c.requires.quoted.few, c.requires.quoted.even) in record { rows_len_bound = c.requires.rows_len_bound; common_unit = mixed_unit _ _ _ _ _ _ c.mixed-w.ensures c.requires.quoted.highs c.requires.quoted.lows; priced = record {
-          few = omega (arith, c.mixed-w.ensures.size);
-          is = c.total-cost.ensures;
-          near = omega (arith, cost_fits _ _ _ few (λ k. omega (arith, c.type_inv.high k)) c.total-limit.ensures);
-        } }
+    let few : length c.args.high.now ≤ 64 = omega (arith, c.requires.quoted.few, c.requires.quoted.even) in record {
+      rows_len_bound = c.requires.rows_len_bound;
+      common_unit = mixed_unit _ _ _ _ _ _ c.mixed-w.ensures c.requires.quoted.highs c.requires.quoted.lows;
+      priced = record {
+        few = omega (arith, c.mixed-w.ensures.size);
+        is = c.total-cost.ensures;
+        near = omega (arith, cost_fits _ _ _ few (λ k. omega (arith, c.type_inv.high k)) c.total-limit.ensures);
+      };
+    }
 
 pub returns : goal.returns
 returns c =
