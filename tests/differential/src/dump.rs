@@ -19,7 +19,7 @@ use std::path::{Path, PathBuf};
 use std::process::{Command, Stdio};
 
 /// From the repository's root, where the run script starts this; DUMP names another one.
-const PROGRAM: &str = "target/bin/dump";
+const PROGRAM: &str = "crates/dump/out/dump";
 
 /// The record of a job that was compared.
 pub struct Held {
