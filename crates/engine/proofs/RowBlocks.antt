@@ -10,7 +10,6 @@ use lib.ListN.{get_or, length, drop}
 use Rattle.model.specs.Commands as model
 use Rattle.model.specs.Commands.{rows_of_b}
 use Rattle.model.specs.Candidates.{Candidate}
-use Rattle.model.specs.Job.{written}
 use Rattle.incidence.specs.Stored.{BlocksAt}
 use Rattle.problem.specs.declared.Settings.{Settings}
 use Rattle.problem.specs.declared.TableRows.{TableRows}

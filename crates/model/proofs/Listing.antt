@@ -24,7 +24,6 @@ use Rattle.model.proofs.Lists.{yes_or_no, and_l, and_r}
 use Rattle.model.proofs.Codes.{is_kind}
 use Rattle.model.proofs.Runs.{context, Passed, passed, step_refused, step_ends, step_goes}
 use Rattle.model.proofs.Sound.{engine_lawful}
-use Rattle.model.proofs.Pieces.{later}
 use Rattle.model.proofs.Alike.{with_rest, Alike, alike}
 use Rattle.model.proofs.Unpriced.{unpriced_none, behind, unpriced_step, unpriced_length, behind_length, behind_drop, behind_own, erased, plain, unpriced_by, same_length, same_bytes}
 

@@ -24,7 +24,6 @@ use Rattle.model.specs.Pricing.{uncosted, asked_of, listing, SameListing}
 use Rattle.model.specs.Pricing.{SameButPrices, no_v, SamePages, UntouchedRead, StandsAtAnyPrices, DemandAtAnyPrices, AtAnyPrices, is_cheapest}
 use Rattle.model.proofs.Lists.{and_l, and_r, all_to, all_both}
 use Rattle.model.proofs.Sound.{engine_lawful}
-use Rattle.model.proofs.Pieces.{later}
 use Rattle.model.proofs.Valid.{valid}
 use Rattle.model.proofs.Pages.{rising}
 use Rattle.model.proofs.Pricing.{listing_untouched, possibles_untouched}

@@ -1,12 +1,10 @@
 -- K10 by computation: cases, jobs, refusals and records with blocks.
 use Prim.Native.Nat.{ℕ, ◌+◌, ◌*◌, ◌^◌}
 use mathlib.Core.Path.{◌≡◌, refl}
-use mathlib.Core.Bool.{true}
 use mathlib.Core.List.{List, map}
 use lib.Count.{ones, ones_in}
-use lib.Dec.{eqb}
 use lib.ListN.{length}
-use Rattle.model.specs.Base.{below, some}
+use Rattle.model.specs.Base.{below}
 use Rattle.model.specs.Table.{is_on, is_dc, is_off, cells, on_cells, holds, formed, holds_no_off, legal}
 use Rattle.model.specs.Primes.{contains, same_term, contained_in, terms, prime, primes}
 use Rattle.model.specs.Blocks.{vertex_bit, block_holds, vertices_below, block_formed, block_holds_no_off}
@@ -17,7 +15,7 @@ use Rattle.model.specs.Pages.{at_or_above, page, more}
 use Rattle.model.specs.Candidates.{Candidate, terms_alone, literals_charged, term_cost, priced, basis, covering}
 use Rattle.model.specs.Commands.{kind_of, Problem, rows_of_b, problem_after}
 use Rattle.model.specs.Answers.{answer, answer_for}
-use Rattle.model.specs.Refusals.{largest_number, refusals_of}
+use Rattle.model.specs.Refusals.{refusals_of}
 use Rattle.model.specs.Rules.{refusal_by, refusals_by}
 use Rattle.model.specs.Job.{run, run_by, packed, written}
 use Rattle.model.specs.Records.{last_record}

@@ -3,30 +3,28 @@ use Prim.Native.Nat.{ℕ, ◌+◌, ◌/◌, ◌≤◌, ◌<◌}
 use native.Mathlib.Omega.{arith}
 use native.Mathlib.Nat.{le_refl}
 use native.Mathlib.Decide.{ℕ_discrete}
-use mathlib.Core.Path.{◌≡◌, refl, sym, ap, ap₂, ◌∙◌, subst, subst⁻¹}
-use mathlib.Core.Logic.{◌↔◌}
+use mathlib.Core.Path.{◌≡◌, refl, sym, ap, ap₂, ◌∙◌, subst}
 use mathlib.Core.Bool.{Bool, true, false, not, cond}
-use mathlib.Core.List.{List, [], ◌∷◌, ◌++◌, map, map-append, Memᴰ}
+use mathlib.Core.List.{List, [], ◌∷◌, ◌++◌, map, map-append}
 use lib.Dec.{T, nleb→lt}
 use lib.Seq.{get_or-take}
 use lib.ListN.{get_or, length, set}
-use Rattle.model.specs.Base.{bit, sum, some, filter, without, All}
+use Rattle.model.specs.Base.{bit, sum, some, filter, without}
 use Rattle.model.specs.Table.{Cell}
 use Rattle.model.specs.Blocks.{Block}
-use Rattle.model.specs.Sets.{Covering, members, Irredundant, coverable, cost, cheapest}
-use Rattle.model.specs.Ranges.{Range, fixed, Ranged, Choice, cost_at, Possible, possibles}
+use Rattle.model.specs.Sets.{Covering, members, Irredundant, cost, cheapest}
+use Rattle.model.specs.Ranges.{Range, fixed, Ranged, Choice, cost_at, Possible}
 use Rattle.model.specs.Candidates.{Candidate, Basis, weigh, covering, candidate_cost}
 use Rattle.model.specs.Commands.{Kind, is, width, is_query_kind, Problem, prices_of, basis_of, empty, Context, operand, operand_term, operand_block, operand_number, Row, rows_of_b, add_row, add_rows, range_of_g, problem_after}
 use Rattle.model.specs.Refusals.{refusals_of}
 use Rattle.model.specs.Rules.{engine}
 use Rattle.model.specs.Job.{run}
-use Rattle.model.specs.Exchanges.{Exchange}
 use Rattle.model.specs.Invariants.{Valid}
-use Rattle.model.specs.Demand3.{possibles_of, FindsRanges}
-use Rattle.model.specs.Standing.{Command, command_of, operand_of, sets_to, Behind, none_came, standing, TakenOut, SetBy, AskedBehind}
+use Rattle.model.specs.Demand3.{FindsRanges}
+use Rattle.model.specs.Standing.{Command, command_of, operand_of, sets_to, none_came, TakenOut, AskedBehind}
 use Rattle.model.specs.Ranging.{weights_of, fixed_at, ranges_to, ranges_from, standing_ranges, FindsStandingRanges, WithoutG, TakesRangeOut, SameRanges, StandingPossible, LeastCosting, EqualEnds, CheapestPossible}
 use Rattle.model.proofs.Lists.{and_l, and_r, not_or_l, map_without, length_without, entry_before, entry_without, all_to}
-use Rattle.model.proofs.Sets.{listed, cheapest_irredundant, cheapest_le}
+use Rattle.model.proofs.Sets.{cheapest_irredundant, cheapest_le}
 use Rattle.model.proofs.Ranges.{possible_listed}
 use Rattle.model.proofs.Codes.{is_kind, any_query}
 use Rattle.model.proofs.Runs.{NoneApplies, Passed, passed}

@@ -9,7 +9,6 @@ use lib.Seq.{get_or-take, take-take}
 use lib.ListN.{get_or, length, take}
 use Rattle.model.specs.Base.{filter, All, Pointwise}
 use Rattle.model.specs.Sets.{irredundants, cost, cheapest}
-use Rattle.model.specs.Products.{products}
 use Rattle.model.specs.Pages.{page, more, Page, joined_sets}
 use Rattle.model.specs.Candidates.{Basis, covering}
 use Rattle.model.specs.Commands.{at_start, Kind, is, is_query_kind, allowed, Context, number, start, count, basis_of, covering_of}

@@ -1,20 +1,20 @@
 -- A command read again, with all its operands, in another problem and with other bytes behind it: what it then finds, and the run from
 -- there on.
-use Prim.Native.Nat.{ℕ, zero, suc, ◌+◌, ◌-◌, ◌≤◌, ◌<◌, min}
+use Prim.Native.Nat.{ℕ, zero, suc, ◌+◌, ◌-◌, ◌≤◌, ◌<◌}
 use native.Mathlib.Omega.{arith}
 use mathlib.Core.Path.{◌≡◌, refl, sym, ap, ◌∙◌, subst⁻¹}
-use mathlib.Core.Bool.{Bool, true, false, not, cond}
+use mathlib.Core.Bool.{not}
 use mathlib.Core.List.{List, [], ◌∷◌, ◌++◌}
-use lib.Dec.{T, leb, leb→le, le→leb}
+use lib.Dec.{T}
 use lib.Seq.{length-take-le, drop_at, get_or-take}
 use lib.ListN.{get_or, length, take, length-append}
-use Rattle.model.specs.Commands.{at_start, begun, queried, Kind, form_of, is, kind_of, width, allowed, Problem, Context, operand, problem_after}
+use Rattle.model.specs.Commands.{begun, queried, Kind, form_of, is, kind_of, width, Problem, Context, operand, problem_after}
 use Rattle.model.specs.Answers.{Answer, bytes_of, has_bytes, answer_for, answer}
 use Rattle.model.specs.Refusals.{refusals_of}
 use Rattle.model.specs.Rules.{engine, refusal}
 use Rattle.model.specs.Job.{answer_then, commands, written}
 use Rattle.model.specs.Standing.{Command, command_of, command_bytes, GivesAlone}
-use Rattle.model.proofs.Lists.{T_true, T_false, and_l, and_i}
+use Rattle.model.proofs.Lists.{T_true, T_false}
 use Rattle.model.proofs.Codes.{kind_of_code}
 use Rattle.model.proofs.Runs.{not_refused}
 use Rattle.model.proofs.Valid.{allowed_from}

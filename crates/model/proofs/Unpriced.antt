@@ -12,7 +12,7 @@ use Rattle.model.specs.Products.{holders, joined, kept, products_up_to, products
 use Rattle.model.specs.Sets.{coverable, cover, redundant, irredundant, irredundants}
 use Rattle.model.specs.Candidates.{usual}
 use Rattle.model.specs.Commands.{Kind, is, kind_of, width, Problem, Context, Row, rows_of_b, add_row, add_rows, with_prices, with_cands, problem_after}
-use Rattle.model.specs.Answers.{Answer, bytes_of, has_bytes, answer_for, answer}
+use Rattle.model.specs.Answers.{Answer, bytes_of, has_bytes, answer_for}
 use Rattle.model.specs.Refusals.{Refusal, row_refusals, rows_refusals, refusals_of}
 use Rattle.model.specs.Pieces.{reach, pieces}
 use Rattle.model.specs.Pricing.{unpriced, uncosted}

@@ -1,12 +1,12 @@
 -- Paper 02, K10: cases, jobs and refusals with blocks, worked out by hand (theorems: proofs/MarkedBlocks, proofs/SortedBlocks).
-use Rattle.std.specs.Prelude.{ℕ, Bool, true, false, List, [], ◌∷◌, ◌++◌, replicate}
+use Rattle.std.specs.Prelude.{ℕ, true, false, List, [], ◌∷◌, ◌++◌, replicate}
 use Rattle.model.specs.Base.{join}
 use Rattle.model.specs.Table.{Table, Term, term}
 use Rattle.model.specs.Blocks.{Block}
 use Rattle.model.specs.Candidates.{Candidate, terms_alone, prices}
 use Rattle.model.specs.Spelling.{i11, row, zeros, t, f, a, d, l, w, times}
 use Rattle.model.specs.Cases.{Outcome, Case, PricedCase, Walked, Stopped, stopped, AnsweredJob, writes, Weighing, Multiplying}
-use Rattle.model.specs.Cases.{table, example, six_terms, both_on, page_bytes, least_bytes, product_bytes, ask, both_free, sixty_four, wanted, last_wanted, ask_all}
+use Rattle.model.specs.Cases.{table, both_on, page_bytes, least_bytes, product_bytes, ask, both_free, sixty_four, wanted, last_wanted, ask_all}
 
 -- a block whose vertices stand in the first byte
 abbrev pub small : ℕ → ℕ → ℕ → Block

@@ -2,7 +2,7 @@
 -- with all its bytes; tables of jobs and library calls that pin the order of refusals, of jobs in which candidates come and go, of jobs with
 -- eight rows in a command, of the weights in the records that jobs leave, of prices, of products, and of T commands in another order
 -- (theorems: proofs/Marked, proofs/EightRows, proofs/Pricing, proofs/Sorted).
-use Rattle.std.specs.Prelude.{ℕ, zero, suc, ◌+◌, ◌<◌, Bool, true, false, cond, List, [], ◌∷◌, ◌++◌, map, T, length, take, drop, replicate}
+use Rattle.std.specs.Prelude.{ℕ, ◌+◌, ◌<◌, Bool, true, false, cond, List, [], ◌∷◌, ◌++◌, map, T, length, take, drop, replicate}
 use Rattle.model.specs.Base.{below, join}
 use Rattle.model.specs.Table.{Table, Term, term, represents}
 use Rattle.model.specs.Primes.{primes}

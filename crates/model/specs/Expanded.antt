@@ -1,7 +1,7 @@
 -- Paper 02, K3: the job with the R commands. It answers as the job with B does.
 use Rattle.std.specs.Prelude.{ℕ, ◌+◌, ◌-◌, ◌≤◌, min, ◌≡◌, Bool, cond, ◌&&◌, List, [], ◌∷◌, map, leb, ltb, length, take}
 use Rattle.model.specs.Base.{filter, join, Bytes}
-use Rattle.model.specs.Commands.{Kind, form_of, is, width, Problem, Context, Row, rows_of_b}
+use Rattle.model.specs.Commands.{Kind, form_of, is, width, Problem, Row, rows_of_b}
 use Rattle.model.specs.Answers.{Answer}
 use Rattle.model.specs.Rules.{engine}
 use Rattle.model.specs.Job.{Run, run, written}

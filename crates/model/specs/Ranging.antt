@@ -10,7 +10,7 @@ use Rattle.model.specs.Commands.{Kind, is, basis_of, empty, Context, block_of_f,
 use Rattle.model.specs.Rules.{engine, refusal}
 use Rattle.model.specs.Job.{run}
 use Rattle.model.specs.Calls.{Call, Met}
-use Rattle.model.specs.Exchanges.{Exchange, Gives, Claim}
+use Rattle.model.specs.Exchanges.{Gives, Claim}
 use Rattle.model.specs.Demand3.{possibles_of}
 use Rattle.model.specs.Standing.{Command, command_of, operand_of, term_of, Behind, sets_to, standing, none_came, TakenOut, SetBy, AskedBehind}
 

@@ -10,7 +10,7 @@ use lib.Pow.{pow_mono}
 use denote.Ref.{MutBor}
 use Rattle.model.specs.Base.{bit, below}
 use Rattle.model.specs.Table.{Table, Cell, on_cells}
-use Rattle.model.specs.Sets.{covers, cover, irredundants, cheapest, of_rows, row_of, members}
+use Rattle.model.specs.Sets.{covers, cover, irredundants, of_rows, row_of, members}
 use Rattle.model.specs.Presence.{presence, all_of}
 use Rattle.model.specs.Candidates.{Candidate, candidate_holds, Basis, usual, weigh, basis, covering}
 use Rattle.model.specs.Commands as model

@@ -1,7 +1,6 @@
 -- `commands::block` meets its contract.
 use native.Mathlib.Omega.{arith}
 use Rattle.commands.proofs.Handling.{block_refused, block_many, block_kept}
-use borrow.Author.Rules.{rules}
 use Rattle.commands.proofs.block.Goals as goal
 
 pub returns-then-number-ne0 : goal.returns-then-number-ne0

@@ -1,6 +1,5 @@
 -- `commands::block_refusal` meets its contract.
 use Rattle.commands.proofs.Handling.{refuses_block}
-use borrow.Author.Rules.{rules}
 use Rattle.commands.proofs.block_refusal.Goals as goal
 
 pub returns : goal.returns

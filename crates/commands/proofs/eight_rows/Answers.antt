@@ -1,10 +1,6 @@
 -- `commands::eight_rows` meets its contract.
-use Prim.Native.Nat.{◌-◌, ◌≤◌}
 use native.Mathlib.Omega.{arith}
-use lib.ListN.{drop}
-use Rattle.model.specs.Commands.{rows_of_b}
-use Rattle.commands.proofs.EightRows.{Added, added_none, added_sized, row_next, row_stops, rows_done}
-use borrow.Author.Rules.{rules}
+use Rattle.commands.proofs.EightRows.{added_none, added_sized, row_next, row_stops, rows_done}
 use Rattle.commands.proofs.eight_rows.Goals as goal
 
 pub bounds-job-at : goal.bounds-job-at

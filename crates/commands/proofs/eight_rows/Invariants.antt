@@ -1,10 +1,8 @@
 -- `commands::eight_rows` meets its contract.
 use Prim.Native.Nat.{◌-◌, ◌≤◌}
-use native.Mathlib.Omega.{arith}
 use lib.ListN.{drop}
 use Rattle.model.specs.Commands.{rows_of_b}
-use Rattle.commands.proofs.EightRows.{Added, added_none, added_sized, row_next, row_stops, rows_done}
-use borrow.Author.Rules.{rules}
+use Rattle.commands.proofs.EightRows.{Added}
 use Rattle.commands.proofs.eight_rows.Given as goal
 
 abbrev pub invariant-loop-i : goal.invariant-loop-i

@@ -1,7 +1,6 @@
 -- `commands::end` meets its contract.
 use native.Mathlib.Omega.{arith}
 use Rattle.commands.proofs.Handling.{end_early, end_long, end_written}
-use borrow.Author.Rules.{rules}
 use Rattle.commands.proofs.end.Goals as goal
 
 pub returns-then-rest-gt0 : goal.returns-then-rest-gt0

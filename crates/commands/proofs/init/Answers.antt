@@ -1,6 +1,5 @@
 -- `commands::init` meets its contract.
 use Rattle.commands.proofs.Handling.{init_refused, init_good}
-use borrow.Author.Rules.{rules}
 use Rattle.commands.proofs.init.Goals as goal
 
 pub returns-then-number-ne0 : goal.returns-then-number-ne0

@@ -1,6 +1,5 @@
 -- `commands::prices` meets its contract.
 use Rattle.commands.proofs.Handling.{prices_refused, prices_kept}
-use borrow.Author.Rules.{rules}
 use Rattle.commands.proofs.prices.Goals as goal
 
 pub returns-then-number-ne0 : goal.returns-then-number-ne0

@@ -2,7 +2,6 @@
 use Prim.Native.Nat.{◌≤◌}
 use Rattle.problem.proofs.Keeping.{reached_sized}
 use Rattle.commands.proofs.Handling.{primes_many, few_primes, primes_long, primes_kept}
-use borrow.Author.Rules.{rules}
 use Rattle.commands.proofs.primes.Goals as goal
 
 pub primes-list-requires : goal.primes-list-requires

@@ -1,7 +1,6 @@
 -- `commands::range` meets its contract.
 use native.Mathlib.Omega.{arith}
 use Rattle.commands.proofs.Handling.{range_gone, range_refused, range_kept}
-use borrow.Author.Rules.{rules}
 use Rattle.commands.proofs.range.Goals as goal
 
 pub returns-then-number-ne0 : goal.returns-then-number-ne0

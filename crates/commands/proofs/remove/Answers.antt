@@ -1,7 +1,6 @@
 -- `commands::remove` meets its contract.
 use native.Mathlib.Omega.{arith}
 use Rattle.commands.proofs.Handling.{number_gone, number_taken}
-use borrow.Author.Rules.{rules}
 use Rattle.commands.proofs.remove.Goals as goal
 
 pub returns-then-p-i : goal.returns-then-p-i

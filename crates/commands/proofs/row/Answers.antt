@@ -4,7 +4,6 @@ use mathlib.Core.Path.{sym, ◌∙◌}
 use Rattle.problem.specs.Problems.{row_put}
 use Rattle.problem.proofs.Refusing.{row_vertex}
 use Rattle.commands.proofs.Handling.{row_refused, row_kept}
-use borrow.Author.Rules.{rules}
 use Rattle.commands.proofs.row.Goals as goal
 
 pub returns-then-number-ne0 : goal.returns-then-number-ne0

@@ -1,7 +1,6 @@
 -- `commands::term` meets its contract.
 use native.Mathlib.Omega.{arith}
 use Rattle.commands.proofs.Handling.{term_refused, term_many, term_kept}
-use borrow.Author.Rules.{rules}
 use Rattle.commands.proofs.term.Goals as goal
 
 pub returns-then-number-ne0 : goal.returns-then-number-ne0

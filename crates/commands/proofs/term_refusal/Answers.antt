@@ -1,6 +1,5 @@
 -- `commands::term_refusal` meets its contract.
 use Rattle.commands.proofs.Handling.{refuses_term}
-use borrow.Author.Rules.{rules}
 use Rattle.commands.proofs.term_refusal.Goals as goal
 
 pub returns : goal.returns

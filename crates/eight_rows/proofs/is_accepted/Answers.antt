@@ -4,7 +4,6 @@ use native.Mathlib.Omega.{arith}
 use lib.Dec.{ltb→lt}
 use lib.Pow.{pow_mono}
 use Rattle.eight_rows.proofs.EightRows.{eight_at}
-use borrow.Author.Rules.{rules}
 use Rattle.eight_rows.proofs.is_accepted.Goals as goal
 
 pub returns-then-job-at-lt18 : goal.returns-then-job-at-lt18

@@ -1,12 +1,8 @@
 -- `eight_rows::put` meets its contract.
-use Prim.Native.Nat.{◌+◌, ◌-◌, ◌<◌}
+use Prim.Native.Nat.{◌+◌, ◌<◌}
 use native.Mathlib.Omega.{arith}
-use lib.ListN.{drop}
-use Rattle.model.specs.Commands.{rows_of_b}
 use Rattle.problem.specs.Problems.{row_put}
-use Rattle.eight_rows.specs.Rows.{rows_of}
-use Rattle.eight_rows.proofs.EightRows.{Putting, putting_none, putting_next, putting_all}
-use borrow.Author.Rules.{rules}
+use Rattle.eight_rows.proofs.EightRows.{putting_none, putting_next, putting_all}
 use Rattle.eight_rows.proofs.put.Goals as goal
 
 pub bounds-job-at : goal.bounds-job-at

@@ -1,12 +1,9 @@
 -- `eight_rows::put` meets its contract.
-use Prim.Native.Nat.{◌+◌, ◌-◌, ◌<◌}
-use native.Mathlib.Omega.{arith}
+use Prim.Native.Nat.{◌-◌}
 use lib.ListN.{drop}
 use Rattle.model.specs.Commands.{rows_of_b}
-use Rattle.problem.specs.Problems.{row_put}
 use Rattle.eight_rows.specs.Rows.{rows_of}
-use Rattle.eight_rows.proofs.EightRows.{Putting, putting_none, putting_next, putting_all}
-use borrow.Author.Rules.{rules}
+use Rattle.eight_rows.proofs.EightRows.{Putting}
 use Rattle.eight_rows.proofs.put.Given as goal
 
 abbrev pub invariant-loop-i : goal.invariant-loop-i

@@ -1,10 +1,6 @@
 -- `eight_rows::shared` meets its contract.
-use Prim.Native.Nat.{◌+◌, ◌-◌, ◌*◌}
 use native.Mathlib.Omega.{arith}
-use lib.Bits.{bit_and}
-use lib.ListN.{get_or}
-use Rattle.eight_rows.proofs.EightRows.{Union, union_none, union_next, union_all}
-use borrow.Author.Rules.{rules}
+use Rattle.eight_rows.proofs.EightRows.{union_none, union_next, union_all}
 use Rattle.eight_rows.proofs.shared.Goals as goal
 
 pub loop-i-init : goal.loop-i-init

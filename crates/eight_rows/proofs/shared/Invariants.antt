@@ -1,10 +1,8 @@
 -- `eight_rows::shared` meets its contract.
 use Prim.Native.Nat.{◌+◌, ◌-◌, ◌*◌}
-use native.Mathlib.Omega.{arith}
 use lib.Bits.{bit_and}
 use lib.ListN.{get_or}
-use Rattle.eight_rows.proofs.EightRows.{Union, union_none, union_next, union_all}
-use borrow.Author.Rules.{rules}
+use Rattle.eight_rows.proofs.EightRows.{Union}
 use Rattle.eight_rows.proofs.shared.Given as goal
 
 abbrev pub invariant-loop-i : goal.invariant-loop-i

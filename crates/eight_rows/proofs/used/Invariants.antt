@@ -1,9 +1,7 @@
 -- `eight_rows::used` meets its contract.
 use Prim.Native.Nat.{◌+◌, ◌-◌}
-use native.Mathlib.Omega.{arith}
 use lib.ListN.{get_or}
-use Rattle.eight_rows.proofs.EightRows.{Union, union_none, union_next, union_all}
-use borrow.Author.Rules.{rules}
+use Rattle.eight_rows.proofs.EightRows.{Union}
 use Rattle.eight_rows.proofs.used.Given as goal
 
 abbrev pub invariant-loop-i : goal.invariant-loop-i

@@ -2,7 +2,6 @@
 use mathlib.Core.List.{[]}
 use Rattle.incidence.proofs.Uses.{blocks_alone}
 use Rattle.engine.proofs.Running.{tells_small, tells_packed}
-use borrow.Author.Rules.{rules}
 use Rattle.engine.proofs.cover_job.Goals as goal
 
 pub run_job-e-requires : goal.run_job-e-requires

@@ -1,7 +1,6 @@
 -- `engine::run_job` meets its contract.
 use native.Mathlib.Omega.{arith}
 use Rattle.engine.proofs.Running.{job_long, buffer_long}
-use borrow.Author.Rules.{rules}
 use Rattle.engine.proofs.run_job.Goals as goal
 
 pub returns-then-job-gt32768 : goal.returns-then-job-gt32768

@@ -1,5 +1,4 @@
 -- `engine::too_long` meets its contract.
-use borrow.Author.Rules.{rules}
 use Rattle.engine.proofs.too_long.Goals as goal
 
 pub returns : goal.returns

@@ -1,5 +1,4 @@
 -- `library::list_covers` meets its contract.
-use borrow.Author.Rules.{rules}
 use Rattle.library.proofs.Calling.{call_room, call_sized, call_table, call_words, call_row}
 use Rattle.library.proofs.list_covers.Goals as goal
 

@@ -1,13 +1,11 @@
 -- `library::multiply_covers` meets its contract.
 use mathlib.Core.List.{map}
-use Rattle.model.specs.Table.{Table}
 use Rattle.model.specs.Library.{unpack}
 use Rattle.incidence.proofs.Uses.{blocks_alone}
 use Rattle.problem.proofs.Preparing.{stocked}
 use Rattle.library.specs.Library.{called_table, problem_of}
 use Rattle.library.proofs.Calling.{call_room, call_sized}
 use Rattle.library.proofs.Multiplying.{back_early, back_words, back_uncovered, back_multiplied}
-use borrow.Author.Rules.{rules}
 use Rattle.library.proofs.multiply_covers.Goals as goal
 
 pub returns-then-early-ne0 : goal.returns-then-early-ne0

@@ -1,9 +1,8 @@
 -- `library::padded` meets its contract.
-use Prim.Native.Nat.{◌-◌}
 use native.Mathlib.Omega.{arith}
-use lib.ListN.{length, replicate}
+use lib.ListN.{replicate}
 use Rattle.answers.proofs.Bytes.{none_yet}
-use Rattle.library.proofs.Calling.{PaddedBelow, padded_long, padded_next, padded_all}
+use Rattle.library.proofs.Calling.{padded_long, padded_next, padded_all}
 use Rattle.library.proofs.padded.Goals as goal
 
 pub loop-i-init : goal.loop-i-init

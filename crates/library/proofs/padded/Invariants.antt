@@ -1,9 +1,7 @@
 -- `library::padded` meets its contract.
 use Prim.Native.Nat.{◌-◌}
-use native.Mathlib.Omega.{arith}
-use lib.ListN.{length, replicate}
-use Rattle.answers.proofs.Bytes.{none_yet}
-use Rattle.library.proofs.Calling.{PaddedBelow, padded_long, padded_next, padded_all}
+use lib.ListN.{length}
+use Rattle.library.proofs.Calling.{PaddedBelow}
 use Rattle.library.proofs.padded.Given as goal
 
 abbrev pub invariant-loop-i : goal.invariant-loop-i

@@ -1,6 +1,5 @@
 -- `library::problem_of` meets its contract.
 use Rattle.library.proofs.Calling.{call_holds}
-use borrow.Author.Rules.{rules}
 use Rattle.library.proofs.problem_of.Goals as goal
 
 pub returns : goal.returns

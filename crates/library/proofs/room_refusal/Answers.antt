@@ -1,6 +1,5 @@
 -- `library::room_refusal` meets its contract.
 use Rattle.library.proofs.Multiplying.{room_fits, room_wrong}
-use borrow.Author.Rules.{rules}
 use Rattle.library.proofs.room_refusal.Goals as goal
 
 pub returns-then-room_right : goal.returns-then-room_right

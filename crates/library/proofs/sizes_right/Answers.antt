@@ -1,6 +1,5 @@
 -- `library::sizes_right` meets its contract.
 use Rattle.library.proofs.Calling.{size_le, sizes_inputs, sizes_outputs, sizes_on, sizes_dc}
-use borrow.Author.Rules.{rules}
 use Rattle.library.proofs.sizes_right.Goals as goal
 
 pub bound-vertices-requires : goal.bound-vertices-requires

@@ -1,8 +1,6 @@
 -- `library::some_bad` meets its contract.
-use Prim.Native.Nat.{◌-◌}
 use native.Mathlib.Omega.{arith}
-use lib.ListN.{length}
-use Rattle.library.proofs.Calling.{GoodBelow, good_first, bad_here, good_next, good_all}
+use Rattle.library.proofs.Calling.{good_first, bad_here, good_next, good_all}
 use Rattle.library.proofs.some_bad.Goals as goal
 
 pub loop-v-init : goal.loop-v-init

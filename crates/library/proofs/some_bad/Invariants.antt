@@ -1,8 +1,7 @@
 -- `library::some_bad` meets its contract.
 use Prim.Native.Nat.{◌-◌}
-use native.Mathlib.Omega.{arith}
 use lib.ListN.{length}
-use Rattle.library.proofs.Calling.{GoodBelow, good_first, bad_here, good_next, good_all}
+use Rattle.library.proofs.Calling.{GoodBelow}
 use Rattle.library.proofs.some_bad.Given as goal
 
 abbrev pub invariant-loop-v : goal.invariant-loop-v

@@ -3,7 +3,6 @@ use lib.ListN.{length}
 use mathlib.Core.Path.{sym, ◌∙◌}
 use Rattle.library.specs.Library.{called_table}
 use Rattle.library.proofs.Calling.{sizes_are, refused_size, refused_bad, refused_many, passed_all}
-use borrow.Author.Rules.{rules}
 use Rattle.library.proofs.table_refusal.Goals as goal
 
 pub some_bad-requires : goal.some_bad-requires

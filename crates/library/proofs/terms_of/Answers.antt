@@ -1,10 +1,8 @@
 -- `library::terms_of` meets its contract.
-use Prim.Native.Nat.{◌-◌, ◌≤◌}
 use native.Mathlib.Omega.{arith}
 use mathlib.Core.Path.{refl}
-use lib.ListN.{length}
 use Rattle.model.specs.Library.{unpack}
-use Rattle.bits.proofs.Lists.{MappedBelow, mapped_next, mapped_all}
+use Rattle.bits.proofs.Lists.{mapped_next, mapped_all}
 use Rattle.library.proofs.terms_of.Goals as goal
 
 pub loop-i-init : goal.loop-i-init

@@ -1,7 +1,6 @@
 -- `library::word_refusal` meets its contract.
 use native.Mathlib.Omega.{arith}
 use Rattle.library.proofs.Calling.{word_top, word_term}
-use borrow.Author.Rules.{rules}
 use Rattle.library.proofs.word_refusal.Goals as goal
 
 pub returns-then-w-ne0 : goal.returns-then-w-ne0

@@ -1,8 +1,6 @@
 -- `library::words_refusal` meets its contract.
-use Prim.Native.Nat.{◌-◌}
 use native.Mathlib.Omega.{arith}
-use lib.ListN.{length}
-use Rattle.library.proofs.Calling.{PassedBelow, passed_first, word_refused, passed_next, passed_words, words_here}
+use Rattle.library.proofs.Calling.{passed_first, word_refused, passed_next, passed_words, words_here}
 use Rattle.library.proofs.words_refusal.Goals as goal
 
 pub allowed-may-requires : goal.allowed-may-requires

@@ -1,9 +1,9 @@
 -- `problem::weights_without` meets its contract.
-use Prim.Native.Nat.{◌-◌, ◌≤◌}
+use Prim.Native.Nat.{◌≤◌}
 use native.Mathlib.Omega.{arith}
 use mathlib.Core.Path.{refl}
 use lib.ListN.{length}
-use Rattle.problem.proofs.Moving.{MovedDown, moved_none, moved_next, moved_all}
+use Rattle.problem.proofs.Moving.{moved_none, moved_next, moved_all}
 use Rattle.problem.proofs.weights_without.Goals as goal
 
 pub loop-i-init : goal.loop-i-init

@@ -1,9 +1,6 @@
 -- `problem::weights_without` meets its contract.
-use Prim.Native.Nat.{◌-◌, ◌≤◌}
-use native.Mathlib.Omega.{arith}
-use mathlib.Core.Path.{refl}
-use lib.ListN.{length}
-use Rattle.problem.proofs.Moving.{MovedDown, moved_none, moved_next, moved_all}
+use Prim.Native.Nat.{◌-◌}
+use Rattle.problem.proofs.Moving.{MovedDown}
 use Rattle.problem.proofs.weights_without.Given as goal
 
 abbrev pub invariant-loop-i : goal.invariant-loop-i

@@ -1,6 +1,5 @@
 -- `problem::with_block` meets its contract.
 use Rattle.problem.specs.Problems.{entry_put}
-use borrow.Author.Rules.{rules}
 use Rattle.problem.proofs.with_block.Goals as goal
 
 pub returns : goal.returns

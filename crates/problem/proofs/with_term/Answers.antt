@@ -1,6 +1,5 @@
 -- `problem::with_term` meets its contract.
 use Rattle.problem.specs.Problems.{entry_put}
-use borrow.Author.Rules.{rules}
 use Rattle.problem.proofs.with_term.Goals as goal
 
 pub returns : goal.returns

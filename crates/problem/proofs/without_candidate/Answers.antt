@@ -1,5 +1,4 @@
 -- `problem::without_candidate` meets its contract.
-use borrow.Author.Rules.{rules}
 use Rattle.problem.proofs.without_candidate.Goals as goal
 
 pub returns : goal.returns

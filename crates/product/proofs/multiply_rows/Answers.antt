@@ -1,12 +1,8 @@
 -- `product::multiply_rows` meets its contract: the rows take turns, and the one whose turn it is holds the products.
-use Prim.Native.Nat.{◌-◌}
 use native.Mathlib.Omega.{arith}
 use mathlib.Core.Path.{sym}
-use mathlib.Core.Logic.{⊎_elim}
-use borrow.Author.Rules.{rules}
-use lib.ListN.{length}
 use lib.Seq.{length-take-le}
-use Rattle.product.proofs.Turns.{Turning, turn_none, to_first, to_second, first_full, second_full, refused, done_first, done_second}
+use Rattle.product.proofs.Turns.{turn_none, to_first, to_second, first_full, second_full, refused, done_first, done_second}
 use Rattle.product.proofs.multiply_rows.Goals.{else-other, then-other}
 use Rattle.product.proofs.multiply_rows.Goals as goal
 

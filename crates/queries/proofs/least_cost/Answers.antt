@@ -1,11 +1,9 @@
 -- `queries::least_cost` meets its contract.
-use borrow.Author.Tests.{not-true, not-false}
 use mathlib.Core.Path.{refl, sym}
 use native.Mathlib.Omega.{arith}
 use lib.Seq.{length-take-le}
 use Rattle.problem.proofs.Keeping.{reached_sized}
 use Rattle.queries.proofs.Querying.{cheapest_uncovered, cheapest_none, cheapest_answered}
-use borrow.Author.Rules.{rules}
 use Rattle.queries.proofs.least_cost.Goals as goal
 
 pub returns-then-not-covered : goal.returns-then-not-covered

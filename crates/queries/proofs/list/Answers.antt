@@ -6,7 +6,6 @@ use lib.ListN.{replicate}
 use Prim.Native.Nat.{ℕ}
 use Rattle.problem.proofs.Keeping.{reached_sized}
 use Rattle.queries.proofs.Querying.{list_uncovered, list_answered}
-use borrow.Author.Rules.{rules}
 use Rattle.queries.proofs.list.Goals as goal
 
 pub slice_bounds-page_into-end : goal.slice_bounds-page_into-end

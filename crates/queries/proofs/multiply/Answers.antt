@@ -1,11 +1,9 @@
 -- `queries::multiply` meets its contract.
-use borrow.Author.Tests.{not-true, not-false}
 use native.Mathlib.Omega.{arith}
 use mathlib.Core.Path.{refl}
 use Rattle.problem.proofs.Keeping.{reached_sized, reached_alone}
 use Rattle.problem.proofs.Preparing.{stocked}
 use Rattle.queries.proofs.Querying.{products_uncovered, products_refused, products_answered}
-use borrow.Author.Rules.{rules}
 use Rattle.queries.proofs.multiply.Goals as goal
 
 pub returns-then-not-covered : goal.returns-then-not-covered

@@ -2,7 +2,6 @@
 use native.Mathlib.Omega.{arith}
 use Rattle.rows.specs.Covers.{row_covers}
 use Rattle.queries.proofs.Querying.{page_within, page_answer}
-use borrow.Author.Rules.{rules}
 use Rattle.queries.proofs.page_into.Goals as goal
 
 pub put_page-requires : goal.put_page-requires

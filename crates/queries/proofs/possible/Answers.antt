@@ -6,7 +6,6 @@ use lib.ListN.{replicate}
 use Prim.Native.Nat.{ℕ}
 use Rattle.problem.proofs.Keeping.{reached_sized}
 use Rattle.queries.proofs.Querying.{ends_sized, ends_rise, possible_uncovered, possible_answered}
-use borrow.Author.Rules.{rules}
 use Rattle.queries.proofs.possible.Goals as goal
 
 pub slice_bounds-lows-end : goal.slice_bounds-lows-end

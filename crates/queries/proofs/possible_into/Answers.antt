@@ -3,7 +3,6 @@ use native.Mathlib.Omega.{arith}
 use lib.ListN.{length}
 use Rattle.ranges.specs.Listed.{row_possibles}
 use Rattle.queries.proofs.Querying.{page_within, possible_answer}
-use borrow.Author.Rules.{rules}
 use Rattle.queries.proofs.possible_into.Goals as goal
 
 pub fill-page-requires : goal.fill-page-requires

@@ -1,5 +1,4 @@
 -- `queries::replied` meets its contract.
-use borrow.Author.Rules.{rules}
 use Rattle.queries.proofs.replied.Goals as goal
 
 pub returns-in-TooLong : goal.returns-in-TooLong

@@ -1,14 +1,13 @@
 -- `answers::writers::put_cheapest` meets its contract.
-use mathlib.Core.List.{List, [], ◌∷◌, ◌++◌}
+use mathlib.Core.List.{[], ◌∷◌, ◌++◌}
 use mathlib.Core.Path.{◌≡◌}
-use Prim.Native.Nat.{ℕ, ◌-◌, ◌≤◌}
+use Prim.Native.Nat.{◌-◌, ◌≤◌}
 use native.Mathlib.Omega.{arith}
 use lib.ListN.{length, length-set}
 use borrow.Rule.Slice.PartMut.{put_mid}
 use Rattle.model.specs.Commands.{low}
 use Rattle.answers.specs.Writers.{InFront}
 use Rattle.answers.proofs.Bytes.{same_long, room_behind, behind, Whole, headed_room, headed, written}
-use borrow.Author.Rules.{rules}
 use Rattle.answers.proofs.writers.put_cheapest.Goals as goal
 
 pub slice_bounds-put_number-count : goal.slice_bounds-put_number-count

@@ -1,7 +1,6 @@
 -- `answers::writers::put_end` meets its contract.
 use mathlib.Core.List.{[], ◌∷◌}
 use Rattle.answers.proofs.Bytes.{stored, written}
-use borrow.Author.Rules.{rules}
 use Rattle.answers.proofs.writers.put_end.Goals as goal
 
 pub returns : goal.returns

@@ -1,7 +1,6 @@
 -- `answers::writers::put_number` meets its contract. The invariant: i of the w bytes stand in front, and rest has the others.
-use Rattle.answers.proofs.Bytes.{Digits, digits_first, digits_next, digits_long, digits_all}
+use Rattle.answers.proofs.Bytes.{digits_first, digits_next, digits_long, digits_all}
 use native.Mathlib.Omega.{arith}
-use Prim.Native.Nat.{◌-◌}
 use Rattle.answers.proofs.writers.put_number.Goals as goal
 
 pub loop-i-init : goal.loop-i-init

@@ -1,6 +1,5 @@
 -- `answers::writers::put_number` meets its contract. The invariant: i of the w bytes stand in front, and rest has the others.
-use Rattle.answers.proofs.Bytes.{Digits, digits_first, digits_next, digits_long, digits_all}
-use native.Mathlib.Omega.{arith}
+use Rattle.answers.proofs.Bytes.{Digits}
 use Prim.Native.Nat.{◌-◌}
 use Rattle.answers.proofs.writers.put_number.Given as goal
 

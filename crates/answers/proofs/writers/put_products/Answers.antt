@@ -1,13 +1,12 @@
 -- `answers::writers::put_products` meets its contract.
 use mathlib.Core.Path.{refl}
-use mathlib.Core.List.{List, [], ◌∷◌}
-use Prim.Native.Nat.{ℕ, ◌*◌}
+use mathlib.Core.List.{[], ◌∷◌}
+use Prim.Native.Nat.{◌*◌}
 use native.Mathlib.Omega.{arith}
 use lib.ListN.{length-set}
 use lib.Seq.{length-take-le}
 use Rattle.model.specs.Commands.{low}
 use Rattle.answers.proofs.Bytes.{low_length, blocks_length, same_long, headed_room, headed, written}
-use borrow.Author.Rules.{rules}
 use Rattle.answers.proofs.writers.put_products.Goals as goal
 
 pub returns-then-free-len : goal.returns-then-free-len

@@ -1,8 +1,6 @@
 -- `answers::writers::put_sets` meets its contract. The invariant: the blocks of the first i sets stand in front.
-use borrow.Author.Rules.{rules}
-use Rattle.answers.proofs.Bytes.{Blocks, blocks_first, blocks_long, blocks_start, blocks_room, blocks_next, blocks_all}
+use Rattle.answers.proofs.Bytes.{Blocks}
 use Prim.Native.Nat.{◌-◌}
-use native.Mathlib.Omega.{arith}
 use Rattle.model.specs.Commands.{low}
 use Rattle.answers.proofs.writers.put_sets.Given as goal
 

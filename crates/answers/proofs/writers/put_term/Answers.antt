@@ -3,7 +3,6 @@ use mathlib.Core.List.{[], ◌∷◌}
 use native.Mathlib.Omega.{arith}
 use lib.ListN.{length-set}
 use Rattle.answers.proofs.Bytes.{stored}
-use borrow.Author.Rules.{rules}
 use Rattle.answers.proofs.writers.put_term.Goals as goal
 
 pub bounds-free-1 : goal.bounds-free-1

@@ -1,7 +1,5 @@
 -- `answers::writers::put_terms` meets its contract. The invariant: the blocks of the first i terms stand in front.
-use borrow.Author.Rules.{rules}
-use Rattle.answers.proofs.Bytes.{Blocks, blocks_first, blocks_long, blocks_start, blocks_room, blocks_next, blocks_all}
-use Prim.Native.Nat.{◌-◌}
+use Rattle.answers.proofs.Bytes.{blocks_first, blocks_long, blocks_start, blocks_room, blocks_next, blocks_all}
 use native.Mathlib.Omega.{arith}
 use Rattle.model.specs.Answers.{term_bytes}
 use Rattle.answers.proofs.writers.put_terms.Goals as goal

@@ -1,8 +1,6 @@
 -- `answers::writers::put_terms` meets its contract. The invariant: the blocks of the first i terms stand in front.
-use borrow.Author.Rules.{rules}
-use Rattle.answers.proofs.Bytes.{Blocks, blocks_first, blocks_long, blocks_start, blocks_room, blocks_next, blocks_all}
+use Rattle.answers.proofs.Bytes.{Blocks}
 use Prim.Native.Nat.{◌-◌}
-use native.Mathlib.Omega.{arith}
 use Rattle.model.specs.Answers.{term_bytes}
 use Rattle.answers.proofs.writers.put_terms.Given as goal
 

@@ -1,5 +1,4 @@
 -- `bits::byte::has` meets its contract.
-use borrow.Author.Rules.{rules}
 use Rattle.bits.proofs.Shifts.{shifted_bit}
 use Rattle.bits.proofs.byte.has.Goals as goal
 

@@ -1,6 +1,5 @@
 -- `bits::byte::power` meets its contract.
 use native.Mathlib.Omega.{arith}
-use borrow.Author.Rules.{rules}
 use Rattle.bits.proofs.Shifts.{shifted_one}
 use Rattle.bits.proofs.byte.power.Goals as goal
 

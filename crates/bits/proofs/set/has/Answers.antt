@@ -1,5 +1,4 @@
 -- `bits::set::has` meets its contract.
-use borrow.Author.Rules.{rules}
 use Rattle.bits.proofs.Shifts.{shifted_bit}
 use Rattle.bits.proofs.set.has.Goals as goal
 

@@ -2,7 +2,6 @@
 use native.Mathlib.Omega.{arith}
 use lib.Count.{leading_top}
 use Rattle.bits.proofs.Tops.{highest_power}
-use borrow.Author.Rules.{rules}
 use Rattle.bits.proofs.set.highest.Goals as goal
 
 pub overflow_sub-x : goal.overflow_sub-x

@@ -1,5 +1,4 @@
 -- `bits::set::is_single` meets its contract.
-use borrow.Author.Rules.{rules}
 use lib.Pow.{pow_pos}
 use native.Mathlib.Omega.{arith}
 use Rattle.bits.specs.Bits.{Single}

@@ -1,5 +1,4 @@
 -- `bits::set::lowest` meets its contract.
-use borrow.Author.Rules.{rules}
 use Rattle.bits.proofs.Parts.{lowest_member}
 use Rattle.bits.proofs.set.lowest.Goals as goal
 

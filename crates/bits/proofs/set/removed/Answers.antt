@@ -4,7 +4,6 @@ use mathlib.Core.Path.{ap}
 use Prim.Native.Nat.{ℕ, ◌-◌}
 use lib.Pow.{pow_pos}
 use Rattle.bits.proofs.Removed.{masked_removed}
-use borrow.Author.Rules.{rules}
 use Rattle.bits.proofs.set.removed.Goals as goal
 
 pub overflow_sub-low : goal.overflow_sub-low

@@ -1,7 +1,6 @@
 -- `codec::kinds::early_refusal` meets its contract.
 use Rattle.codec.specs.Kinds.{kind_is}
 use Rattle.codec.proofs.Reading.{early_none, early_place, early_short, early_passed}
-use borrow.Author.Rules.{rules}
 use Rattle.codec.proofs.kinds.early_refusal.Goals as goal
 
 pub returns-then-is_none : goal.returns-then-is_none

@@ -1,6 +1,5 @@
 -- `codec::kinds::first_place` meets its contract.
 use borrow.Author.Tests.{ne_eqb}
-use borrow.Author.Rules.{rules}
 use Rattle.codec.proofs.kinds.first_place.Goals as goal
 
 pub returns-then-form_of-eq73 : goal.returns-then-form_of-eq73

@@ -1,6 +1,5 @@
 -- `codec::kinds::form_of` meets its contract.
 use Rattle.codec.proofs.Reading.{described_as}
-use borrow.Author.Rules.{rules}
 use Rattle.codec.proofs.kinds.form_of.Goals as goal
 
 pub returns-in-I : goal.returns-in-I

@@ -1,6 +1,5 @@
 -- `codec::kinds::is_allowed` meets its contract.
 use borrow.Author.Tests.{le-leb, lt-leb}
-use borrow.Author.Rules.{rules}
 use Rattle.codec.proofs.kinds.is_allowed.Goals as goal
 
 pub returns-then-first_place-place : goal.returns-then-first_place-place

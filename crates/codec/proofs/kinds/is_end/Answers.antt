@@ -1,5 +1,4 @@
 -- `codec::kinds::is_end` meets its contract.
-use borrow.Author.Rules.{rules}
 use Rattle.codec.proofs.kinds.is_end.Goals as goal
 
 pub returns : goal.returns

@@ -1,5 +1,4 @@
 -- `codec::kinds::is_none` meets its contract.
-use borrow.Author.Rules.{rules}
 use Rattle.codec.proofs.kinds.is_none.Goals as goal
 
 pub returns : goal.returns

@@ -1,6 +1,5 @@
 -- `codec::operands::block_at` meets its contract.
 use Rattle.codec.proofs.Reading.{block_read}
-use borrow.Author.Rules.{rules}
 use Rattle.codec.proofs.operands.block_at.Goals as goal
 
 pub returns : goal.returns

@@ -1,8 +1,6 @@
 -- `codec::operands::bytes_at` meets its contract. The invariant: the bytes passed are copied.
 use Prim.Native.Nat.{◌-◌}
-use mathlib.Core.Path.{refl}
-use native.Mathlib.Omega.{arith}
-use Rattle.codec.proofs.Reading.{Copied, copied_none, copied_next, copied_all}
+use Rattle.codec.proofs.Reading.{Copied}
 use Rattle.codec.proofs.operands.bytes_at.Given as goal
 
 abbrev pub invariant-loop-i : goal.invariant-loop-i

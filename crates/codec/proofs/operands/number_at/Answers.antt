@@ -1,7 +1,7 @@
 -- `codec::operands::number_at` meets its contract.
 use mathlib.Core.Path.{refl}
 use native.Mathlib.Omega.{arith}
-use Rattle.codec.proofs.Reading.{ReadFrom, read_none, read_next, read_room, read_all}
+use Rattle.codec.proofs.Reading.{read_none, read_next, read_room, read_all}
 use Rattle.codec.proofs.operands.number_at.Goals as goal
 
 pub loop-i-init : goal.loop-i-init

@@ -1,7 +1,5 @@
 -- `codec::operands::number_at` meets its contract.
-use mathlib.Core.Path.{refl}
-use native.Mathlib.Omega.{arith}
-use Rattle.codec.proofs.Reading.{ReadFrom, read_none, read_next, read_room, read_all}
+use Rattle.codec.proofs.Reading.{ReadFrom}
 use Rattle.codec.proofs.operands.number_at.Given as goal
 
 abbrev pub invariant-loop-i : goal.invariant-loop-i

@@ -1,6 +1,5 @@
 -- `codec::operands::short_at` meets its contract.
 use Rattle.codec.proofs.Reading.{two_bytes}
-use borrow.Author.Rules.{rules}
 use Rattle.codec.proofs.operands.short_at.Goals as goal
 
 pub returns : goal.returns

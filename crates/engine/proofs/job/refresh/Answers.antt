@@ -1,6 +1,5 @@
 -- `engine::job::refresh` meets its contract.
 use Rattle.engine.proofs.Running.{refreshed_none, refreshed_same, refreshed_anew}
-use borrow.Author.Rules.{rules}
 use Rattle.engine.proofs.job.refresh.Goals as goal
 
 pub returns-then-ready : goal.returns-then-ready

@@ -8,11 +8,9 @@ use lib.ListN.{get_or, length}
 use lib.Seq.{length-take-le}
 use borrow.Rule.Slice.PartMut.{same_len_mid}
 use Rattle.model.specs.Commands.{Kind, kind_of, is, is_query_kind, width}
-use Rattle.codec.specs.Kinds.{kind_is}
 use Rattle.problem.proofs.Keeping.{reached_sized, reached_alone}
-use Rattle.engine.specs.Steps.{Stepped, context_at}
 use Rattle.engine.specs.Jobs.{IsMatrix}
-use Rattle.engine.proofs.Running.{Going, going_first, long, done_le, reached, tail, with_tail, going_cut, going_refused, going_ended, going_next, room_left, width_fits}
+use Rattle.engine.proofs.Running.{Going, going_first, long, done_le, reached, with_tail, going_cut, going_refused, going_ended, going_next, room_left, width_fits}
 use Rattle.engine.proofs.RowBlocks.{going_behind}
 use Rattle.engine.proofs.job.run.Goals as goal
 

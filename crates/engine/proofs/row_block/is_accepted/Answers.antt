@@ -1,6 +1,5 @@
 -- `engine::row_block::is_accepted` meets its contract.
 use Rattle.engine.proofs.RowCommands.{row_at}
-use borrow.Author.Rules.{rules}
 use Rattle.engine.proofs.row_block.is_accepted.Goals as goal
 
 pub returns-then-job-at-lt4 : goal.returns-then-job-at-lt4

@@ -1,14 +1,10 @@
 -- `engine::row_block::read_eights` meets its contract.
-use Prim.Native.Nat.{◌-◌}
 use native.Mathlib.Omega.{arith}
 use mathlib.Core.Path.{subst⁻¹}
 use mathlib.Core.Bool.{Bool}
 use lib.Dec.{T}
-use lib.ListN.{length}
-use Rattle.eight_rows.specs.Rows.{EightAt, rows_of}
-use Rattle.engine.specs.RowBlocks.{ReadsInto}
+use Rattle.eight_rows.specs.Rows.{EightAt}
 use Rattle.engine.proofs.RowBlocks.{reads_none, reads_eight}
-use borrow.Author.Rules.{rules}
 use Rattle.engine.proofs.row_block.read_eights.Goals as goal
 
 pub loop-s-init : goal.loop-s-init

@@ -1,14 +1,8 @@
 -- `engine::row_block::read_eights` meets its contract.
 use Prim.Native.Nat.{◌-◌}
-use native.Mathlib.Omega.{arith}
-use mathlib.Core.Path.{subst⁻¹}
-use mathlib.Core.Bool.{Bool}
-use lib.Dec.{T}
 use lib.ListN.{length}
-use Rattle.eight_rows.specs.Rows.{EightAt, rows_of}
+use Rattle.eight_rows.specs.Rows.{rows_of}
 use Rattle.engine.specs.RowBlocks.{ReadsInto}
-use Rattle.engine.proofs.RowBlocks.{reads_none, reads_eight}
-use borrow.Author.Rules.{rules}
 use Rattle.engine.proofs.row_block.read_eights.Given as goal
 
 abbrev pub invariant-loop-s : goal.invariant-loop-s

@@ -1,15 +1,12 @@
 -- `engine::row_block::read_ones` meets its contract.
-use Prim.Native.Nat.{◌+◌, ◌-◌, ◌<◌}
+use Prim.Native.Nat.{◌+◌, ◌<◌}
 use native.Mathlib.Omega.{arith}
 use mathlib.Core.Path.{subst⁻¹}
 use mathlib.Core.Bool.{Bool}
 use lib.Dec.{T}
-use lib.ListN.{length}
 use Rattle.problem.specs.Problems.{row_put}
-use Rattle.eight_rows.specs.Rows.{rows_of}
-use Rattle.engine.specs.RowBlocks.{RowAt, ReadsInto}
+use Rattle.engine.specs.RowBlocks.{RowAt}
 use Rattle.engine.proofs.RowBlocks.{reads_none, reads_one}
-use borrow.Author.Rules.{rules}
 use Rattle.engine.proofs.row_block.read_ones.Goals as goal
 
 pub loop-s-init : goal.loop-s-init

@@ -1,12 +1,7 @@
 -- `engine::row_block::read_rows` meets its contract.
-use Prim.Native.Nat.{◌-◌, ◌≤◌}
 use native.Mathlib.Omega.{arith}
-use lib.ListN.{length}
 use Rattle.problem.proofs.Keeping.{reached_sized}
-use Rattle.eight_rows.specs.Rows.{rows_of}
-use Rattle.engine.specs.RowBlocks.{ReadsInto}
 use Rattle.engine.proofs.RowBlocks.{reads_none, reads_then, reads_record}
-use borrow.Author.Rules.{rules}
 use Rattle.engine.proofs.row_block.read_rows.Goals as goal
 
 pub read_ones-i-requires : goal.read_ones-i-requires

@@ -1,12 +1,8 @@
 -- `engine::row_block::read_rows` meets its contract.
 use Prim.Native.Nat.{◌-◌, ◌≤◌}
-use native.Mathlib.Omega.{arith}
 use lib.ListN.{length}
-use Rattle.problem.proofs.Keeping.{reached_sized}
 use Rattle.eight_rows.specs.Rows.{rows_of}
 use Rattle.engine.specs.RowBlocks.{ReadsInto}
-use Rattle.engine.proofs.RowBlocks.{reads_none, reads_then, reads_record}
-use borrow.Author.Rules.{rules}
 use Rattle.engine.proofs.row_block.read_rows.Given as goal
 
 -- read up to `end`, the last B commands from i on

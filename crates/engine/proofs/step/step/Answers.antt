@@ -9,7 +9,6 @@ use Rattle.problem.specs.Problems.{Sized}
 use Rattle.problem.proofs.Keeping.{reached_sized, reached_alone}
 use Rattle.engine.proofs.Dispatching.{Read, operands_there, term_there, rows_may_come, step_early, step_i, step_w, step_r, step_b, step_term}
 use Rattle.engine.proofs.Dispatching.{step_f, step_p, step_d, step_g, step_l, step_v, step_c, step_n, step_e, step_none}
-use borrow.Author.Rules.{rules}
 use Rattle.engine.proofs.step.step.Goals as goal
 
 pub returns-then-number-ne0 : goal.returns-then-number-ne0

@@ -1,10 +1,5 @@
 -- `incidence::blocks::add` meets its contract. The invariant: the sets of the vertices below v are done.
-use borrow.Author.Rules.{rules}
-use Prim.Native.Nat.{◌-◌}
-use mathlib.Core.Bool.{cond}
-use lib.Bits.{bit_or}
-use Rattle.table.specs.Blocks.{vertex_in}
-use Rattle.incidence.proofs.Changes.{ChangedBelow, changed_none, changed_next, adds}
+use Rattle.incidence.proofs.Changes.{changed_none, changed_next, adds}
 use Rattle.incidence.proofs.blocks.add.Goals as goal
 
 pub loop-v-init : goal.loop-v-init

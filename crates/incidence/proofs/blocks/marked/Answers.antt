@@ -1,6 +1,5 @@
 -- `incidence::blocks::marked` meets its contract.
 use mathlib.Core.Path.{sym, ◌∙◌}
-use borrow.Author.Rules.{rules}
 use Rattle.incidence.proofs.blocks.marked.Goals as goal
 
 pub returns-then-has_vertex : goal.returns-then-has_vertex

@@ -1,8 +1,7 @@
 -- `incidence::blocks::remove` meets its contract. The invariant: the sets of the vertices below v are done.
-use borrow.Author.Rules.{rules}
 use Prim.Native.Nat.{◌-◌}
 use Rattle.bits.specs.Bits.{removed}
-use Rattle.incidence.proofs.Changes.{ChangedBelow, changed_none, changed_next, removes}
+use Rattle.incidence.proofs.Changes.{ChangedBelow}
 use Rattle.incidence.proofs.blocks.remove.Given as goal
 
 abbrev pub invariant-loop-v : goal.invariant-loop-v

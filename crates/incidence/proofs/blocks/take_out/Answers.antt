@@ -1,7 +1,6 @@
 -- `incidence::blocks::take_out` meets its contract.
 use mathlib.Core.Path.{sym, ◌∙◌}
 use Rattle.incidence.proofs.Uses.{blocks_without}
-use borrow.Author.Rules.{rules}
 use Rattle.incidence.proofs.blocks.take_out.Goals as goal
 
 pub returns-then-blocks-ne0 : goal.returns-then-blocks-ne0

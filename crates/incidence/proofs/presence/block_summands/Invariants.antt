@@ -1,13 +1,7 @@
 -- `incidence::presence::block_summands` meets its contract. The invariant: the outputs passed have their sets.
-use borrow.Author.Rules.{rules}
-use Prim.Native.Nat.{ℕ, ◌-◌, ◌≤◌}
-use native.Mathlib.Omega.{arith}
-use mathlib.Core.Path.{refl, ap}
-use lib.Bits.{bit_and}
+use Prim.Native.Nat.{◌-◌, ◌≤◌}
 use lib.ListN.{take}
 use Rattle.incidence.specs.Presence.{BlockSummands}
-use Rattle.incidence.proofs.Candidates.{outputs_none, outputs_next, outputs_end}
-use Rattle.incidence.proofs.BlockSums.{no_summands}
 use Rattle.incidence.proofs.presence.block_summands.Given as goal
 
 abbrev pub invariant-loop-j : goal.invariant-loop-j

@@ -1,17 +1,12 @@
 -- `incidence::presence::presence` meets its contract. The invariant: after each point it stands at the product of the sums up to that point,
 -- formula (4). Assumes nothing.
-use Prim.Native.Nat.{◌-◌, ◌*◌, ◌<◌}
+use Prim.Native.Nat.{◌<◌}
 use native.Mathlib.Omega.{arith}
 use mathlib.Core.Path.{◌∙◌}
-use mathlib.Core.List.{List}
-use mathlib.Core.Logic.{⊎_elim}
-use borrow.Author.Rules.{rules}
 use borrow.Author.Tests.{lt-leb}
 use Rattle.bits.proofs.Shifts.{power_le}
-use Rattle.model.specs.declared.Term.{Term}
-use Rattle.incidence.specs.Presence.{StandsAt}
-use Rattle.incidence.proofs.BlockSums.{InParts, point_sum}
-use Rattle.incidence.proofs.Products.{stands_none, stands_point, stands_cell, stands_vertex, stands_left, stands_all, CellOrEnd, first_cell, next_output, next_vertex}
+use Rattle.incidence.proofs.BlockSums.{point_sum}
+use Rattle.incidence.proofs.Products.{stands_none, stands_point, stands_cell, stands_vertex, stands_left, stands_all, first_cell, next_output, next_vertex}
 use Rattle.incidence.proofs.presence.presence.Goals.{else-has, then-has, else-j-m-via-else-j-m, else-j-m-via-then-j-m+else-power-on}
 use Rattle.incidence.proofs.presence.presence.Goals as goal
 

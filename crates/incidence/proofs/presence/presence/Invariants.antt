@@ -1,16 +1,11 @@
 -- `incidence::presence::presence` meets its contract. The invariant: after each point it stands at the product of the sums up to that point,
 -- formula (4). Assumes nothing.
-use Prim.Native.Nat.{◌-◌, ◌*◌, ◌<◌}
-use native.Mathlib.Omega.{arith}
-use mathlib.Core.Path.{◌∙◌}
+use Prim.Native.Nat.{◌-◌, ◌*◌}
 use mathlib.Core.List.{List}
-use mathlib.Core.Logic.{⊎_elim}
-use borrow.Author.Rules.{rules}
-use Rattle.bits.proofs.Shifts.{power_le}
 use Rattle.model.specs.declared.Term.{Term}
 use Rattle.incidence.specs.Presence.{StandsAt}
-use Rattle.incidence.proofs.BlockSums.{InParts, point_sum}
-use Rattle.incidence.proofs.Products.{stands_none, stands_point, stands_cell, stands_vertex, stands_left, stands_all, CellOrEnd, first_cell, next_output, next_vertex}
+use Rattle.incidence.proofs.BlockSums.{InParts}
+use Rattle.incidence.proofs.Products.{CellOrEnd}
 use Rattle.incidence.proofs.presence.presence.Given as goal
 
 abbrev pub invariant-loop-v : goal.invariant-loop-v

@@ -1,8 +1,5 @@
 -- `incidence::presence::sum_at` meets its contract. The invariant: formula (3) up to function i. Assumes nothing.
-use Prim.Native.Nat.{◌-◌}
-use borrow.Author.Rules.{rules}
-use Rattle.model.specs.Table.{cell}
-use Rattle.incidence.proofs.Sums.{Summed, summed_none, summed_next, summed_all}
+use Rattle.incidence.proofs.Sums.{summed_none, summed_next, summed_all}
 use Rattle.incidence.proofs.presence.sum_at.Goals as goal
 
 pub loop-i-init : goal.loop-i-init

@@ -1,8 +1,7 @@
 -- `incidence::presence::sum_at` meets its contract. The invariant: formula (3) up to function i. Assumes nothing.
 use Prim.Native.Nat.{◌-◌}
-use borrow.Author.Rules.{rules}
 use Rattle.model.specs.Table.{cell}
-use Rattle.incidence.proofs.Sums.{Summed, summed_none, summed_next, summed_all}
+use Rattle.incidence.proofs.Sums.{Summed}
 use Rattle.incidence.proofs.presence.sum_at.Given as goal
 
 abbrev pub invariant-loop-i : goal.invariant-loop-i

@@ -1,8 +1,6 @@
 -- `incidence::presence::summands` meets its contract. The invariant: the first i functions stand in the columns. Assumes nothing.
-use Prim.Native.Nat.{◌-◌}
 use mathlib.Core.Path.{refl}
-use borrow.Author.Rules.{rules}
-use Rattle.incidence.proofs.Sums.{InColumns, columns_none, columns_next, columns_all}
+use Rattle.incidence.proofs.Sums.{columns_none, columns_next, columns_all}
 use Rattle.incidence.proofs.presence.summands.Goals as goal
 
 pub loop-i-init : goal.loop-i-init

@@ -1,10 +1,6 @@
 -- `incidence::rows::driving` meets its contract. The invariant: the set has the candidates passed, from k on. Assumes nothing.
-use Prim.Native.Nat.{◌≤◌}
 use native.Mathlib.Omega.{arith}
-use mathlib.Core.Path.{◌≡◌}
 use borrow.Author.Rules.{rules}
-use lib.ListN.{take, drop}
-use Rattle.model.specs.Sets.{row_of}
 use Rattle.incidence.specs.Rows.{drives_output}
 use Rattle.incidence.proofs.Candidates.{row_none, row_room, row_next, row_done, flag_le}
 use Rattle.incidence.proofs.rows.driving.Goals as goal

@@ -1,10 +1,7 @@
 -- `incidence::rows::driving_all` meets its contract. The invariant: the outputs passed have their sets. Assumes nothing.
-use Prim.Native.Nat.{◌-◌, ◌≤◌}
 use native.Mathlib.Omega.{arith}
 use mathlib.Core.Path.{refl}
 use borrow.Author.Rules.{rules}
-use lib.ListN.{take}
-use Rattle.incidence.specs.Rows.{Driving}
 use Rattle.incidence.proofs.Candidates.{outputs_none, outputs_next, outputs_end}
 use Rattle.incidence.proofs.rows.driving_all.Goals as goal
 

@@ -1,5 +1,4 @@
 -- `incidence::rows::put_cell` meets its contract. Assumes nothing.
-use borrow.Author.Rules.{rules}
 use Rattle.incidence.proofs.Matrix.{cell_on, cell_not_on}
 use Rattle.incidence.proofs.rows.put_cell.Goals as goal
 

@@ -1,9 +1,7 @@
 -- `incidence::rows::put_vertex` meets its contract. The invariant: the rows of the outputs passed are put. Assumes nothing.
-use Prim.Native.Nat.{◌-◌, ◌≤◌}
 use native.Mathlib.Omega.{arith}
 use mathlib.Core.Path.{refl}
 use borrow.Author.Rules.{rules}
-use Rattle.incidence.specs.Rows.{Appends, vertex_rows}
 use Rattle.incidence.proofs.Matrix.{vertex_none, vertex_next, vertex_all}
 use Rattle.incidence.proofs.rows.put_vertex.Goals as goal
 

@@ -1,9 +1,7 @@
 -- `incidence::rows::rows` meets its contract. The invariant: the rows of the vertices passed are put. Assumes nothing.
-use Prim.Native.Nat.{◌-◌, ◌≤◌}
 use native.Mathlib.Omega.{arith}
-use lib.ListN.{take}
 use Rattle.bits.proofs.Shifts.{power_le}
-use Rattle.incidence.proofs.Matrix.{RowsBelow, rows_none, rows_next, rows_all}
+use Rattle.incidence.proofs.Matrix.{rows_none, rows_next, rows_all}
 use borrow.Author.Rules.{rules}
 use Rattle.incidence.proofs.rows.rows.Goals as goal
 

@@ -1,5 +1,4 @@
 -- `primes::cube_prime::droppable` meets its contract. Assumes nothing.
-use borrow.Author.Rules.{rules}
 use Rattle.primes.proofs.Literals.{place_lt, without_cube, droppable_literal, droppable_free}
 use Rattle.primes.proofs.cube_prime.droppable.Goals as goal
 

@@ -1,7 +1,6 @@
 -- `primes::cube_prime::prime_outputs` meets its contract. Assumes nothing.
 use mathlib.Core.Path.{ap}
 use lib.ListN.{get_or}
-use borrow.Author.Rules.{rules}
 use Rattle.primes.proofs.Literals.{place_lt, prime_nothing, prime_droppable, prime_all}
 use Rattle.primes.proofs.cube_prime.prime_outputs.Goals as goal
 

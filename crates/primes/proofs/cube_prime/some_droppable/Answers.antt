@@ -1,8 +1,7 @@
 -- `primes::cube_prime::some_droppable` meets its contract. The invariant: no input passed is droppable. Assumes nothing.
-use Prim.Native.Nat.{◌+◌, ◌-◌}
 use native.Mathlib.Omega.{arith}
 use lib.Pow.{pow_pos}
-use Rattle.primes.proofs.Literals.{NoneBelow, none_single, none_yet, none_next, one_droppable, none_droppable}
+use Rattle.primes.proofs.Literals.{none_single, none_yet, none_next, one_droppable, none_droppable}
 use Rattle.primes.proofs.cube_prime.some_droppable.Goals as goal
 
 pub loop-bit-init : goal.loop-bit-init

@@ -1,8 +1,6 @@
 -- `primes::cube_prime::some_droppable` meets its contract. The invariant: no input passed is droppable. Assumes nothing.
 use Prim.Native.Nat.{◌+◌, ◌-◌}
-use native.Mathlib.Omega.{arith}
-use lib.Pow.{pow_pos}
-use Rattle.primes.proofs.Literals.{NoneBelow, none_single, none_yet, none_next, one_droppable, none_droppable}
+use Rattle.primes.proofs.Literals.{NoneBelow}
 use Rattle.primes.proofs.cube_prime.some_droppable.Given as goal
 
 abbrev pub invariant-loop-bit : goal.invariant-loop-bit

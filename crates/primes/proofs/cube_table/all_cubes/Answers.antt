@@ -4,7 +4,6 @@ use lib.Pow.{pow_mono}
 use Rattle.primes.proofs.BaseThree.{cubes_le}
 use Rattle.primes.proofs.Blocks.{clear_none, filled_cubes}
 use Rattle.model.proofs.Lists.{zero_at}
-use borrow.Author.Rules.{rules}
 use Rattle.primes.proofs.cube_table.all_cubes.Goals as goal
 
 pub fill-requires : goal.fill-requires

@@ -1,7 +1,6 @@
 -- `primes::cube_table::fill_pair` meets its contract. Assumes nothing.
 use Prim.Native.Nat.{◌+◌}
 use native.Mathlib.Omega.{arith}
-use borrow.Author.Rules.{rules}
 use Rattle.primes.proofs.Pairs.{fits_set, fits_twice, pair_filled}
 use Rattle.primes.proofs.cube_table.fill_pair.Goals as goal
 

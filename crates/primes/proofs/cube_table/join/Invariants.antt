@@ -1,9 +1,6 @@
 -- `primes::cube_table::join` meets its contract. The invariant: the first j entries are joined. Assumes nothing.
 use Prim.Native.Nat.{◌-◌, ◌≤◌}
-use native.Mathlib.Omega.{arith}
-use mathlib.Core.Path.{refl}
 use Rattle.primes.specs.Blocks.{JoinedTo}
-use Rattle.primes.proofs.Blocks.{joined_none, joined_next, joined_all}
 use Rattle.primes.proofs.cube_table.join.Given as goal
 
 abbrev pub invariant-loop-j : goal.invariant-loop-j

@@ -1,6 +1,5 @@
 -- `primes::numbers::spread` meets its contract. Assumes nothing.
 use native.Mathlib.Omega.{arith}
-use borrow.Author.Rules.{rules}
 use Rattle.primes.proofs.BaseThree.{spread_lt}
 use Rattle.primes.proofs.numbers.spread.Goals as goal
 

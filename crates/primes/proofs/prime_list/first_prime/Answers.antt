@@ -1,9 +1,8 @@
 -- `primes::prime_list::first_prime` meets its contract. The invariant: the values passed have no prime. Assumes nothing.
-use Prim.Native.Nat.{◌-◌}
 use native.Mathlib.Omega.{arith}
 use mathlib.Core.Path.{refl}
 use Rattle.bits.proofs.Shifts.{power_le}
-use Rattle.primes.proofs.Walk.{Passed, not_last, passed_first, passed_eight, passed_found, passed_next, passed_all}
+use Rattle.primes.proofs.Walk.{not_last, passed_first, passed_eight, passed_found, passed_next, passed_all}
 use Rattle.primes.proofs.prime_list.first_prime.Goals as goal
 
 pub bound-size-requires : goal.bound-size-requires

@@ -1,9 +1,6 @@
 -- `primes::prime_list::first_prime` meets its contract. The invariant: the values passed have no prime. Assumes nothing.
 use Prim.Native.Nat.{◌-◌}
-use native.Mathlib.Omega.{arith}
-use mathlib.Core.Path.{refl}
-use Rattle.bits.proofs.Shifts.{power_le}
-use Rattle.primes.proofs.Walk.{Passed, not_last, passed_first, passed_eight, passed_found, passed_next, passed_all}
+use Rattle.primes.proofs.Walk.{Passed}
 use Rattle.primes.proofs.prime_list.first_prime.Given as goal
 
 abbrev pub invariant-loop-next : goal.invariant-loop-next

@@ -1,5 +1,4 @@
 -- `primes::prime_list::next_part` meets its contract. Assumes nothing.
-use borrow.Author.Rules.{rules}
 use Rattle.primes.proofs.Parts.{next_part_lem}
 use Rattle.primes.proofs.prime_list.next_part.Goals as goal
 

@@ -1,5 +1,4 @@
 -- `primes::prime_list::primes` meets its contract. Assumes nothing.
-use borrow.Author.Rules.{rules}
 use Rattle.primes.proofs.prime_list.primes.Goals as goal
 
 pub all_cubes-table-requires : goal.all_cubes-table-requires

@@ -1,6 +1,5 @@
 -- `problem::matrix::is_covered` meets its contract.
 use Rattle.problem.proofs.Preparing.{covered}
-use borrow.Author.Rules.{rules}
 use Rattle.problem.proofs.matrix.is_covered.Goals as goal
 
 pub returns : goal.returns

@@ -1,6 +1,5 @@
 -- `problem::matrix::prepare` meets its contract.
 use Rattle.problem.proofs.Preparing.{prepared_all}
-use borrow.Author.Rules.{rules}
 use Rattle.problem.proofs.matrix.prepare.Goals as goal
 
 pub returns : goal.returns

@@ -1,6 +1,6 @@
 -- `problem::matrix::put_rows` meets its contract.
 use native.Mathlib.Omega.{arith}
-use mathlib.Core.Path.{sym, ◌∙◌}
+use mathlib.Core.Path.{sym}
 use lib.Seq.{length-take-le}
 use Rattle.problem.proofs.Preparing.{prepared}
 use borrow.Author.Rules.{rules}

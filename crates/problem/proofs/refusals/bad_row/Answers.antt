@@ -1,6 +1,5 @@
 -- `problem::refusals::bad_row` meets its contract.
 use Rattle.problem.proofs.Refusing.{bad_shared, bad_on, bad_dc}
-use borrow.Author.Rules.{rules}
 use Rattle.problem.proofs.refusals.bad_row.Goals as goal
 
 pub returns-then-on-dc-gt0 : goal.returns-then-on-dc-gt0

@@ -1,6 +1,5 @@
 -- `problem::refusals::block_refusal` meets its contract.
 use Rattle.problem.proofs.Refusing.{block_malformed, block_off, block_good}
-use borrow.Author.Rules.{rules}
 use Rattle.problem.proofs.refusals.block_refusal.Goals as goal
 
 pub returns-then-holds_no_off : goal.returns-then-holds_no_off

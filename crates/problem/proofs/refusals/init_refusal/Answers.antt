@@ -1,6 +1,5 @@
 -- `problem::refusals::init_refusal` meets its contract.
 use Rattle.problem.proofs.Refusing.{init_passed, init_outputs, init_inputs}
-use borrow.Author.Rules.{rules}
 use Rattle.problem.proofs.refusals.init_refusal.Goals as goal
 
 pub returns-then-is_size-2 : goal.returns-then-is_size-2

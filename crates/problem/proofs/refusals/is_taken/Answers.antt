@@ -3,7 +3,6 @@ use native.Mathlib.Omega.{arith}
 use mathlib.Core.Path.{refl}
 use lib.Pow.{pow_mono}
 use Rattle.problem.proofs.Refusing.{taken_past, taken_row}
-use borrow.Author.Rules.{rules}
 use Rattle.problem.proofs.refusals.is_taken.Goals as goal
 
 pub returns-then-bound-v : goal.returns-then-bound-v

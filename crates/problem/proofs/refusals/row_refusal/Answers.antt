@@ -1,6 +1,5 @@
 -- `problem::refusals::row_refusal` meets its contract.
 use Rattle.problem.proofs.Refusing.{row_taken, row_bad, row_good}
-use borrow.Author.Rules.{rules}
 use Rattle.problem.proofs.refusals.row_refusal.Goals as goal
 
 pub returns-then-is_taken : goal.returns-then-is_taken

@@ -1,7 +1,6 @@
 -- `problem::refusals::term_refusal` meets its contract.
 use Rattle.table.proofs.Legality.{formed_cube}
 use Rattle.problem.proofs.Refusing.{term_malformed, term_off, term_good}
-use borrow.Author.Rules.{rules}
 use Rattle.problem.proofs.refusals.term_refusal.Goals as goal
 
 pub holds_no_off-requires : goal.holds_no_off-requires

@@ -1,7 +1,6 @@
 -- `problem::weights::charged` meets its contract.
 use native.Mathlib.Omega.{arith}
 use Rattle.model.proofs.Costs.{charged_few, charged_many}
-use borrow.Author.Rules.{rules}
 use Rattle.problem.proofs.weights.charged.Goals as goal
 
 pub returns-then-k-lt2 : goal.returns-then-k-lt2

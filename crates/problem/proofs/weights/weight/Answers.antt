@@ -3,7 +3,6 @@ use Prim.Native.Nat.{ℕ, ◌*◌, ◌≤◌}
 use native.Mathlib.Omega.{arith}
 use native.Mathlib.Nat.{mul-le-mul}
 use Rattle.model.specs.Candidates.{term_cost}
-use borrow.Author.Rules.{rules}
 use Rattle.problem.proofs.weights.weight.Goals as goal
 
 -- a price of a byte, for each of eight at most

@@ -1,5 +1,5 @@
 -- `problem::weights::weights` meets its contract.
-use Prim.Native.Nat.{ℕ, ◌-◌, ◌≤◌}
+use Prim.Native.Nat.{ℕ}
 use mathlib.Core.Path.{◌≡◌, refl, subst}
 use Rattle.model.specs.Table.{term}
 use Rattle.model.specs.Candidates.{term_cost}

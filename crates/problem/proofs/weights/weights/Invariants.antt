@@ -1,10 +1,7 @@
 -- `problem::weights::weights` meets its contract.
-use Prim.Native.Nat.{ℕ, ◌-◌, ◌≤◌}
-use mathlib.Core.Path.{◌≡◌, refl, subst}
-use Rattle.model.specs.Table.{term}
+use Prim.Native.Nat.{◌-◌, ◌≤◌}
 use Rattle.model.specs.Candidates.{term_cost}
-use native.Mathlib.Omega.{arith}
-use Rattle.bits.proofs.Lists.{MappedBelow, mapped_next, mapped_front}
+use Rattle.bits.proofs.Lists.{MappedBelow}
 use Rattle.problem.proofs.weights.weights.Given as goal
 
 abbrev pub invariant-loop-i : goal.invariant-loop-i

@@ -1,14 +1,9 @@
 -- `product::cell::join_each` meets its contract: what is put so far, and p with the members left, is the whole.
 use Rattle.bits.proofs.Parts.{lowest_member, minus_bits}
-use Prim.Native.Nat.{◌<◌, ◌^◌}
 use native.Mathlib.Omega.{arith}
 use mathlib.Core.Path.{◌∙◌, sym}
-use mathlib.Core.List.{◌++◌}
-use borrow.Author.Rules.{rules}
-use lib.ListN.{take}
-use Rattle.product.specs.Steps.{with}
 use Rattle.bits.proofs.Parts.{minus_member_less}
-use Rattle.product.proofs.Putting.{Going, going_none, going_put, going_no_room, going_end}
+use Rattle.product.proofs.Putting.{going_none, going_put, going_no_room, going_end}
 use Rattle.product.proofs.Joining.{with_next, with_none}
 use Rattle.product.proofs.cell.join_each.Goals as goal
 

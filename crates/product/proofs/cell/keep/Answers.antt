@@ -1,11 +1,7 @@
 -- `product::cell::keep` meets its contract.
-use Prim.Native.Nat.{◌-◌}
 use native.Mathlib.Omega.{arith}
 use mathlib.Core.Path.{◌∙◌, sym}
-use mathlib.Core.Logic.{⊎_elim}
-use borrow.Author.Rules.{rules}
-use lib.ListN.{length}
-use Rattle.product.proofs.Putting.{Keeping, keep_none, keep_put, keep_skip, keep_end}
+use Rattle.product.proofs.Putting.{keep_none, keep_put, keep_skip, keep_end}
 use Rattle.product.proofs.cell.keep.Goals.{else-r-p-ne0, then-r-p-ne0}
 use Rattle.product.proofs.cell.keep.Goals as goal
 

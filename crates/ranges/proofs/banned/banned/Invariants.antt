@@ -1,10 +1,6 @@
 -- `ranges::banned::banned` meets its contract. The invariant: what is banned so far is in no listed set.
-use borrow.Author.Rules.{rules}
-use mathlib.Core.Logic.{⊎_elim}
 use Prim.Native.Nat.{◌-◌}
-use native.Mathlib.Omega.{arith}
 use Rattle.ranges.specs.Listed.{Banned}
-use Rattle.ranges.proofs.Banning.{banned_none, banned_one, banned_as}
 use Rattle.ranges.proofs.banned.banned.Given as goal
 
 abbrev pub invariant-loop-i : goal.invariant-loop-i

@@ -1,10 +1,9 @@
 -- `ranges::banned::cleared` meets its contract. The invariant: the first i of out are rows without the banned candidates.
 use borrow.Author.Rules.{rules}
-use mathlib.Core.Path.{◌≡◌, refl, ◌∙◌}
-use Prim.Native.Nat.{◌-◌, ◌≤◌}
+use mathlib.Core.Path.{refl, ◌∙◌}
 use native.Mathlib.Omega.{arith}
-use lib.ListN.{length, length-set}
-use Rattle.ranges.proofs.Banning.{Clearing, clearing_none, clearing_more, clearing_all}
+use lib.ListN.{length-set}
+use Rattle.ranges.proofs.Banning.{clearing_none, clearing_more, clearing_all}
 use Rattle.ranges.proofs.banned.cleared.Goals as goal
 
 pub loop-i-init : goal.loop-i-init

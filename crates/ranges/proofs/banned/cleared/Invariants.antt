@@ -1,10 +1,8 @@
 -- `ranges::banned::cleared` meets its contract. The invariant: the first i of out are rows without the banned candidates.
-use borrow.Author.Rules.{rules}
-use mathlib.Core.Path.{◌≡◌, refl, ◌∙◌}
+use mathlib.Core.Path.{◌≡◌}
 use Prim.Native.Nat.{◌-◌, ◌≤◌}
-use native.Mathlib.Omega.{arith}
-use lib.ListN.{length, length-set}
-use Rattle.ranges.proofs.Banning.{Clearing, clearing_none, clearing_more, clearing_all}
+use lib.ListN.{length}
+use Rattle.ranges.proofs.Banning.{Clearing}
 use Rattle.ranges.proofs.banned.cleared.Given as goal
 
 abbrev pub invariant-loop-i : goal.invariant-loop-i

@@ -1,15 +1,11 @@
 -- `ranges::cursor::beyond` meets its contract. The invariant: no listed set was passed from x to the cursor.
 use borrow.Author.Rules.{rules}
-use mathlib.Core.Path.{◌≡◌, refl, sym, subst}
-use mathlib.Core.Bool.{false}
-use mathlib.Core.Logic.{⊎_elim}
+use mathlib.Core.Path.{refl, sym, subst}
 use Prim.Native.Nat.{◌-◌}
 use native.Mathlib.Omega.{arith}
-use lib.ListN.{length}
 use lib.Bits.{and_le_l}
 use lib.Pow.{pow_pos}
 use Rattle.lister.specs.Selected.{Passed}
-use Rattle.ranges.specs.Listed.{row_possibles}
 use Rattle.ranges.proofs.Walking.{one_passed, level_fits, level_passed}
 use Rattle.ranges.proofs.cursor.beyond.Goals.{else-x-m-eq0, then-x-m-eq0+else-alive-m-ne0+else-promising}
 use Rattle.ranges.proofs.cursor.beyond.Goals as goal

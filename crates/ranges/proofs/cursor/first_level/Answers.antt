@@ -1,5 +1,4 @@
 -- `ranges::cursor::first_level` is safe.
-use borrow.Author.Rules.{rules}
 use native.Mathlib.Omega.{arith}
 use lib.Bits.{bit_xor}
 use lib.Count.{trailing_le}

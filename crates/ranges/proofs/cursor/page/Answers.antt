@@ -1,11 +1,7 @@
 -- `ranges::cursor::page` meets its contract. The invariant: the first i of out are the listed sets that the cursor is past, the rest is as it was.
 use borrow.Author.Rules.{rules}
-use mathlib.Core.Path.{◌≡◌}
-use Prim.Native.Nat.{◌-◌}
 use native.Mathlib.Omega.{arith}
-use lib.ListN.{length}
-use Rattle.lister.proofs.Listing.{Filling, filling_none, filling_more, filled_over, filled_full}
-use Rattle.ranges.specs.Listed.{row_possibles}
+use Rattle.lister.proofs.Listing.{filling_none, filling_more, filled_over, filled_full}
 use Rattle.ranges.proofs.Walking.{list_rising, list_small, standing_known}
 use Rattle.ranges.proofs.Contesting.{known_none}
 use Rattle.ranges.proofs.cursor.page.Goals as goal

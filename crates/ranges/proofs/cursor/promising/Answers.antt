@@ -1,5 +1,4 @@
 -- `ranges::cursor::promising` meets its contract.
-use borrow.Author.Rules.{rules}
 use Rattle.bits.proofs.Decide.{true_is_not_false}
 use Rattle.ranges.proofs.Contesting.{barren_dead, barren_narrowed, barren_rival}
 use Rattle.ranges.proofs.cursor.promising.Goals as goal

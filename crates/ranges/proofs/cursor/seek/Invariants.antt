@@ -1,15 +1,9 @@
 -- `ranges::cursor::seek` meets its contract. The invariant: no listed set was passed from the place to the cursor.
-use borrow.Author.Rules.{rules}
-use mathlib.Core.Path.{◌≡◌, refl, sym}
-use native.Mathlib.Nat.{le_refl}
-use native.Mathlib.Omega.{arith}
+use mathlib.Core.Path.{◌≡◌}
 use lib.ListN.{length}
-use lib.Seq.{length-take-le}
 use Rattle.lister.specs.Lister.{coming}
 use Rattle.lister.specs.Selected.{room}
 use Rattle.ranges.specs.Listed.{row_possibles}
-use Rattle.ranges.proofs.Contesting.{judged_not}
-use Rattle.ranges.proofs.Walking.{walked_none, walked_found, walked_on, walked_less}
 use Rattle.ranges.proofs.cursor.seek.Given as goal
 
 abbrev pub invariant-loop-known : goal.invariant-loop-known

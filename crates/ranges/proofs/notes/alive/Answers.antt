@@ -1,5 +1,4 @@
 -- `ranges::notes::alive` is safe.
-use borrow.Author.Rules.{rules}
 use native.Mathlib.Omega.{arith}
 use lib.Pow.{pow_pos}
 use Rattle.bits.specs.Bits.{Single}

@@ -1,9 +1,7 @@
 -- `ranges::notes::remember` is safe.
-use borrow.Author.Rules.{rules}
-use mathlib.Core.Path.{◌≡◌, refl, ◌∙◌}
-use Prim.Native.Nat.{◌-◌}
+use mathlib.Core.Path.{refl, ◌∙◌}
 use native.Mathlib.Omega.{arith}
-use lib.ListN.{length, length-set}
+use lib.ListN.{length-set}
 use Rattle.ranges.proofs.notes.remember.Goals as goal
 
 pub loop-i-init : goal.loop-i-init

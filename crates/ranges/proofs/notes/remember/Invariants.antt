@@ -1,9 +1,7 @@
 -- `ranges::notes::remember` is safe.
-use borrow.Author.Rules.{rules}
-use mathlib.Core.Path.{◌≡◌, refl, ◌∙◌}
+use mathlib.Core.Path.{◌≡◌}
 use Prim.Native.Nat.{◌-◌}
-use native.Mathlib.Omega.{arith}
-use lib.ListN.{length, length-set}
+use lib.ListN.{length}
 use Rattle.ranges.proofs.notes.remember.Given as goal
 
 abbrev pub invariant-loop-i : goal.invariant-loop-i

@@ -1,5 +1,4 @@
 -- `ranges::rivals::contest` meets its contract.
-use borrow.Author.Rules.{rules}
 use native.Mathlib.Omega.{arith}
 use Rattle.cheapest_bounds.proofs.Costing.{cost_fits}
 use Rattle.ranges.proofs.Mixing.{mixed_unit}

@@ -1,5 +1,4 @@
 -- `ranges::rivals::contest_met` meets its contract.
-use borrow.Author.Rules.{rules}
 use mathlib.Core.Path.{sym}
 use lib.Seq.{length-take-le}
 use Rattle.ranges.proofs.Meeting.{met_fits, met_few}

@@ -1,5 +1,4 @@
 -- `ranges::rivals::hunt` meets its contract.
-use borrow.Author.Rules.{rules}
 use Rattle.ranges.proofs.Contesting.{priced_start, valued_below}
 use Rattle.ranges.proofs.rivals.hunt.Goals as goal
 

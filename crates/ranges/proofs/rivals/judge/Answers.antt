@@ -1,5 +1,4 @@
 -- `ranges::rivals::judge` meets its contract.
-use borrow.Author.Rules.{rules}
 use native.Mathlib.Omega.{arith}
 use Rattle.ranges.proofs.Contesting.{judged_known, judged_recalled, judged_rival}
 use Rattle.ranges.proofs.rivals.judge.Goals as goal

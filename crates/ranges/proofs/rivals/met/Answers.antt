@@ -1,11 +1,9 @@
 -- `ranges::rivals::met` meets its contract. The invariant: the first n of out are the rows among the first i that s meets.
 use borrow.Author.Rules.{rules}
-use mathlib.Core.Path.{◌≡◌, refl, ap, ◌∙◌}
-use mathlib.Core.Logic.{⊎_elim}
-use Prim.Native.Nat.{◌-◌, ◌≤◌}
+use mathlib.Core.Path.{refl, ap, ◌∙◌}
 use native.Mathlib.Omega.{arith}
 use lib.ListN.{length, length-set}
-use Rattle.ranges.proofs.Meeting.{Meeting, meeting_none, meeting_skip, meeting_take, meeting_as, meeting_all}
+use Rattle.ranges.proofs.Meeting.{meeting_none, meeting_skip, meeting_take, meeting_as, meeting_all}
 use Rattle.ranges.proofs.rivals.met.Goals.{else-rows-i-ne0, then-rows-i-ne0}
 use Rattle.ranges.proofs.rivals.met.Goals as goal
 

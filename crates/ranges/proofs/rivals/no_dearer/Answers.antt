@@ -1,6 +1,5 @@
 -- `ranges::rivals::no_dearer` meets its contract.
 use borrow.Author.Tests.{leb-true}
-use borrow.Author.Rules.{rules}
 use mathlib.Core.Path.{sym}
 use Rattle.bits.proofs.Decide.{true_is_not_false}
 use Rattle.ranges.proofs.Contesting.{no_dearer_is}

@@ -1,8 +1,6 @@
 -- `ranges::rivals::recall` meets its contract.
-use borrow.Author.Rules.{rules}
 use mathlib.Core.Path.{refl}
-use Prim.Native.Nat.{◌-◌, ◌≤◌}
-use lib.ListN.{length, get_or}
+use lib.ListN.{get_or}
 use Rattle.bits.proofs.Decide.{decides_true}
 use Rattle.ranges.proofs.Contesting.{recalled_none, recalled_found}
 use Rattle.ranges.proofs.rivals.recall.Goals as goal

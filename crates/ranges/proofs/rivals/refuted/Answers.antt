@@ -1,6 +1,5 @@
 -- `ranges::rivals::refuted` meets its contract.
 use borrow.Author.Tests.{leb-true}
-use borrow.Author.Rules.{rules}
 use mathlib.Core.Path.{refl, ap}
 use Prim.Native.Nat.{ℕ, ◌+◌, ◌≤◌}
 use native.Mathlib.Omega.{arith}

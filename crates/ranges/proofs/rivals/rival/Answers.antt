@@ -1,5 +1,4 @@
 -- `ranges::rivals::rival` meets its contract.
-use borrow.Author.Rules.{rules}
 use native.Mathlib.Omega.{arith}
 use Rattle.ranges.proofs.Contesting.{rival_free}
 use Rattle.ranges.proofs.rivals.rival.Goals as goal

@@ -1,6 +1,5 @@
 -- `ranges::rivals::undercuts` meets its contract.
 use borrow.Author.Tests.{ltb-true}
-use borrow.Author.Rules.{rules}
 use Rattle.ranges.proofs.Contesting.{undercuts_is}
 use Rattle.ranges.proofs.rivals.undercuts.Goals as goal
 

@@ -1,5 +1,4 @@
 -- `ranges::weights::common` meets its contract.
-use borrow.Author.Rules.{rules}
 use Rattle.ranges.proofs.Mixing.{common_unit, no_unit}
 use Rattle.ranges.proofs.weights.common.Goals as goal
 

@@ -1,5 +1,4 @@
 -- `ranges::weights::entry` meets its contract.
-use borrow.Author.Rules.{rules}
 use Rattle.ranges.proofs.Mixing.{entry_first, entry_second, entry_none}
 use Rattle.ranges.proofs.weights.entry.Goals as goal
 

@@ -1,9 +1,7 @@
 -- `ranges::weights::mixed` meets its contract. The invariant: the first i entries are put together, the others are 0.
 use borrow.Author.Rules.{rules}
-use Prim.Native.Nat.{◌-◌, ◌≤◌}
 use native.Mathlib.Omega.{arith}
-use lib.ListN.{length}
-use Rattle.ranges.proofs.Mixing.{Mixing, mixing_none, mixing_more, mixing_all}
+use Rattle.ranges.proofs.Mixing.{mixing_none, mixing_more, mixing_all}
 use Rattle.ranges.proofs.weights.mixed.Goals as goal
 
 pub loop-i-init : goal.loop-i-init

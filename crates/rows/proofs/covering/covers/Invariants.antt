@@ -1,13 +1,8 @@
 -- `rows::covering::covers` meets its contract. The invariant: every row passed has a bit of m.
 use mathlib.Core.Path.{◌≡◌}
 use Prim.Native.Nat.{ℕ, ◌≤◌, ◌<◌, ◌-◌}
-use native.Mathlib.Omega.{arith}
-use borrow.Author.Rules.{rules}
-use borrow.Author.Count.{below_more}
 use lib.ListN.{length, get_or}
 use lib.Bits.{bit_and}
-use Rattle.rows.specs.Covers.{Cover}
-use Rattle.bits.proofs.Decide.{says_false, says_true}
 use Rattle.rows.proofs.covering.covers.Given as goal
 
 abbrev pub invariant-loop-i : goal.invariant-loop-i

@@ -1,5 +1,4 @@
 -- `rows::covering::irredundant` meets its contract.
-use borrow.Author.Rules.{rules}
 use Rattle.rows.specs.Covers.{IrredundantCover}
 use Rattle.bits.proofs.Decide.{decides_true, decides_false, says_false, says_eqb}
 use Rattle.rows.proofs.Sets.{privates_all, all_privates, own_rows, own_irredundant}

@@ -1,7 +1,5 @@
 -- `rows::covering::privates` meets its contract. The invariant: acc has the members with a row of their own among the rows passed.
 use mathlib.Core.Path.{◌≡◌, sym, subst}
-use mathlib.Core.Logic.{⊎_elim}
-use Prim.Native.Nat.{◌≤◌, ◌-◌}
 use native.Mathlib.Omega.{arith}
 use borrow.Author.Rules.{rules}
 use lib.ListN.{length}

@@ -1,13 +1,7 @@
 -- `rows::covering::privates` meets its contract. The invariant: acc has the members with a row of their own among the rows passed.
-use mathlib.Core.Path.{◌≡◌, sym, subst}
-use mathlib.Core.Logic.{⊎_elim}
 use Prim.Native.Nat.{◌≤◌, ◌-◌}
-use native.Mathlib.Omega.{arith}
-use borrow.Author.Rules.{rules}
 use lib.ListN.{length}
 use Rattle.rows.specs.Covers.{PrivatesOf}
-use Rattle.bits.proofs.Decide.{decides_true, decides_false}
-use Rattle.rows.proofs.Sets.{privates_none, privates_take, privates_skip, privates_done}
 use Rattle.rows.proofs.covering.privates.Given as goal
 
 abbrev pub invariant-loop-i : goal.invariant-loop-i

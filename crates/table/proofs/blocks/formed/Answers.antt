@@ -1,6 +1,5 @@
 -- `table::blocks::formed` meets its contract. Assumes nothing.
 use Rattle.table.proofs.Vertices.{outputs_none, outputs_high, vertices_high, weight_last}
-use borrow.Author.Rules.{rules}
 use Rattle.table.proofs.blocks.formed.Goals as goal
 
 pub returns-then-b-eq0 : goal.returns-then-b-eq0

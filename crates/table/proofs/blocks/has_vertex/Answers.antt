@@ -1,6 +1,5 @@
 -- `table::blocks::has_vertex` meets its contract. Assumes nothing.
 use Rattle.table.proofs.Vertices.{vertex_in_lem}
-use borrow.Author.Rules.{rules}
 use Rattle.table.proofs.blocks.has_vertex.Goals as goal
 
 pub returns : goal.returns

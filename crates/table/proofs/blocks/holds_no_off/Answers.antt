@@ -1,9 +1,7 @@
 -- `table::blocks::holds_no_off` meets its contract. The invariant: at the vertices passed, b holds no off cell. Assumes nothing.
-use Prim.Native.Nat.{◌-◌}
 use native.Mathlib.Omega.{arith}
-use borrow.Author.Rules.{rules}
 use Rattle.bits.proofs.Shifts.{power_le}
-use Rattle.table.proofs.Vertices.{NoOffBelow, no_off_yet, no_off_next, one_off, none_off_all}
+use Rattle.table.proofs.Vertices.{no_off_yet, no_off_next, one_off, none_off_all}
 use Rattle.table.proofs.blocks.holds_no_off.Goals as goal
 
 pub loop-v-init : goal.loop-v-init

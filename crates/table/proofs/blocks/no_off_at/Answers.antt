@@ -1,6 +1,5 @@
 -- `table::blocks::no_off_at` meets its contract. Assumes nothing.
 use Rattle.table.proofs.Vertices.{no_off_held, no_off_not_held}
-use borrow.Author.Rules.{rules}
 use Rattle.table.proofs.blocks.no_off_at.Goals as goal
 
 pub returns-then-has_vertex : goal.returns-then-has_vertex

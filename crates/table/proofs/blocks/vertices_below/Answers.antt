@@ -1,7 +1,5 @@
 -- `table::blocks::vertices_below` meets its contract. The invariant: none of the vertices passed is one of b. Assumes nothing.
-use Prim.Native.Nat.{◌-◌}
-use borrow.Author.Rules.{rules}
-use Rattle.table.proofs.Vertices.{NoneBetween, none_yet, none_next, one_above_lem, none_above}
+use Rattle.table.proofs.Vertices.{none_yet, none_next, one_above_lem, none_above}
 use Rattle.table.proofs.blocks.vertices_below.Goals as goal
 
 pub loop-v-init : goal.loop-v-init

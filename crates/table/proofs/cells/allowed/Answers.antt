@@ -1,10 +1,7 @@
 -- `table::cells::allowed` meets its contract. The invariant: may is right at the vertices passed. Assumes nothing.
-use Prim.Native.Nat.{◌-◌, ◌≤◌}
 use native.Mathlib.Omega.{arith}
-use mathlib.Core.Path.{◌≡◌}
 use borrow.Author.Rules.{rules}
-use lib.ListN.{length}
-use Rattle.table.proofs.Halves.{MayBelow, may_next, may_all}
+use Rattle.table.proofs.Halves.{may_next, may_all}
 use Rattle.table.proofs.cells.allowed.Goals as goal
 
 pub loop-v-init : goal.loop-v-init

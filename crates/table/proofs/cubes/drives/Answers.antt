@@ -1,5 +1,4 @@
 -- `table::cubes::drives` meets its contract. Assumes nothing.
-use borrow.Author.Rules.{rules}
 use Rattle.table.proofs.Halves.{drives_none, drives_one}
 use Rattle.table.proofs.cubes.drives.Goals as goal
 

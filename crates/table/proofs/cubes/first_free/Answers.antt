@@ -1,5 +1,4 @@
 -- `table::cubes::first_free` meets its contract. Assumes nothing.
-use borrow.Author.Rules.{rules}
 use Rattle.bits.proofs.Parts.{minus_bits, lowest_member}
 use Rattle.table.proofs.cubes.first_free.Goals as goal
 

@@ -1,6 +1,5 @@
 -- `table::cubes::free_inputs` meets its contract. Assumes nothing.
 use native.Mathlib.Omega.{arith}
-use borrow.Author.Rules.{rules}
 use Rattle.bits.proofs.Shifts.{power_le}
 use Rattle.table.proofs.cubes.free_inputs.Goals as goal
 

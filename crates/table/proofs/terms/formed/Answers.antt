@@ -1,5 +1,4 @@
 -- `table::terms::formed` meets its contract. Assumes nothing.
-use borrow.Author.Rules.{rules}
 use Rattle.table.proofs.Legality.{care_out, value_out, no_output, outputs_in}
 use Rattle.table.proofs.terms.formed.Goals as goal
 

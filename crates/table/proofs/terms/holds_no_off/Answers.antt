@@ -1,5 +1,4 @@
 -- `table::terms::holds_no_off` meets its contract. Assumes nothing.
-use borrow.Author.Rules.{rules}
 use Rattle.table.proofs.Legality.{no_off_tells}
 use Rattle.table.proofs.terms.holds_no_off.Goals as goal
 
