@@ -1,42 +1,43 @@
 // Runs the paper's marked cases and run cases, one with blocks and one with ranges of prices, as jobs in files, and prints what the engine returns and writes.
 #![tactic(auto)]
-use libc::STDOUT_FILENO;
+
+use std::io::Read;
+use std::rt::Files;
+use std::{fs, io};
 
 // Runs the job and prints its result; of more than 1,000 answer bytes only how many.
-fn run(job: &[u8]) {
+fn run(rt: &impl Print, job: &[u8]) -> io::Result<()> {
     let mut answers = [0u8; 32768];
     let result = engine::cover_job(job, &mut answers);
-    report::print(result, &answers[..1000]);
+    report::print(rt, result, &answers[..1000])
 }
 
-// Runs the job of a file.
-fn show(path: &[u8]) {
-    let fd = os::open_read(path);
-    if fd < 0 {
-        os::fail(path);
-        return;
-    }
-    let mut job = [0u8; 32769];
-    let length = io::read_full(fd, &mut job);
-    libc::close(fd);
-    io::write_all(STDOUT_FILENO, path);
-    io::write_all(STDOUT_FILENO, b": ");
-    run(&job[..length]);
+// Runs the job of a file. Of a file that cannot be opened, standard error tells why.
+fn show(rt: &(impl Files + Print + Eprint + Alloc), path: &str) -> io::Result<()> {
+    let file = match fs::open(rt, path) {
+        Ok(file) => file,
+        Err(error) => return eprintln!(rt; "{path}: {error}"),
+    };
+    // One byte more than the longest job, so that a longer one is seen.
+    let mut job = Vec::new(rt.alloc());
+    file.take(32769).read_to_end(&mut job)?;
+    print!(rt; "{path}: ")?;
+    run(rt, &job)
 }
 
-fn main() {
-    show(b"case_a_b.job");
-    show(b"case_c.job");
-    show(b"case_d.job");
-    show(b"case_e.job");
-    show(b"case_f.job");
-    show(b"case_g.job");
-    show(b"case_h.job");
-    show(b"parity_7.job");
-    show(b"parity_8.job");
-    show(b"ready_made.job");
-    show(b"price_ranges.job");
-    show(b"no_bytes.job");
-    show(b"longest.job");
-    show(b"too_long.job");
+fn main(rt: HostRuntime) -> io::Result<()> {
+    show(&rt, "case_a_b.job")?;
+    show(&rt, "case_c.job")?;
+    show(&rt, "case_d.job")?;
+    show(&rt, "case_e.job")?;
+    show(&rt, "case_f.job")?;
+    show(&rt, "case_g.job")?;
+    show(&rt, "case_h.job")?;
+    show(&rt, "parity_7.job")?;
+    show(&rt, "parity_8.job")?;
+    show(&rt, "ready_made.job")?;
+    show(&rt, "price_ranges.job")?;
+    show(&rt, "no_bytes.job")?;
+    show(&rt, "longest.job")?;
+    show(&rt, "too_long.job")
 }

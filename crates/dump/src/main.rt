@@ -13,10 +13,11 @@
 // term, a literal and an output connection. A line for each vertex that has a row, and for each candidate, a term or a block, with the weight
 // and the ends of its range that stand beside it. The vertices of a block are the 32 bytes of F's operand. Bytes are in hexadecimal, all other numbers in decimal.
 //
-// No `ensures` here is on what is printed: what stands on standard output is in no contract of `io`. It is asked for by `requires`: the record is
+// No `ensures` here is on what is printed: what stands on standard output is in no contract of `std`. It is asked for by `requires`: the record is
 // the job's, a term or a block is the one that the job has there, the weight of a term is what it costs at the record's prices, and the range is the
 // candidate's.
 #![tactic(auto)]
+
 ghost use Rattle.std.specs.Prelude.{◌≡◌, cond, [], ◌<◌};
 ghost use Rattle.model.specs.Ranges.{between};
 ghost use Rattle.model.specs.Candidates.{Candidate, term_cost};
@@ -25,54 +26,63 @@ ghost use Rattle.problem.specs.Problems.{HoldsCands, Holds};
 ghost use Rattle.dump.specs.Shown.{left, candidate_at, range_at, vertex_byte, Vertices, ShownAs};
 
 use bits::set;
-use libc::{STDIN_FILENO, STDOUT_FILENO};
 use model::{Block, Prices, Term};
 use problem::{Candidates, Problem, TableRows};
+use std::io;
+use std::io::Read;
 
 // A name and a number.
-fn print_number(name: &[u8], x: usize) {
-    io::write_all(STDOUT_FILENO, name);
-    io::print_decimal(STDOUT_FILENO, x as u64);
+fn print_number(rt: &impl Print, name: &[u8], x: usize) -> io::Result<()> {
+    rt.write_all(name)?;
+    print!(rt; "{x}")
 }
 
 // A name and a byte.
-fn print_byte(name: &[u8], b: u8) {
-    io::write_all(STDOUT_FILENO, name);
-    report::print_byte(b);
+fn print_byte(rt: &impl Print, name: &[u8], b: u8) -> io::Result<()> {
+    rt.write_all(name)?;
+    report::print_byte(rt, b)
 }
 
-fn end_line() {
-    io::write_all(STDOUT_FILENO, b"\n");
+fn end_line(rt: &impl Print) -> io::Result<()> {
+    rt.write_all(b"\n")
 }
 
-fn print_row(v: usize, on: u8, dc: u8) {
-    print_number(b"row ", v);
-    print_byte(b" on ", on);
-    print_byte(b" dc ", dc);
-    end_line();
+fn print_row(rt: &impl Print, v: usize, on: u8, dc: u8) -> io::Result<()> {
+    print_number(rt, b"row ", v)?;
+    print_byte(rt, b" on ", on)?;
+    print_byte(rt, b" dc ", dc)?;
+    end_line(rt)
 }
 
 // A line for each vertex that has a row.
-fn print_rows(rows: TableRows) {
+fn print_rows(rt: &impl Print, rows: TableRows) -> io::Result<()> {
     let mut v: usize = 0;
     while v < 256 {
         if rows.given[v] != 0 {
-            print_row(v, rows.on[v], rows.dc[v]);
+            print_row(rt, v, rows.on[v], rows.dc[v])?;
         }
         v += 1;
     }
+    Ok(())
 }
 
 // Candidate i of the record that this job leaves: term t, with its cost at these prices.
-fn print_term(job: &[u8], w: Prices, i: usize, t: Term, weight: u16)
+fn print_term(
+    rt: &impl Print,
+    job: &[u8],
+    w: Prices,
+    i: usize,
+    t: Term,
+    weight: u16,
+) -> io::Result<()>
     requires i_value { candidate_at (left job.now).cands i ≡ Candidate.term t }
     requires weight_value { weight ≡ term_cost w t }
 {
-    print_number(b"candidate ", i);
-    print_byte(b" care ", t.care);
-    print_byte(b" value ", t.value);
-    print_byte(b" outputs ", t.outputs);
-    print_number(b" weight ", weight as usize);
+    print_number(rt, b"candidate ", i)?;
+    print_byte(rt, b" care ", t.care)?;
+    print_byte(rt, b" value ", t.value)?;
+    print_byte(rt, b" outputs ", t.outputs)?;
+    print_number(rt, b" weight ", weight as usize)
 }
 
 // A truth value as a bit.
@@ -111,37 +121,45 @@ fn vertices(held: &[u64; 256], i: u64) -> [u8; 32]
 }
 
 // Each byte by its two digits.
-fn print_bytes(name: &[u8], bytes: [u8; 32]) {
-    io::write_all(STDOUT_FILENO, name);
+fn print_bytes(rt: &impl Print, name: &[u8], bytes: [u8; 32]) -> io::Result<()> {
+    rt.write_all(name)?;
     let mut j: usize = 0;
     while j < 32 {
-        report::print_byte(bytes[j]);
+        report::print_byte(rt, bytes[j])?;
         j += 1;
     }
+    Ok(())
 }
 
 // Candidate i of the record that this job leaves: block b.
-fn print_block(job: &[u8], i: usize, b: Block)
+fn print_block(rt: &impl Print, job: &[u8], i: usize, b: Block) -> io::Result<()>
     requires { ShownAs (left job.now).cands i b }
 {
     let vertices = b.vertices;
-    print_number(b"candidate ", i);
-    print_byte(b" block outputs ", b.outputs);
-    print_bytes(b" vertices ", vertices);
-    print_number(b" weight ", b.weight as usize);
+    print_number(rt, b"candidate ", i)?;
+    print_byte(rt, b" block outputs ", b.outputs)?;
+    print_bytes(rt, b" vertices ", vertices)?;
+    print_number(rt, b" weight ", b.weight as usize)
 }
 
 // The range of candidate i of the record that this job leaves, and the end of its line.
-fn print_range(job: &[u8], i: usize, low: u16, high: u16)
+fn print_range(rt: &impl Print, job: &[u8], i: usize, low: u16, high: u16) -> io::Result<()>
     requires { range_at (left job.now).ranges i ≡ between low high }
 {
-    print_number(b" low ", low as usize);
-    print_number(b" high ", high as usize);
-    end_line();
+    print_number(rt, b" low ", low as usize)?;
+    print_number(rt, b" high ", high as usize)?;
+    end_line(rt)
 }
 
 // A line for candidate i.
-fn print_one(job: &[u8], w: Prices, candidates: Candidates, held: &[u64; 256], i: usize)
+fn print_one(
+    rt: &impl Print,
+    job: &[u8],
+    w: Prices,
+    candidates: Candidates,
+    held: &[u64; 256],
+    i: usize,
+) -> io::Result<()>
     requires i_lt_count { i < candidates.count }
     requires holds_cands { HoldsCands w candidates (left job.now).cands (left job.now).weights (left job.now).ranges }
     requires blocks_at { BlocksAt (left job.now).cands held.now }
@@ -151,6 +169,7 @@ fn print_one(job: &[u8], w: Prices, candidates: Candidates, held: &[u64; 256], i
     if set::has(candidates.blocks, i as u64) {
         let vertices = vertices(held, i as u64);
         print_block(
+            rt,
             job,
             i,
             Block {
@@ -158,45 +177,52 @@ fn print_one(job: &[u8], w: Prices, candidates: Candidates, held: &[u64; 256], i
                 vertices: vertices,
                 weight: weight,
             },
-        );
+        )?;
     } else {
-        print_term(job, w, i, t, weight);
+        print_term(rt, job, w, i, t, weight)?;
     }
-    print_range(job, i, candidates.lows[i], candidates.highs[i]);
+    print_range(rt, job, i, candidates.lows[i], candidates.highs[i])
 }
 
 // A line for each candidate of the record that this job leaves.
-fn print_candidates(job: &[u8], w: Prices, candidates: Candidates, held: &[u64; 256])
+fn print_candidates(
+    rt: &impl Print,
+    job: &[u8],
+    w: Prices,
+    candidates: Candidates,
+    held: &[u64; 256],
+) -> io::Result<()>
     requires holds_cands { HoldsCands w candidates (left job.now).cands (left job.now).weights (left job.now).ranges }
     requires blocks_at { BlocksAt (left job.now).cands held.now }
 {
     let mut i: usize = 0;
     while i < candidates.count {
-        print_one(job, w, candidates, held, i);
+        print_one(rt, job, w, candidates, held, i)?;
         i += 1;
     }
+    Ok(())
 }
 
-fn print_prices(w: Prices) {
-    print_number(b"prices ", w.term as usize);
-    print_number(b" ", w.literal as usize);
-    print_number(b" ", w.connection as usize);
-    end_line();
+fn print_prices(rt: &impl Print, w: Prices) -> io::Result<()> {
+    print_number(rt, b"prices ", w.term as usize)?;
+    print_number(rt, b" ", w.literal as usize)?;
+    print_number(rt, b" ", w.connection as usize)?;
+    end_line(rt)
 }
 
 // The whole record, which is the one that this job leaves; `held` has the vertices of its blocks.
-fn print_record(job: &[u8], p: Problem, held: &[u64; 256])
+fn print_record(rt: &impl Print, job: &[u8], p: Problem, held: &[u64; 256]) -> io::Result<()>
     requires holds { Holds p (left job.now) }
     requires blocks_at { BlocksAt (left job.now).cands held.now }
 {
-    print_number(b"place ", p.place as usize);
-    end_line();
-    print_number(b"inputs ", p.settings.n as usize);
-    print_number(b" outputs ", p.settings.m as usize);
-    end_line();
-    print_prices(p.settings.prices);
-    print_rows(p.rows);
-    print_candidates(job, p.settings.prices, p.candidates, held);
+    print_number(rt, b"place ", p.place as usize)?;
+    end_line(rt)?;
+    print_number(rt, b"inputs ", p.settings.n as usize)?;
+    print_number(rt, b" outputs ", p.settings.m as usize)?;
+    end_line(rt)?;
+    print_prices(rt, p.settings.prices)?;
+    print_rows(rt, p.rows)?;
+    print_candidates(rt, job, p.settings.prices, p.candidates, held)
 }
 
 // The sets by vertex of no block.
@@ -206,16 +232,16 @@ fn no_blocks() -> [u64; 256]
     [0; 256]
 }
 
-fn main() {
+fn main(rt: HostRuntime) -> io::Result<()> {
     // One byte more than the longest job, so that a longer one is seen.
-    let mut job = [0u8; 32769];
-    let length = io::read_full(STDIN_FILENO, &mut job);
+    let mut job = Vec::new(rt.alloc());
+    rt.reader().take(32769).read_to_end(&mut job)?;
     let mut answers = [0u8; 32768];
     let mut held = no_blocks();
-    let e = engine::run_job(&job[..length], &mut answers, &mut held);
-    print_number(b"number ", e.number as usize);
-    print_number(b" offset ", e.offset);
-    print_number(b" written ", e.written);
-    end_line();
-    print_record(&job[..length], e.problem, &held);
+    let e = engine::run_job(&job, &mut answers, &mut held);
+    print_number(&rt, b"number ", e.number as usize)?;
+    print_number(&rt, b" offset ", e.offset)?;
+    print_number(&rt, b" written ", e.written)?;
+    end_line(&rt)?;
+    print_record(&rt, &job, e.problem, &held)
 }

@@ -1,8 +1,8 @@
 // The engine: jobs of commands over a problem, and their answers.
 //
-// `cover_job` is what a C program links to; its contract cites only definitions of crate `model`. `run_job` is the same with the record
-// that the job leaves, for the program `dump`. `step` is any command of a job, `row_block` the R and B commands in one go, with
-// crate `eight_rows` for a B, `job` goes through them. The calls for Rattle are those of crate `library`.
+// `cover_job` is what a C program calls, by way of crate `engine_c`; its contract cites only definitions of crate `model`. `run_job` is the
+// same with the record that the job leaves, for the program `dump`. `step` is any command of a job, `row_block` the R and B commands in one
+// go, with crate `eight_rows` for a B, `job` goes through them. The calls for Rattle are those of crate `library`.
 #![tactic(auto)]
 
 ghost use Rattle.std.specs.Prelude.{◌≡◌, []};
@@ -45,8 +45,7 @@ pub fn run_job(job: &[u8], answers: &mut [u8], held: &mut [u64; 256]) -> Ended
 
 // Runs a job on two byte buffers: returns number × 2^32 + offset × 2^16 + written, and leaves the bytes of the finished answers in front
 // of `answers`. Every other byte of `answers` stays as it was.
-#[unsafe(no_mangle)]
-pub extern "C" fn cover_job(job: &[u8], answers: &mut [u8]) -> u64
+pub fn cover_job(job: &[u8], answers: &mut [u8]) -> u64
     ensures { Met (called job.now answers.old result answers.new) }
 {
     let mut held = [0u64; 256];

@@ -1,55 +1,61 @@
 // Runs the library calls on the paper's cases and on odd parity of 7 inputs, and prints what they find.
 #![tactic(auto)]
+
 ghost use Rattle.std.specs.Prelude.{◌≤◌};
 
 use cheapest::search;
 use cheapest::search::Optimum;
 use incidence::rows;
-use libc::STDOUT_FILENO;
 use library::Listed;
 use model::Term;
 use primes::prime_list;
+use std::io;
 use table::cells;
 
 mod products;
 
 // A number and a space.
-fn print_number(x: u64) {
-    io::print_decimal(STDOUT_FILENO, x);
-    io::write_all(STDOUT_FILENO, b" ");
+fn print_number(rt: &impl Print, x: u64) -> io::Result<()> {
+    print!(rt; "{x} ")
 }
 
 // The first count of the sets.
-fn print_first(sets: &[u64], count: usize) {
+fn print_first(rt: &impl Print, sets: &[u64], count: usize) -> io::Result<()> {
     let mut i: usize = 0;
     while i < sets.len() {
         if i < count {
-            print_number(sets[i]);
+            print_number(rt, sets[i])?;
         }
         i += 1;
     }
+    Ok(())
 }
 
 // The first count of the sets, and whether more stand above.
-fn print_sets(sets: &[u64], count: usize, more: bool) {
-    print_first(sets, count);
+fn print_sets(rt: &impl Print, sets: &[u64], count: usize, more: bool) -> io::Result<()> {
+    print_first(rt, sets, count)?;
     if more {
-        io::write_all(STDOUT_FILENO, b"and more");
+        print!(rt; "and more")?;
     }
-    io::write_all(STDOUT_FILENO, b"\n");
+    println!(rt; "")
 }
 
 // A page of 8 sets from `start` on, or the refusal.
-fn show(name: &[u8], n: u8, m: u8, on: &[u8], dc: &[u8], terms: &[u32], start: u64) {
-    io::write_all(STDOUT_FILENO, name);
+fn show(
+    rt: &impl Print,
+    name: &[u8],
+    n: u8,
+    m: u8,
+    on: &[u8],
+    dc: &[u8],
+    terms: &[u32],
+    start: u64,
+) -> io::Result<()> {
+    rt.write_all(name)?;
     let mut sets = [0u64; 8];
     match library::list_covers(n, m, on, dc, terms, start, &mut sets) {
-        Listed::Filled(count, more) => print_sets(&sets, count, more),
-        Listed::Refused(number) => {
-            io::write_all(STDOUT_FILENO, b"refused ");
-            print_number(number as u64);
-            io::write_all(STDOUT_FILENO, b"\n");
-        }
+        Listed::Filled(count, more) => print_sets(rt, &sets, count, more),
+        Listed::Refused(number) => println!(rt; "refused {number} "),
     }
 }
 
@@ -88,7 +94,7 @@ fn words(terms: [Term; 64]) -> [u32; 64] {
 }
 
 // The cheapest cover of the first count terms, and its cost. None is a block.
-fn show_cheapest(on: &[u8; 256], terms: [Term; 64], count: usize)
+fn show_cheapest(rt: &impl Print, on: &[u8; 256], terms: [Term; 64], count: usize) -> io::Result<()>
     requires { count ≤ 64 }
 {
     let held = [0u64; 256];
@@ -97,28 +103,25 @@ fn show_cheapest(on: &[u8; 256], terms: [Term; 64], count: usize)
     let weights = problem::weights::weights(problem::usual_prices(), terms, count);
     if k <= 2048 {
         if let Optimum::Cover(set, cost) = search::cheapest(&all[..k], &weights[..count]) {
-            io::write_all(STDOUT_FILENO, b"parity of 7 inputs, cheapest and cost: ");
-            print_number(set);
-            print_number(cost);
-            io::write_all(STDOUT_FILENO, b"\n");
+            println!(rt; "parity of 7 inputs, cheapest and cost: {set} {cost} ")?;
         }
     }
+    Ok(())
 }
 
 // Odd parity of 7 inputs: how many primes, the covers by them, the cheapest.
-fn show_parity() {
+fn show_parity(rt: &impl Print) -> io::Result<()> {
     let on = odd_parity();
     let dc = [0u8; 256];
     let may = cells::allowed(&on, &dc);
     let primes = prime_list::primes(&may, 7);
     let count = primes.count;
-    io::write_all(STDOUT_FILENO, b"parity of 7 inputs, primes: ");
-    print_number(count as u64);
-    io::write_all(STDOUT_FILENO, b"\n");
+    println!(rt; "parity of 7 inputs, primes: {count} ")?;
     let terms = primes.terms;
     let all = words(terms);
     if count <= 64 {
         show(
+            rt,
             b"parity of 7 inputs, covers: ",
             7,
             1,
@@ -126,14 +129,16 @@ fn show_parity() {
             &dc[..128],
             &all[..count],
             0,
-        );
-        show_cheapest(&on, terms, count);
+        )?;
+        show_cheapest(rt, &on, terms, count)?;
     }
+    Ok(())
 }
 
 // A page by the terms of the paper's job, for rows of 2 inputs and 2 outputs.
-fn show_job(name: &[u8], on: &[u8], dc: &[u8], start: u64) {
+fn show_job(rt: &impl Print, name: &[u8], on: &[u8], dc: &[u8], start: u64) -> io::Result<()> {
     show(
+        rt,
         name,
         2,
         2,
@@ -148,18 +153,25 @@ fn show_job(name: &[u8], on: &[u8], dc: &[u8], start: u64) {
             0x010002,
         ],
         start,
-    );
+    )
 }
 
 // Case a, from the start and from a set on.
-fn show_pages() {
-    show_job(b"case a: ", &[0u8, 1, 3, 2], &[1u8, 2, 0, 0], 0);
-    show_job(b"case a from 23 on: ", &[0u8, 1, 3, 2], &[1u8, 2, 0, 0], 23);
+fn show_pages(rt: &impl Print) -> io::Result<()> {
+    show_job(rt, b"case a: ", &[0u8, 1, 3, 2], &[1u8, 2, 0, 0], 0)?;
+    show_job(
+        rt,
+        b"case a from 23 on: ",
+        &[0u8, 1, 3, 2],
+        &[1u8, 2, 0, 0],
+        23,
+    )
 }
 
 // Cases c and d: the same terms in another order, and another table.
-fn show_others() {
+fn show_others(rt: &impl Print) -> io::Result<()> {
     show(
+        rt,
         b"case c: ",
         2,
         2,
@@ -174,15 +186,25 @@ fn show_others() {
             0x030203,
         ],
         0,
-    );
-    show_job(b"case d: ", &[1u8, 3, 3, 2], &[0u8, 0, 0, 0], 0);
+    )?;
+    show_job(rt, b"case d: ", &[1u8, 3, 3, 2], &[0u8, 0, 0, 0], 0)
 }
 
 // Cases e to h, of one input and one output.
-fn show_small() {
-    show(b"case e: ", 1, 1, &[0u8, 0], &[0u8, 0], &[], 0);
-    show(b"case f: ", 1, 1, &[1u8, 1], &[0u8, 0], &[0x010000u32], 0);
+fn show_small(rt: &impl Print) -> io::Result<()> {
+    show(rt, b"case e: ", 1, 1, &[0u8, 0], &[0u8, 0], &[], 0)?;
     show(
+        rt,
+        b"case f: ",
+        1,
+        1,
+        &[1u8, 1],
+        &[0u8, 0],
+        &[0x010000u32],
+        0,
+    )?;
+    show(
+        rt,
         b"case g: ",
         1,
         1,
@@ -190,14 +212,15 @@ fn show_small() {
         &[0u8, 0],
         &[0x010000u32, 0x010000],
         0,
-    );
-    show(b"case h: ", 1, 1, &[1u8, 1], &[0u8, 0], &[], 0);
+    )?;
+    show(rt, b"case h: ", 1, 1, &[1u8, 1], &[0u8, 0], &[], 0)
 }
 
 // Calls that are refused before a term is looked at, and for a word's top byte.
-fn show_refused() {
-    show_job(b"a row too short: ", &[0u8, 1, 3], &[1u8, 2, 0, 0], 0);
+fn show_refused(rt: &impl Print) -> io::Result<()> {
+    show_job(rt, b"a row too short: ", &[0u8, 1, 3], &[1u8, 2, 0, 0], 0)?;
     show(
+        rt,
         b"a top byte: ",
         2,
         2,
@@ -205,14 +228,14 @@ fn show_refused() {
         &[1u8, 2, 0, 0],
         &[0x1010001u32],
         0,
-    );
+    )
 }
 
-fn main() {
-    show_pages();
-    show_others();
-    show_small();
-    show_refused();
-    show_parity();
-    products::show_all();
+fn main(rt: HostRuntime) -> io::Result<()> {
+    show_pages(&rt)?;
+    show_others(&rt)?;
+    show_small(&rt)?;
+    show_refused(&rt)?;
+    show_parity(&rt)?;
+    products::show_all(&rt)
 }

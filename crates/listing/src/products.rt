@@ -1,8 +1,8 @@
 // The multiplication on the paper's cases and on tables with 1,024 products and more, and which row it hands back.
 ghost use Rattle.std.specs.Prelude.{◌≤◌};
 
-use crate::{print_first, print_number};
-use libc::STDOUT_FILENO;
+use crate::print_first;
+use std::io;
 
 // What no set of these cases is.
 fn mark() -> u64 {
@@ -17,30 +17,37 @@ fn mark_row(row: &mut [u64]) {
 }
 
 // How many sets, and which, where they are few.
-fn print_front(sets: &[u64], count: usize) {
-    print_number(count as u64);
-    io::write_all(STDOUT_FILENO, b"sets ");
+fn print_front(rt: &impl Print, sets: &[u64], count: usize) -> io::Result<()> {
+    print!(rt; "{count} sets ")?;
     if count <= 8 {
-        print_first(sets, count);
+        print_first(rt, sets, count)?;
     }
+    Ok(())
 }
 
 // The refusal, if there is one, and which row was handed back.
-fn print_told(number: u8, is_first: bool) {
+fn print_told(rt: &impl Print, number: u8, is_first: bool) -> io::Result<()> {
     if number != 0 {
-        io::write_all(STDOUT_FILENO, b"refused ");
-        print_number(number as u64);
+        print!(rt; "refused {number} ")?;
     }
     if is_first {
-        io::write_all(STDOUT_FILENO, b"in the first row\n");
+        println!(rt; "in the first row")
     } else {
-        io::write_all(STDOUT_FILENO, b"in the second row\n");
+        println!(rt; "in the second row")
     }
 }
 
 // The multiplication with two rows of 1,024 entries.
-fn show(name: &[u8], n: u8, m: u8, on: &[u8], dc: &[u8], terms: &[u32]) {
-    io::write_all(STDOUT_FILENO, name);
+fn show(
+    rt: &impl Print,
+    name: &[u8],
+    n: u8,
+    m: u8,
+    on: &[u8],
+    dc: &[u8],
+    terms: &[u32],
+) -> io::Result<()> {
+    rt.write_all(name)?;
     let mut first = [0u64; 1024];
     let mut second = [0u64; 1024];
     let mut number: u8 = 0;
@@ -56,14 +63,15 @@ fn show(name: &[u8], n: u8, m: u8, on: &[u8], dc: &[u8], terms: &[u32]) {
         &mut number,
         &mut count,
     );
-    print_front(row, count);
+    print_front(rt, row, count)?;
     mark_row(row);
-    print_told(number, first[0] == mark());
+    print_told(rt, number, first[0] == mark())
 }
 
 // By the terms of the paper's job.
-fn show_job(name: &[u8], on: &[u8], dc: &[u8]) {
+fn show_job(rt: &impl Print, name: &[u8], on: &[u8], dc: &[u8]) -> io::Result<()> {
     show(
+        rt,
         name,
         2,
         2,
@@ -77,11 +85,11 @@ fn show_job(name: &[u8], on: &[u8], dc: &[u8]) {
             0x030203,
             0x010002,
         ],
-    );
+    )
 }
 
 // So many wanted vertices of 4 inputs, each with two equal terms that hold no other: the products double at each.
-fn show_pairs(name: &[u8], vertices: usize)
+fn show_pairs(rt: &impl Print, name: &[u8], vertices: usize) -> io::Result<()>
     requires { vertices ≤ 11 }
 {
     let mut on = [0u8; 16];
@@ -95,11 +103,16 @@ fn show_pairs(name: &[u8], vertices: usize)
         terms[2 * v + 1] = word;
         v += 1;
     }
-    show(name, 4, 1, &on, &dc, &terms[..2 * vertices]);
+    show(rt, name, 4, 1, &on, &dc, &terms[..2 * vertices])
 }
 
 // A lent row of 1,023 or 1,025 entries.
-fn show_lengths(name: &[u8], first: &mut [u64], second: &mut [u64]) {
+fn show_lengths(
+    rt: &impl Print,
+    name: &[u8],
+    first: &mut [u64],
+    second: &mut [u64],
+) -> io::Result<()> {
     let mut number: u8 = 0;
     let mut count: usize = 0;
     let row = library::multiply_covers(
@@ -113,27 +126,31 @@ fn show_lengths(name: &[u8], first: &mut [u64], second: &mut [u64]) {
         &mut number,
         &mut count,
     );
-    io::write_all(STDOUT_FILENO, name);
-    print_front(row, count);
-    io::write_all(STDOUT_FILENO, b"refused ");
-    print_number(number as u64);
-    io::write_all(STDOUT_FILENO, b"\n");
+    rt.write_all(name)?;
+    print_front(rt, row, count)?;
+    println!(rt; "refused {number} ")
 }
 
 // Each row too short, and too long.
-fn show_refused() {
+fn show_refused(rt: &impl Print) -> io::Result<()> {
     let mut short = [0u64; 1023];
     let mut right = [0u64; 1024];
     let mut long = [0u64; 1025];
-    show_lengths(b"a first row too short: ", &mut short, &mut right);
-    show_lengths(b"a second row too short: ", &mut right, &mut short);
-    show_lengths(b"a first row too long: ", &mut long, &mut right);
-    show_lengths(b"a second row too long: ", &mut right, &mut long);
+    show_lengths(rt, b"a first row too short: ", &mut short, &mut right)?;
+    show_lengths(rt, b"a second row too short: ", &mut right, &mut short)?;
+    show_lengths(rt, b"a first row too long: ", &mut long, &mut right)?;
+    show_lengths(rt, b"a second row too long: ", &mut right, &mut long)
 }
 
-pub fn show_all() {
-    show_job(b"case a, multiplied: ", &[0u8, 1, 3, 2], &[1u8, 2, 0, 0]);
+pub fn show_all(rt: &impl Print) -> io::Result<()> {
+    show_job(
+        rt,
+        b"case a, multiplied: ",
+        &[0u8, 1, 3, 2],
+        &[1u8, 2, 0, 0],
+    )?;
     show(
+        rt,
         b"case c, multiplied: ",
         2,
         2,
@@ -147,29 +164,36 @@ pub fn show_all() {
             0x030103,
             0x030203,
         ],
-    );
-    show_job(b"case d, multiplied: ", &[1u8, 3, 3, 2], &[0u8, 0, 0, 0]);
-    show(b"case e, multiplied: ", 1, 1, &[0u8, 0], &[0u8, 0], &[]);
+    )?;
+    show_job(
+        rt,
+        b"case d, multiplied: ",
+        &[1u8, 3, 3, 2],
+        &[0u8, 0, 0, 0],
+    )?;
+    show(rt, b"case e, multiplied: ", 1, 1, &[0u8, 0], &[0u8, 0], &[])?;
     show(
+        rt,
         b"case f, multiplied: ",
         1,
         1,
         &[1u8, 1],
         &[0u8, 0],
         &[0x010000u32],
-    );
+    )?;
     show(
+        rt,
         b"case g, multiplied: ",
         1,
         1,
         &[1u8, 1],
         &[0u8, 0],
         &[0x010000u32, 0x010000],
-    );
-    show(b"case h, multiplied: ", 1, 1, &[1u8, 1], &[0u8, 0], &[]);
-    show_pairs(b"one cell of two, multiplied: ", 1);
-    show_pairs(b"nine cells of two: ", 9);
-    show_pairs(b"ten cells of two: ", 10);
-    show_pairs(b"eleven cells of two: ", 11);
-    show_refused();
+    )?;
+    show(rt, b"case h, multiplied: ", 1, 1, &[1u8, 1], &[0u8, 0], &[])?;
+    show_pairs(rt, b"one cell of two, multiplied: ", 1)?;
+    show_pairs(rt, b"nine cells of two: ", 9)?;
+    show_pairs(rt, b"ten cells of two: ", 10)?;
+    show_pairs(rt, b"eleven cells of two: ", 11)?;
+    show_refused(rt)
 }

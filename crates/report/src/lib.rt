@@ -2,11 +2,13 @@
 // lower-case hexadecimal, 32 bytes a line.
 //
 // `print` and `print_byte` have no `ensures`: they change nothing that a contract can speak of, and what stands on standard output is in no
-// contract of `io`. The gate holds the output of the programs that call them to their files `stdout`.
+// contract of `std`. The gate holds the output of the programs that call them to their files `stdout`. Each ends at the first write that
+// fails, with its error.
 #![tactic(auto)]
+
 ghost use Rattle.std.specs.Prelude.{◌<◌, ◌≤◌};
 
-use libc::STDOUT_FILENO;
+use std::io;
 
 // A hexadecimal digit, in lower case.
 fn digit(x: u8) -> u8
@@ -28,9 +30,9 @@ fn low(b: u8) -> u8 {
 }
 
 // Prints a byte by its two digits.
-pub fn print_byte(b: u8) {
+pub fn print_byte(rt: &impl Print, b: u8) -> io::Result<()> {
     let digits = [high(b), low(b)];
-    io::write_all(STDOUT_FILENO, &digits);
+    rt.write_all(&digits)
 }
 
 // n, or 32 where n is more.
@@ -44,7 +46,7 @@ fn at_most_32(n: usize) -> usize
 }
 
 // Prints the first 32 of the bytes as one line.
-fn print_line(bytes: &[u8]) {
+fn print_line(rt: &impl Print, bytes: &[u8]) -> io::Result<()> {
     let n = at_most_32(bytes.len());
     let mut line = [0u8; 65];
     let mut i: usize = 0;
@@ -55,31 +57,30 @@ fn print_line(bytes: &[u8]) {
         i += 1;
     }
     line[2 * n] = b'\n';
-    io::write_all(STDOUT_FILENO, &line[..2 * n + 1]);
+    rt.write_all(&line[..2 * n + 1])
 }
 
 // Prints the bytes, 32 a line.
-fn print_lines(bytes: &[u8]) {
+fn print_lines(rt: &impl Print, bytes: &[u8]) -> io::Result<()> {
     let mut i: usize = 0;
     while i < bytes.len() {
-        print_line(&bytes[i..]);
+        print_line(rt, &bytes[i..])?;
         if bytes.len() - i <= 32 {
-            return;
+            return Ok(());
         }
         i += 32;
     }
+    Ok(())
 }
 
 // Prints a result of the engine and the bytes that it wrote into `answers`.
-pub fn print(res: u64, answers: &[u8]) {
-    io::print_decimal(STDOUT_FILENO, res / 4294967296);
-    io::write_all(STDOUT_FILENO, b" ");
-    io::print_decimal(STDOUT_FILENO, res / 65536 % 65536);
-    io::write_all(STDOUT_FILENO, b" ");
+pub fn print(rt: &impl Print, res: u64, answers: &[u8]) -> io::Result<()> {
+    let number = res / 4294967296;
+    let offset = res / 65536 % 65536;
     let written = (res % 65536) as usize;
-    io::print_decimal(STDOUT_FILENO, written as u64);
-    io::write_all(STDOUT_FILENO, b"\n");
+    println!(rt; "{number} {offset} {written}")?;
     if written <= answers.len() {
-        print_lines(&answers[..written]);
+        print_lines(rt, &answers[..written])?;
     }
+    Ok(())
 }

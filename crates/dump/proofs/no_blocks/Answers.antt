@@ -1,5 +1,5 @@
 -- `dump::no_blocks` meets its contract.
-use mathlib.Core.List.{[]}
+use Rattle.std.proofs.Common.{[]}
 use Rattle.incidence.proofs.Uses.{blocks_alone}
 use Rattle.dump.proofs.no_blocks.Goals as goal
 

@@ -1,9 +1,6 @@
 -- `dump::vertex_byte` meets its contract.
-use Prim.Native.Nat.{◌*◌}
-use native.Mathlib.Omega.{arith}
-use borrow.Author.Rules.{rules}
-use Rattle.incidence.proofs.Candidates.{flag_le}
-use Rattle.dump.proofs.Showing.{PassedFrom, passed_none, passed_room, passed_next, passed_all}
+use Rattle.std.proofs.Common.{◌*◌}
+use Rattle.dump.proofs.Showing.{PassedFrom}
 use Rattle.dump.proofs.vertex_byte.Given as goal
 
 abbrev pub invariant-loop-k : goal.invariant-loop-k

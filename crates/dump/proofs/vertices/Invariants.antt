@@ -1,8 +1,6 @@
 -- `dump::vertices` meets its contract.
-use Prim.Native.Nat.{◌-◌}
-use native.Mathlib.Omega.{arith}
+use Rattle.std.proofs.Common.{◌-◌}
 use Rattle.dump.specs.Shown.{Vertices}
-use Rattle.dump.proofs.Showing.{bytes_none, bytes_next, bytes_all}
 use Rattle.dump.proofs.vertices.Given as goal
 
 abbrev pub invariant-loop-j : goal.invariant-loop-j

@@ -1,8 +1,5 @@
 -- `listing::odd_parity` is safe and ends.
-use Prim.Native.Nat.{◌≤◌, ◌-◌}
-use mathlib.Core.Path.{◌≡◌, refl}
-use native.Mathlib.Omega.{arith}
-use lib.ListN.{length, length-set}
+use Rattle.std.proofs.Common.{◌≡◌, ◌≤◌, ◌-◌, length}
 use Rattle.listing.proofs.odd_parity.Given as goal
 
 abbrev pub invariant-loop-v : goal.invariant-loop-v

@@ -1,8 +1,5 @@
 -- `listing::words` is safe and ends.
-use Prim.Native.Nat.{◌≤◌, ◌-◌}
-use mathlib.Core.Path.{◌≡◌, refl}
-use native.Mathlib.Omega.{arith}
-use lib.ListN.{length, length-set}
+use Rattle.std.proofs.Common.{◌≡◌, ◌≤◌, ◌-◌, length}
 use Rattle.listing.proofs.words.Given as goal
 
 abbrev pub invariant-loop-i : goal.invariant-loop-i
