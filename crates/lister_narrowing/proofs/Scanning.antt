@@ -73,7 +73,7 @@ forced_or rows s free a b f g c m =
 pub record Passed (rows : List ℕ) (s free n : ℕ) (common : List ℕ) (owners unmet forced : ℕ) : Type 0 where
   pub size : length common ≡ 64
   pub shared : (b : ℕ) → Common rows n s b (get_or common b 0)
-  pub private_rows_lem : PrivatesOf rows n s owners
+  pub private_rows : PrivatesOf rows n s owners
   pub unmet_rows : Unmet rows n s unmet
   pub must : Forced rows s free forced
 
@@ -82,7 +82,7 @@ unfolding Common
 passed_none rows s free common l = record {
   size = l;
   shared = λ b k lt. absurd (omega arith);
-  private_rows_lem = privates_none rows s;
+  private_rows = privates_none rows s;
   unmet_rows = unmet_none rows s;
   must = forced_none rows s free;
 }
@@ -95,7 +95,7 @@ module _ (rows : List ℕ) (s free n : ℕ) (common : List ℕ) (owners unmet fo
   passed_open lt z r o = record {
     size = h.size;
     shared = λ b. common_skip rows n s b (get_or common b 0) (h.shared b) (λ e. power_not_zero (bit_and (get_or rows n 0) s) b z e);
-    private_rows_lem = privates_skip rows n s owners h.private_rows_lem (λ one. power_not_zero (bit_and (get_or rows n 0) s) one.0 z one.1);
+    private_rows = privates_skip rows n s owners h.private_rows (λ one. power_not_zero (bit_and (get_or rows n 0) s) one.0 z one.1);
     unmet_rows = unmet_more rows n s unmet h.unmet_rows;
     must = forced_or rows s free forced r h.must (⊎_elim
         (λ q. subst (Forced rows s free) (sym q.0) (forced_none rows s free))
@@ -115,7 +115,7 @@ module _ (rows : List ℕ) (s free n : ℕ) (common : List ℕ) (owners unmet fo
         (λ (q : b ≡ k → ⊥). subst (Common rows (n + 1) s b) (sym (get_or-set_other common k b a 0 q))
         (common_skip rows n s b (get_or common b 0) (h.shared b) (λ f. q (pow_only b k (sym (ap (digit b) (sym f ∙ e)) ∙ pow_here b)))))
         (eq? b k);
-    private_rows_lem = privates_take rows n s owners h.private_rows_lem (k, e);
+    private_rows = privates_take rows n s owners h.private_rows (k, e);
     unmet_rows = unmet_met rows n s unmet h.unmet_rows (λ z. power_not_zero (bit_and (get_or rows n 0) s) k z e);
     must = h.must;
   }
@@ -129,7 +129,7 @@ module _ (rows : List ℕ) (s free n : ℕ) (common : List ℕ) (owners unmet fo
   passed_shared z d = record {
     size = h.size;
     shared = λ b. common_skip rows n s b (get_or common b 0) (h.shared b) (λ e. d (b, e));
-    private_rows_lem = privates_skip rows n s owners h.private_rows_lem d;
+    private_rows = privates_skip rows n s owners h.private_rows d;
     unmet_rows = unmet_met rows n s unmet h.unmet_rows z;
     must = h.must;
   }
@@ -142,7 +142,7 @@ module _ (rows : List ℕ) (s free n : ℕ) (common : List ℕ) (owners unmet fo
       let e : n ≡ length rows = omega arith in
       record {
         none = λ f. absurd (true_is_not_false (sym f));
-        owners = λ f. privates_done rows n s owners e h.private_rows_lem;
+        owners = λ f. privates_done rows n s owners e h.private_rows;
         unmet = λ f. unmet_all rows n s unmet e h.unmet_rows;
         forced = λ f. h.must;
         taken = λ f c m.

@@ -1,16 +1,10 @@
 -- `eight_rows::is_accepted` meets its contract.
-use Prim.Native.Nat.{◌+◌}
+use Prim.Native.Nat.{◌+◌, ◌≤◌}
 use native.Mathlib.Omega.{arith}
 use lib.Dec.{ltb→lt}
 use lib.Pow.{pow_mono}
 use Rattle.eight_rows.proofs.EightRows.{eight_at}
 use Rattle.eight_rows.proofs.is_accepted.Goals as goal
-
-pub returns-then-job-at-lt18 : goal.returns-then-job-at-lt18
-returns-then-job-at-lt18 c = λ t. absurd t
-
-pub returns-then-job-at-ne66 : goal.returns-then-job-at-ne66
-returns-then-job-at-ne66 c = λ t. absurd t
 
 pub bound-requires : goal.bound-requires
 bound-requires c = c.requires.n_bound.0
@@ -18,20 +12,11 @@ bound-requires c = c.requires.n_bound.0
 pub overflow_add-v : goal.overflow_add-v
 overflow_add-v c = omega (arith, c.wide-v.ensures, c.type_inv.job (c.args.at + 1))
 
-pub returns-then-bound-v : goal.returns-then-bound-v
-returns-then-bound-v c = λ t. absurd t
-
 pub given_from-requires : goal.given_from-requires
 given_from-requires c = omega (arith, c.if-bound-v.false, c.bound.ensures, pow_mono c.requires.n_bound.0)
 
-pub returns-then-given_from-gt0 : goal.returns-then-given_from-gt0
-returns-then-given_from-gt0 c = λ t. absurd t
-
 pub shared-requires : goal.shared-requires
 shared-requires c = omega (arith, c.if-job-at-lt18.false)
-
-pub returns-then-shared-gt0 : goal.returns-then-shared-gt0
-returns-then-shared-gt0 c = λ t. absurd t
 
 pub used-requires : goal.used-requires
 used-requires c = omega (arith, c.if-job-at-lt18.false)
@@ -40,8 +25,10 @@ pub bound-requires-2 : goal.bound-requires-2
 bound-requires-2 c = c.requires.n_bound.1
 
 pub returns : goal.returns
-returns c t = let a = c.args in
+returns c t =
+    let a = c.args in
+    let none_given : c.given_from.result ≤ 0 = omega arith in
     eight_at a.s a.given.now a.job.now a.at c.if-job-at-lt18.false c.if-job-at-ne66.false c.wide-v.ensures
     c.bound.ensures c.requires.n_bound.0 c.if-bound-v.false
-    c.given_from.ensures c.if-given_from-gt0.false c.shared.ensures c.if-shared-gt0.false c.used.ensures
+    c.given_from.ensures none_given c.shared.ensures c.if-shared-gt0.false c.used.ensures
     c.bound-2.ensures (omega (arith, ltb→lt c.wide.result c.bound-2.result t, c.wide.ensures))

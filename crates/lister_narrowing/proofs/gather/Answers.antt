@@ -29,7 +29,7 @@ loop-i-preserved c =
       search rules,
       elim c.if-own-eq0.branch [
         | then-own-eq0+else-open-eq0 w ↦ passed_as w.common-is w.owners-is w.unmet-is w.forced-is
-            (passed_open _ _ _ _ _ _ _ _ inv (omega arith) w.if-own-eq0.true _ w.only-forced.ensures)
+            (passed_open _ _ _ _ _ _ _ _ inv (omega arith) w.if-own-eq0.true _ (search rules))
         | else-own-eq0+then-is_single w ↦ passed_as w.common-is w.owners-is w.unmet-is w.forced-is
             (passed_own _ _ _ _ _ _ _ _ inv _ w.index-k.ensures.small w.index-k.ensures.is)
         | else-own-eq0+else-is_single w ↦ passed_as w.common-is w.owners-is w.unmet-is w.forced-is

@@ -24,17 +24,20 @@ slice_bounds-put_number-count-2 c =
 
 pub put_number-requires-2 : goal.put_number-requires-2
 put_number-requires-2 c =
+    let room : 11 ≤ length c.args.free.now = omega arith in
     let first : InFront (0x63 ∷ low 2 c.args.cost) 3 (c.args.free.now) ((Whole (0x63 ∷ []) (c.args.free.now) c.put_number.new.free)) = headed (0x63 ∷ []) (c.args.free.now) _ _ 2 (omega arith) c.put_number.ensures in
-    room_behind _ _ _ _ (first) 8 c.if-free-lt11.false
+    room_behind _ _ _ _ (first) 8 room
 
 pub shape_of-free : goal.shape_of-free
 shape_of-free c =
+    let room : 11 ≤ length c.args.free.now = omega arith in
     let first : InFront (0x63 ∷ low 2 c.args.cost) 3 (c.args.free.now) ((Whole (0x63 ∷ []) (c.args.free.now) c.put_number.new.free)) = headed (0x63 ∷ []) (c.args.free.now) _ _ 2 (omega arith) c.put_number.ensures in
     let all : InFront (0x63 ∷ (low 2 c.args.cost ++ low 8 c.args.set)) 11 (c.args.free.now) (put_mid 3 (length ((Whole (0x63 ∷ []) (c.args.free.now) c.put_number.new.free)) - 3) ((Whole (0x63 ∷ []) (c.args.free.now) c.put_number.new.free)) c.put_number-2.new.free) = let h : 3 ≤ length (c.args.free.now) = omega arith in behind _ _ _ 3 (first) _ _ 8 h c.put_number-2.ensures in
-    same_long _ _ _ _ (all) c.if-free-lt11.false
+    same_long _ _ _ _ (all) room
 
 pub returns : goal.returns
 returns c =
+    let room : 11 ≤ length c.args.free.now = omega arith in
     let first : InFront (0x63 ∷ low 2 c.args.cost) 3 (c.args.free.now) ((Whole (0x63 ∷ []) (c.args.free.now) c.put_number.new.free)) = headed (0x63 ∷ []) (c.args.free.now) _ _ 2 (omega arith) c.put_number.ensures in
     let all : InFront (0x63 ∷ (low 2 c.args.cost ++ low 8 c.args.set)) 11 (c.args.free.now) (put_mid 3 (length ((Whole (0x63 ∷ []) (c.args.free.now) c.put_number.new.free)) - 3) ((Whole (0x63 ∷ []) (c.args.free.now) c.put_number.new.free)) c.put_number-2.new.free) = let h : 3 ≤ length (c.args.free.now) = omega arith in behind _ _ _ 3 (first) _ _ 8 h c.put_number-2.ensures in
-    written _ _ _ _ c.if-free-lt11.false (all)
+    written _ _ _ _ room (all)
