@@ -247,7 +247,7 @@ class Function:
             first, after = bracket(text, m.end() - 1)
             m2 = re.match(r"\s*\(", text[after:])
             if not m2:
-                return text.replace("⊎_elim", "⊎_ELIM", 1) if False else self.kept(text)
+                return self.kept(text)
             second, after = bracket(text, after + m2.end() - 1)
             m3 = re.match(r"\s*(" + W + r")((?:\." + W + r")*)\.branch(?![^\s(){};,\]])", text[after:])
             if not m3 or m3.group(1) not in heads:
@@ -546,7 +546,6 @@ def turn_file(root, crate, rel, names, clauses):
                 body = turned_tuple(fn, body, fn.labels("ensures", fn.label))
             problems += [f"{new}: {p}" for p in fn.problems]
             answers.append(f"{lead}pub {new} : goal.{new}\n{unfolding}{new} {' '.join(params)} ={body.rstrip()}")
-            rename.append((name, new)) if False else None
             renames[name] = new
         elif inv:
             kind = {"Inv": "invariant", "μ": "decreases"}.get(inv.group(1), inv.group(1))
@@ -635,8 +634,8 @@ def turn_file(root, crate, rel, names, clauses):
         print(f"look: {crate}/{rel}: {p}")
 
 
+# what an answer of the file at hand was called, and is called now
 renames = {}
-rename = []
 
 
 def main():
