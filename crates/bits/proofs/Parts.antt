@@ -5,6 +5,7 @@ use mathlib.Core.Logic.{◌⊎◌, inl, inr, ⊎_elim}
 use Prim.Native.Nat.{ℕ, zero, suc, ◌+◌, ◌-◌, ◌*◌, ◌/◌, ◌%◌, ◌^◌, ◌≤◌, ◌<◌, min}
 use native.Mathlib.Nat.{pow-suc}
 use native.Mathlib.Omega.{arith}
+use native.Mathlib.Decide.{dec_lt}
 use lib.Arith.{bin_ind}
 use lib.Bits.{bit_and, bit_or, bit_xor, differ, and_le_l, and_le_r, and_step}
 use lib.Count.{ones, ones_step}
@@ -178,6 +179,15 @@ minus_member_less x m r h d =
     let g : digit b m ≡ 1 = ap (digit b) w.1 ∙ pow_here b in
     let le : r ≤ x = part_le r x (minus_part x m r d) in
     ⊎_elim (λ e. absurd (omega (arith, d b, w.2, ap (digit b) e))) (λ n. omega arith) (eq? r x)
+
+-- and one member fewer, at least
+pub minus_member_ones : (x m r : ℕ) → Member x m → Minus x m r → ones r < ones x
+minus_member_ones x m r h d = elim (dec_lt (ones r) (ones x)) [
+  | yes l ↦ l
+  | no g ↦
+      let e : r ≡ x = part_whole r x (minus_part x m r d) (omega arith) in
+      absurd (omega (arith, minus_member_less x m r h d))
+]
 
 -- ---- parts of an `and` and of an `or`, and disjoint sets
 

@@ -1,5 +1,5 @@
 -- What the contracts on bits cite: a number's bits as numbers, and sets as numbers whose bits are the members.
-use Rattle.std.specs.Prelude.{◌≡◌, Bool, true, false, cond, ℕ, suc, ◌+◌, ◌-◌, ◌*◌, ◌/◌, ◌%◌, ◌^◌, ◌≤◌, ◌<◌, ltb}
+use Rattle.std.specs.Prelude.{◌≡◌, Bool, true, false, cond, ℕ, suc, ◌+◌, ◌-◌, ◌*◌, ◌/◌, ◌%◌, ◌^◌, ◌≤◌, ◌<◌, ltb, Option, Some, None}
 use Rattle.std.specs.Int.Bits.{bit_and}
 use Rattle.std.specs.Int.Count.{ones}
 
@@ -38,6 +38,16 @@ pub record Highest (x m : ℕ) : Type 0 where
 pub record Lowest (x m : ℕ) : Type 0 where
   pub member : Member x m
   pub least : (b : ℕ) → digit b x ≡ 1 → m ≤ 2 ^ b
+
+-- s gave its lowest member m, and t has the others
+pub record Taken (s m t : ℕ) : Type 0 where
+  pub lowest : Lowest s m
+  pub others : Minus s m t
+
+-- the same, or s has no member, and t none
+abbrev pub TakesLowest : ℕ → Option ℕ → ℕ → Type 0
+TakesLowest s (Some m) t = Taken s m t
+TakesLowest s None t = (s ≡ 0) × (t ≡ 0)
 
 -- m has the one member i
 pub record Index (m i : ℕ) : Type 0 where

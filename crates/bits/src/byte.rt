@@ -3,14 +3,10 @@ ghost use Rattle.std.specs.Prelude.{◌≡◌, ◌^◌, ◌≤◌, ◌<◌, eqb}
 ghost use Rattle.std.specs.Int.Bits.{bit_and};
 ghost use Rattle.model.specs.Base.{bit};
 
-// A byte as a number that counts.
-pub fn wide(x: u8) -> usize
-    ensures { result ≡ x }
-{
-    x as usize
-}
+use crate::set;
 
-// 2^i as a byte.
+// 2^i as a byte. A twin of `set::power` and of `bound`: each is one shift at its own width, and a generic one would have to say so of every
+// width.
 pub fn power(i: u8) -> u8
     requires { i < 8 }
     ensures { result ≡ 2 ^ i }
@@ -26,12 +22,12 @@ pub fn bound(k: u8) -> usize
     1usize << k
 }
 
-// Whether s has bit i.
+// Whether s has bit i: `set::has` for a byte, since a generic one would have to say in its contract what number a T is.
 pub fn has(s: u8, i: u8) -> bool
     requires { i < 8 }
     ensures { result ≡ bit i s }
 {
-    (s >> i) & 1 == 1
+    set::has(u64::from(s), u64::from(i))
 }
 
 // Whether each bit of a is one of b.

@@ -17,7 +17,7 @@ pub fn low_mask(i: u64) -> u64
     ensures { result ≡ 2 ^ i - 1 }
 {
     if i == 64 {
-        return 0xffff_ffff_ffff_ffff;
+        return u64::MAX;
     }
     power(i) - 1
 }
@@ -30,14 +30,11 @@ pub fn has(s: u64, i: u64) -> bool
     (s >> i) & 1 == 1
 }
 
-// Whether x has exactly one member.
+// Whether x has exactly one member. (`is_power_of_two` would say it by the number of ones, and the laws of sets speak of the members.)
 pub fn is_single(x: u64) -> bool
     ensures { Decides (Single x) result }
 {
-    if x == 0 {
-        return false;
-    }
-    x & (x - 1) == 0
+    x != 0 && x & (x - 1) == 0
 }
 
 // The members of a that are not in b.
@@ -55,12 +52,46 @@ pub fn lowest(x: u64) -> u64
     minus(x, x - 1)
 }
 
+// The members of a set, each as a set of one, lowest first: those of rest are still to come.
+#[derive(Clone, Copy, Debug, PartialEq, Eq)]
+pub struct MembersIter {
+    pub rest: u64,
+}
+
+// The members of x.
+pub fn members(x: u64) -> MembersIter
+    ensures { result.rest ≡ x }
+{
+    MembersIter { rest: x }
+}
+
+impl Iterator for MembersIter {
+    ghost use Rattle.std.specs.Iterator.{at_most};
+    ghost use Rattle.std.specs.Int.Count.{ones};
+    ghost use Rattle.bits.specs.Bits.{TakesLowest};
+
+    type Item = u64;
+
+    ghost next_gives = { λ s r t. TakesLowest s.rest r t.rest };
+
+    ghost remaining = { λ s. at_most (ones s.rest) };
+
+    fn next(&mut self) -> Option<u64> {
+        if self.rest == 0 {
+            return None;
+        }
+        let m = lowest(self.rest);
+        self.rest = minus(self.rest, m);
+        Some(m)
+    }
+}
+
 // The highest member of x.
 pub fn highest(x: u64) -> u64
     requires { 0 < x }
     ensures { Highest x result }
 {
-    power((63 - u64::leading_zeros(x)) as u64)
+    power(u64::from(63 - x.leading_zeros()))
 }
 
 // The index of the one member of m.
@@ -68,17 +99,19 @@ pub fn index(m: u64) -> usize
     requires { Single m }
     ensures { Index m result }
 {
-    u64::trailing_zeros(m) as usize
+    m.trailing_zeros() as usize
 }
 
 // The one of x and y that has fewer members, x where they have as many.
+#[tactic(auto, unfolding(crate::specs::Bits::fewer))]
 pub fn fewer(x: u64, y: u64) -> u64
     ensures { result ≡ fewer x y }
 {
-    if u64::count_ones(y) < u64::count_ones(x) {
-        return y;
+    if y.count_ones() < x.count_ones() {
+        y
+    } else {
+        x
     }
-    x
 }
 
 // The set s without member k, those above it moved down by one.

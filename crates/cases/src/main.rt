@@ -26,18 +26,23 @@ fn show(rt: &(impl Files + Print + Eprint + Alloc), path: &str) -> io::Result<()
 }
 
 fn main(rt: HostRuntime) -> io::Result<()> {
-    show(&rt, "case_a_b.job")?;
-    show(&rt, "case_c.job")?;
-    show(&rt, "case_d.job")?;
-    show(&rt, "case_e.job")?;
-    show(&rt, "case_f.job")?;
-    show(&rt, "case_g.job")?;
-    show(&rt, "case_h.job")?;
-    show(&rt, "parity_7.job")?;
-    show(&rt, "parity_8.job")?;
-    show(&rt, "ready_made.job")?;
-    show(&rt, "price_ranges.job")?;
-    show(&rt, "no_bytes.job")?;
-    show(&rt, "longest.job")?;
-    show(&rt, "too_long.job")
+    for path in [
+        "case_a_b.job",
+        "case_c.job",
+        "case_d.job",
+        "case_e.job",
+        "case_f.job",
+        "case_g.job",
+        "case_h.job",
+        "parity_7.job",
+        "parity_8.job",
+        "ready_made.job",
+        "price_ranges.job",
+        "no_bytes.job",
+        "longest.job",
+        "too_long.job",
+    ] {
+        show(&rt, path)?;
+    }
+    Ok(())
 }

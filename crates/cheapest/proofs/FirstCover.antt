@@ -1,14 +1,10 @@
 -- The least cost, and how the members of the first cover of that cost are found from the top.
-use mathlib.Core.Path.{◌≡◌, refl, sym, ap, ◌∙◌, subst}
-use mathlib.Core.Logic.{inl, inr, ⊎_elim}
-use mathlib.Core.List.{List}
-use Prim.Native.Nat.{ℕ, ◌+◌, ◌-◌, ◌*◌, ◌/◌, ◌%◌, ◌^◌, ◌≤◌, ◌<◌}
+use Rattle.std.proofs.Common.{◌≡◌, refl, sym, ap, ◌∙◌, subst, inl, inr, ⊎_elim, List, ℕ, ◌+◌, ◌-◌, ◌*◌, ◌/◌, ◌%◌, ◌^◌, ◌≤◌, ◌<◌, arith, length, get_or, pow_pos, pow_mono, bit_and, bit_or}
+use Rattle.std.proofs.lemmas.Nat.{or_shifted, or_disjoint}
 use native.Mathlib.Nat.{zero-mod}
 use native.Mathlib.Decide.{dec_lt}
-use native.Mathlib.Omega.{arith}
-use lib.ListN.{length, get_or}
-use lib.Pow.{pow_pos, pow_mono, split}
-use lib.Bits.{bit_and, bit_or, and_shifted, or_shifted, or_disjoint}
+use lib.Pow.{split}
+use lib.Bits.{and_shifted}
 use Rattle.cheapest_bounds.specs.declared.costs.Incumbent.{Incumbent}
 use Rattle.bits.specs.Bits.{digit, Single, Part, Minus, Member}
 use Rattle.rows.specs.Covers.{Cover, Between, Node}
@@ -222,9 +218,6 @@ module _ (rows costs : List ℕ) (n i s cost w m : ℕ) (best : Incumbent) (h : 
       reaches = p.reaches;
       first = λ t lt c k. let lo : s + 2 ^ (i - 1) ≤ t = needed not t c k (p.first t lt c k) in omega arith;
     }
-
-pub left_over : {i : ℕ} → (i ≡ 0 → ⊥) → 0 < i
-left_over h = omega arith
 
 pub power_single : (m i : ℕ) → m ≡ 2 ^ i → Single m
 unfolding Single

@@ -1,13 +1,7 @@
 -- The cost and the cheapest cover by rows are crate model's.
-use mathlib.Core.Path.{◌≡◌, refl, sym, ap, ◌∙◌, subst}
-use mathlib.Core.Logic.{◌⊎◌, inl, inr}
-use mathlib.Core.Bool.{not, cond}
-use mathlib.Core.List.{List, [], ◌∷◌, map}
-use Prim.Native.Nat.{ℕ, ◌+◌, ◌-◌, ◌*◌, ◌/◌, ◌%◌, ◌^◌, ◌≤◌, ◌<◌}
-use native.Mathlib.Omega.{arith}
-use lib.Dec.{T, not_T}
-use lib.Pow.{pow_pos}
-use lib.ListN.{length, get_or}
+use Rattle.std.specs.Prelude.{Some, None}
+use Rattle.std.proofs.Common.{◌≡◌, refl, sym, ap, ◌∙◌, subst, ◌⊎◌, inl, inr, not, cond, List, [], ◌∷◌, map, ℕ, ◌+◌, ◌-◌, ◌*◌, ◌/◌, ◌%◌, ◌^◌, ◌≤◌, ◌<◌, arith, T, pow_pos, length, get_or}
+use lib.Dec.{not_T}
 use Rattle.model.specs.Base.{bit, sum}
 use Rattle.model.specs.Sets.{members, of_rows, coverable, cost}
 use Rattle.model.specs.Sets as model
@@ -16,8 +10,6 @@ use Rattle.model.proofs.Bits.{bit0_e, bit0_n}
 use Rattle.model.proofs.Sets.{cover_all}
 use Rattle.model.proofs.Cheapest.{least_is_best}
 use Rattle.model.proofs.Matrix.{sum_index}
-use Rattle.cheapest.specs.declared.search.Optimum.TheVariants.{Nothing}
-use Rattle.cheapest.specs.declared.search.Optimum.TheVariants as found
 use Rattle.rows.specs.Covers.{Cover}
 use Rattle.cheapest_bounds.specs.Costs.{cost_of}
 use Rattle.cheapest.specs.Optimum.{Cheapest, Optimal}
@@ -53,14 +45,14 @@ module _ (rows costs : List ℕ) where
   small s l = subst (λ (n : ℕ). s < 2 ^ n) (of_rows_size costs rows) l
 
   -- no set of candidates is a cover, so all of them is none
-  pub optimal_none : ((t : ℕ) → t < 2 ^ length costs → Cover rows t → ⊥) → Optimal rows costs Nothing
+  pub optimal_none : ((t : ℕ) → t < 2 ^ length costs → Cover rows t → ⊥) → Optimal rows costs None
   unfolding Optimal
   optimal_none f = not_T (coverable (of_rows costs rows)) (λ h.
       let n : ℕ = length (of_rows costs rows).cands in
       let l : 2 ^ n - 1 < 2 ^ n = omega (arith, pow_pos n) in
       f (2 ^ n - 1) (small (2 ^ n - 1) l) (cover_to costs rows (2 ^ n - 1) (cover_all (of_rows costs rows) h)))
 
-  pub optimal_cover : (c s : ℕ) → length costs ≤ 64 → ((k : ℕ) → get_or costs k 0 < 65536) → Cheapest rows costs (length costs) c s → Optimal rows costs (found.Cover s c)
+  pub optimal_cover : (c s : ℕ) → length costs ≤ 64 → ((k : ℕ) → get_or costs k 0 < 65536) → Cheapest rows costs (length costs) c s → Optimal rows costs (Some (record { cost = c; set = s }))
   unfolding Optimal
   optimal_cover c s l lt h = (
     subst (λ (x : ℕ). model.Best (of_rows costs rows) x s) (cost_is costs rows s ∙ h.cost_is)

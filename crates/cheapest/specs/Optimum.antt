@@ -1,8 +1,6 @@
 -- The cheapest cover, and the least cost.
-use Rattle.std.specs.Prelude.{◌≡◌, List, not, ◌⊎◌, ℕ, ◌+◌, ◌^◌, ◌≤◌, ◌<◌, length, T}
-use Rattle.cheapest.specs.declared.search.Optimum.{Optimum}
-use Rattle.cheapest.specs.declared.search.Optimum.TheVariants.{Cover as AtCover, Nothing}
-use Rattle.cheapest_bounds.specs.declared.costs.Incumbent.{Incumbent}
+use Rattle.std.specs.Prelude.{◌≡◌, List, not, ◌⊎◌, ℕ, ◌+◌, ◌^◌, ◌≤◌, ◌<◌, length, T, Option, Some, None}
+pub use Rattle.cheapest_bounds.specs.declared.costs.Incumbent.{Incumbent}
 use Rattle.model.specs.Sets.{of_rows, coverable}
 use Rattle.model.specs.Sets as model
 use Rattle.rows.specs.Covers.{Cover}
@@ -29,11 +27,10 @@ pub record Valued (rows costs : List ℕ) (s free : ℕ) (best r : Incumbent) : 
   pub found : (r ≡ best) ⊎ (Attained rows costs s free r × (r.cost < best.cost))
   pub least : (t : ℕ) → CoverBetween rows s free t → r.cost ≤ cost_of costs t
 
--- r is a cover between s and s | free that costs less than limit; or its cost is limit, and none there costs less
-pub record Below (rows costs : List ℕ) (s free limit : ℕ) (r : Incumbent) : Type 0 where
-  pub within : r.cost ≤ limit
-  pub found : r.cost < limit → Attained rows costs s free r
-  pub none : limit ≤ r.cost → (t : ℕ) → CoverBetween rows s free t → limit ≤ cost_of costs t
+-- a cover between s and s | free that costs less than limit, and its cost; nothing only where none there costs less
+unfoldable pub Below : List ℕ → List ℕ → ℕ → ℕ → ℕ → Option Incumbent → Type 0
+Below rows costs s free limit (Some b) = Attained rows costs s free b × (b.cost < limit)
+Below rows costs s free limit None = (t : ℕ) → CoverBetween rows s free t → limit ≤ cost_of costs t
 
 -- best is a cover below 2^n, and none costs less
 pub record LeastCost (rows costs : List ℕ) (n : ℕ) (best : Incumbent) : Type 0 where
@@ -50,7 +47,7 @@ pub record Cheapest (rows costs : List ℕ) (n c s : ℕ) : Type 0 where
   pub least : (t : ℕ) → t < 2 ^ n → Cover rows t → c ≤ cost_of costs t
   pub first : (t : ℕ) → t < 2 ^ n → Cover rows t → cost_of costs t ≡ c → s ≤ t
 
--- the cheapest cover and its cost, or that the candidates together are none
-unfoldable pub Optimal : List ℕ → List ℕ → Optimum → Type 0
-Optimal rows costs (AtCover s c) = model.Best (of_rows costs rows) c s × (c < 2 ^ 22)
-Optimal rows costs Nothing = T (not (coverable (of_rows costs rows)))
+-- the cheapest cover and its cost; nothing where the candidates together are none
+unfoldable pub Optimal : List ℕ → List ℕ → Option Incumbent → Type 0
+Optimal rows costs (Some b) = model.Best (of_rows costs rows) b.cost b.set × (b.cost < 2 ^ 22)
+Optimal rows costs None = T (not (coverable (of_rows costs rows)))

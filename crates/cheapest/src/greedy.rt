@@ -16,18 +16,20 @@ fn greedy(rows: &[u64], costs: &[u16], free: u64) -> u64
 {
     let mut s: u64 = 0;
     let mut rest = free;
+    // The candidates come by their gain and not by their number, so no iterator over the members gives them.
     while rest != 0 {
         if covering::covers(rows, s) {
             return s;
         }
         let m = branching::most_effective(rows, costs, s, rest);
-        s = s | m;
+        s |= m;
         rest = set::minus(rest, m);
     }
     s
 }
 
-// The greedy cover and its cost, or, where it is no cover, a cost that no set has. Which of the two is left open.
+// The greedy cover and its cost, or, where it is no cover, a cost that no set has: either is a bound for the search to start from, so it is no
+// Option. Which of the two is left open.
 pub fn start(rows: &[u64], costs: &[u16], free: u64) -> Incumbent
     requires { length costs.now ≤ 64 }
     ensures { Known rows.now costs.now free result }

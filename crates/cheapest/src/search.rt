@@ -7,17 +7,12 @@ use crate::greedy;
 use bits::set;
 use cheapest_bounds::costs::Incumbent;
 use cheapest_bounds::{costs, units};
-use cheapest_nodes::plan;
+use cheapest_nodes::node::Node;
 use cheapest_nodes::plan::Next;
 
-// The cheapest cover and its cost, or that there is no cover.
-#[derive(Clone, Copy)]
-pub enum Optimum {
-    Cover(u64, u64),
-    Nothing,
-}
-
 // The cheapest cover between s and s | free if it costs less than best, else best. cost is that of s, and unit measures the costs.
+// best is a bound to stay below, whether a cover is known or not, so it and the result are no Options. What is asked is named for this function
+// in docs/DECISIONS.md, so it takes the parts of a node one by one.
 pub fn value(
     rows: &[u64],
     costs: &[u16],
@@ -33,10 +28,16 @@ pub fn value(
     ensures { Valued rows.now costs.now s free best result }
 {
     let limit = units::limit_below(best.cost, unit);
-    let next = plan::plan(rows, costs, s, free, cost, limit);
-    match next {
+    let node = Node {
+        rows,
+        costs,
+        s,
+        free,
+        cost,
+    };
+    match node.plan(limit) {
         Next::Cut => best,
-        Next::Done => Incumbent { cost: cost, set: s },
+        Next::Done => Incumbent { cost, set: s },
         Next::Split(useful, part) => {
             // With all of other taken only part's rows are left; the bound is as far above the cost as best is.
             let other = set::minus(useful, part);
@@ -73,9 +74,7 @@ fn first(rows: &[u64], costs: &[u16], unit: u64, n: u64, best: Incumbent) -> u64
     let mut s: u64 = 0;
     let mut cost: u64 = 0;
     let mut witness = best.set;
-    let mut i = n;
-    while i != 0 {
-        i -= 1;
+    for i in (0..n).rev() {
         let m = set::power(i);
         if witness & m != 0 {
             let limit = Incumbent {
@@ -86,16 +85,16 @@ fn first(rows: &[u64], costs: &[u16], unit: u64, n: u64, best: Incumbent) -> u64
             if without.cost == best.cost {
                 witness = without.set;
             } else {
-                cost = cost + costs::price(costs, m);
-                s = s + m;
+                cost += costs::price(costs, m);
+                s += m;
             }
         }
     }
     s
 }
 
-// The cover of least cost, and of these the least number, with its cost; candidates are as many as costs.
-pub fn cheapest(rows: &[u64], costs: &[u16]) -> Optimum
+// The cover of least cost, and of these the least number, with its cost, where there is a cover; candidates are as many as costs.
+pub fn cheapest(rows: &[u64], costs: &[u16]) -> Option<Incumbent>
     requires rows_len_bound { length rows.now ≤ 2048 }
     requires costs_len_bound { length costs.now ≤ 64 }
     ensures { Optimal rows.now costs.now result }
@@ -113,8 +112,11 @@ pub fn cheapest(rows: &[u64], costs: &[u16]) -> Optimum
         greedy::start(rows, costs, free),
     );
     if best.cost == costs::NO_COST {
-        return Optimum::Nothing;
+        return None;
     }
-    let s = first(rows, costs, unit, n, best);
-    Optimum::Cover(s, best.cost)
+    let set = first(rows, costs, unit, n, best);
+    Some(Incumbent {
+        cost: best.cost,
+        set,
+    })
 }

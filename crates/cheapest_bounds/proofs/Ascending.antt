@@ -1,15 +1,9 @@
 -- What rows charge their members: one entry, one row, the rows in turn; and the candidates that have too much left.
-use mathlib.Core.Path.{◌≡◌, refl, sym, ap, ◌∙◌, subst}
-use mathlib.Core.Logic.{⊎_elim}
-use mathlib.Core.List.{List, [], ◌∷◌}
-use Prim.Native.Nat.{ℕ, zero, suc, ◌+◌, ◌-◌, ◌*◌, ◌/◌, ◌%◌, ◌^◌, ◌≤◌, ◌<◌}
-use native.Mathlib.Nat.{one-mul, zero-mul, mod-eq_of_lt}
+use Rattle.std.proofs.Common.{◌≡◌, refl, sym, ap, ap₂, ◌∙◌, subst, ⊎_elim, List, [], ◌∷◌, ◌++◌, ℕ, zero, suc, ◌+◌, ◌-◌, ◌*◌, ◌/◌, ◌%◌, ◌^◌, ◌≤◌, ◌<◌, one-mul, zero-mul, mod-eq_of_lt, arith, length, get_or, set, replicate, length-set, length-append, get_or-set_other, bit_and}
+use Rattle.std.proofs.lemmas.Nat.{and_mask}
+use Rattle.std.proofs.lemmas.List.{length-replicate, get_or-replicate}
 use native.Mathlib.Decide.{dec_lt}
-use native.Mathlib.Omega.{arith}
-use borrow.Author.Count.{below_more}
-use lib.ListN.{length, get_or, get_or-eq_default, set, replicate, length-set, length-replicate, get_or-replicate}
-use lib.Seq.{get_or-set_same, get_or-set_other}
-use lib.Bits.{bit_and, and_mask}
+use lib.ListN.{get_or-eq_default}
 use Rattle.cheapest_bounds.specs.declared.ascent.Duals.{Duals}
 use Rattle.bits.specs.Bits.{digit, Single, Part, Minus, Member, Index}
 use Rattle.cheapest_bounds.specs.Costs.{cost_of, no_cost, Price, Floor}
@@ -175,44 +169,19 @@ cost_zeros (w ∷ ws) t z =
     let o : t % 2 ≡ 0 = omega arith in
     omega (arith, cost_zeros ws (t / 2) (λ k. z (suc k)), ap (λ (d : ℕ). d * w) o, zero-mul w)) (eq? (t % 2) 1)
 
--- the same entries make the same cost
-cost_same : (a b : List ℕ) (t : ℕ) → ((k : ℕ) → get_or a k 0 ≡ get_or b k 0) → cost_of a t ≡ cost_of b t
+-- 0 behind the costs changes no cost
+cost_padded : (costs : List ℕ) (n t : ℕ) → cost_of (costs ++ replicate n 0) t ≡ cost_of costs t
 unfolding cost_of
-cost_same [] b t h = sym (cost_zeros b t (λ k. sym (h k)))
-cost_same (v ∷ vs) [] t h = cost_zeros (v ∷ vs) t h
-cost_same (v ∷ vs) (w ∷ ws) t h =
-    let first : v ≡ w = h 0 in
-    omega (arith, ap (λ (x : ℕ). t % 2 * x) first, cost_same vs ws (t / 2) (λ k. h (suc k)))
+cost_padded [] n t = cost_zeros (replicate n 0) t (λ k. elim (dec_lt k n) [
+  | yes lt ↦ get_or-replicate n k 0 0 lt
+  | no ge ↦ get_or-eq_default (replicate n 0) 0 {n = k} (omega (arith, length-replicate {A = ℕ} n 0))
+])
+cost_padded (w ∷ ws) n t = omega (arith, cost_padded ws n (t / 2))
 
--- the first i entries are the costs', the others are 0
-pub record Padding (costs left : List ℕ) (i : ℕ) : Type 0 where
-  pub size : length left ≡ 64
-  pub same : (k : ℕ) → k < i → get_or left k 0 ≡ get_or costs k 0
-  pub rest : (k : ℕ) → i ≤ k → get_or left k 0 ≡ 0
-
-pub padding_none : (costs : List ℕ) → Padding costs (replicate 64 0) 0
-padding_none costs = record {
-  size = length-replicate {A = ℕ} 64 0;
-  same = λ k lt. absurd (omega arith);
-  rest = λ k le. elim (dec_lt k 64) [
-    | yes lt ↦ get_or-replicate 64 k 0 0 lt
-    | no ge ↦ get_or-eq_default (replicate 64 0) 0 {n = k} (omega (arith, length-replicate {A = ℕ} 64 0))
-  ];
-}
-
-pub padding_more : (costs left : List ℕ) (i : ℕ) → i < 64 → Padding costs left i → Padding costs (set left i (get_or costs i 0)) (i + 1)
-padding_more costs left i lt h = record {
-  size = length-set left i (get_or costs i 0) ∙ h.size;
-  same = below_more (λ k. get_or (set left i (get_or costs i 0)) k 0 ≡ get_or costs k 0) i
-      (λ k l. get_or-set_other left i k (get_or costs i 0) 0 (λ e. omega arith) ∙ h.same k l)
-      (get_or-set_same left i (get_or costs i 0) 0 (omega (arith, h.size)));
-  rest = λ k l. get_or-set_other left i k (get_or costs i 0) 0 (λ e. omega arith) ∙ h.rest k (omega arith);
-}
-
-pub padding_all : (costs left : List ℕ) (i : ℕ) → length costs ≤ i → Padding costs left i → SameCosts costs left
-padding_all costs left i le h = record {
-  size = h.size;
-  same = λ t. cost_same left costs t (λ k. elim (dec_lt k i) [ yes lt ↦ h.same k lt | no ge ↦ h.rest k (omega arith) ∙ sym (get_or-eq_default costs 0 (omega arith)) ]);
+pub padded_costs : (costs front rest : List ℕ) → length costs ≤ 64 → front ≡ costs → rest ≡ replicate (64 - length costs) 0 → SameCosts costs (front ++ rest)
+padded_costs costs front rest few e f = record {
+  size = omega (arith, length-append {A = ℕ} front rest, ap length e, ap length f, length-replicate {A = ℕ} (64 - length costs) 0);
+  same = λ t. ap₂ (λ (xs ys : List ℕ). cost_of (xs ++ ys) t) e f ∙ cost_padded costs (64 - length costs) t;
 }
 
 -- ---- the sum of the passes

@@ -1,11 +1,6 @@
 -- The cost of one candidate, the floor of a set, and the bound by disjoint unmet rows.
-use mathlib.Core.Path.{◌≡◌, refl, sym, ap, ◌∙◌, subst}
-use mathlib.Core.Logic.{⊎_elim}
-use mathlib.Core.List.{List}
-use Prim.Native.Nat.{ℕ, ◌+◌, ◌^◌, ◌≤◌, ◌<◌}
-use native.Mathlib.Omega.{arith}
-use lib.ListN.{length, get_or, get_or-eq_default}
-use lib.Bits.{bit_and, bit_or}
+use Rattle.std.proofs.Common.{◌≡◌, ℕ, ◌+◌, ◌^◌, ◌≤◌, ◌<◌, List, Some, length, get_or, bit_and, bit_or, refl, sym, ap, ap₂, ◌∙◌, subst, arith, ⊎_elim}
+use lib.ListN.{get_or-eq_default}
 use Rattle.bits.specs.Bits.{digit, Part, Minus, Member, Index}
 use Rattle.rows.specs.Covers.{Cover, Between}
 use Rattle.cheapest_bounds.specs.Costs.{cost_of, no_cost, Price, Floor, CoverBetween, Fresh, Bound}
@@ -22,8 +17,8 @@ module _ (costs : List ℕ) (m i : ℕ) (h : Index m i) where
   price_is : get_or costs i 0 ≡ cost_of costs m
   price_is = sym (cost_one costs i) ∙ ap (cost_of costs) (sym h.is)
 
-  pub priced : get_or costs i 0 < 65536 → Price costs m (get_or costs i 0)
-  priced lt = record { is = price_is; small = lt }
+  pub priced : (r : ℕ) → r ≡ get_or costs i 0 → r < 65536 → Price costs m r
+  priced r e lt = record { is = e ∙ price_is; small = lt }
 
   pub priced_past : length costs ≤ i → Price costs m 0
   priced_past le = record { is = sym (get_or-eq_default costs 0 le) ∙ price_is; small = omega arith }
@@ -67,20 +62,20 @@ packed_none rows costs s free = record {
 }
 
 pub packed_more : (rows costs : List ℕ) (s free used sum k x w : ℕ) → Packed rows costs s free used sum → k < length rows
-    → Fresh (get_or rows k 0) s free used x → (x ≡ 0 → ⊥) → Floor costs x w → Packed rows costs s free (bit_or used x) (sum + w)
-unfolding Fresh CoverBetween
-packed_more rows costs s free used sum k x w h lt fr n f = record {
+    → (bit_and (get_or rows k 0) (bit_or s free) ≡ 0 → ⊥) → Fresh (get_or rows k 0) s free used (Some x) → Floor costs x w → Packed rows costs s free (bit_or used x) (sum + w)
+unfolding CoverBetween
+packed_more rows costs s free used sum k x w h lt n fr f = record {
   apart = apart_by s (bit_or used x)
       (λ c p q. ⊎_elim
       (λ (e : digit c used ≡ 1). no_common s used c h.apart p e)
-      (λ (e : digit c used ≡ 1 → ⊥). no_common row s c (fr n).0 (and_left c row free (in_row c (omega (arith, digit_or c used x, digit_lt c used, digit_lt c x)))) p)
+      (λ (e : digit c used ≡ 1 → ⊥). no_common row s c fr.0 (and_left c row free (in_row c (omega (arith, digit_or c used x, digit_lt c used, digit_lt c x)))) p)
       (eq? (digit c used) 1));
-  little = omega (arith, h.little, cost_join costs used x (fr n).2, cost_floor costs x w x f (part_self x) n);
+  little = omega (arith, h.little, cost_join costs used x fr.2, cost_floor costs x w x f (part_self x) some_member);
   under = λ t r.
-      let b : (c : ℕ) × (digit c (bit_and row free) ≡ 1) × (digit c t ≡ 1) = meets rows s free k lt (fr n).0 t r.0 r.1 in
-      let some : bit_and t x ≡ 0 → ⊥ = not_zero b.0 (bit_and t x) (and_both b.0 t x b.2 (ap (digit b.0) (fr n).1 ∙ b.1)) in
+      let b : (c : ℕ) × (digit c (bit_and row free) ≡ 1) × (digit c t ≡ 1) = meets rows s free k lt fr.0 t r.0 r.1 in
+      let some : bit_and t x ≡ 0 → ⊥ = not_zero b.0 (bit_and t x) (and_both b.0 t x b.2 (ap (digit b.0) fr.1 ∙ b.1)) in
       let apart : bit_and (bit_and t used) (bit_and t x) ≡ 0
-      = apart_by (bit_and t used) (bit_and t x) (λ c p q. no_common used x c (fr n).2 (and_right c t used p) (and_right c t x q)) in
+      = apart_by (bit_and t used) (bit_and t x) (λ c p q. no_common used x c fr.2 (and_right c t used p) (and_right c t x q)) in
       omega (
         arith,
         h.under t r,
@@ -94,7 +89,10 @@ packed_more rows costs s free used sum k x w h lt fr n f = record {
     row = get_or rows k 0
 
     in_row : (c : ℕ) → digit c x ≡ 1 → digit c (bit_and row free) ≡ 1
-    in_row c q = sym (ap (digit c) (fr n).1) ∙ q
+    in_row c q = sym (ap (digit c) fr.1) ∙ q
+
+    some_member : x ≡ 0 → ⊥
+    some_member z = n (and_or row s free ∙ ap₂ bit_or fr.0 (sym fr.1 ∙ z))
 
 pub packed_as : (rows costs : List ℕ) (s free : ℕ) {used used' sum sum' : ℕ} → used' ≡ used → sum' ≡ sum → Packed rows costs s free used sum → Packed rows costs s free used' sum'
 packed_as rows costs s free {used} {used'} {sum} {sum'} e f h =

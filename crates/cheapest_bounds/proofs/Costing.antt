@@ -1,14 +1,8 @@
 -- The laws of the cost of a set: of two sets apart, of a part, of one member.
-use mathlib.Core.Path.{◌≡◌, refl, sym, ap, ◌∙◌, subst}
-use mathlib.Core.Logic.{⊎_elim}
-use mathlib.Core.List.{List, [], ◌∷◌}
-use Prim.Native.Nat.{ℕ, zero, suc, ◌+◌, ◌-◌, ◌*◌, ◌/◌, ◌%◌, ◌^◌, ◌≤◌, ◌<◌, min, max}
-use native.Mathlib.Nat.{pow-suc, add-mul, one-mul, zero-mul, mul-le-mul}
-use native.Mathlib.Omega.{arith}
-use lib.ListN.{length, get_or}
+use Rattle.std.proofs.Common.{◌≡◌, refl, sym, ap, ◌∙◌, subst, ⊎_elim, List, [], ◌∷◌, ℕ, zero, suc, ◌+◌, ◌-◌, ◌*◌, ◌/◌, ◌%◌, ◌^◌, ◌≤◌, ◌<◌, min, max, pow-suc, add-mul, one-mul, zero-mul, mul-le-mul, arith, length, get_or, bit_and, bit_or, bit_xor}
 use mir.Syntax.{w16}
 use mir.Val.{Fits}
-use lib.Bits.{bit_and, bit_or, bit_xor, and_step, or_step}
+use lib.Bits.{and_step, or_step}
 use Rattle.bits.specs.Bits.{digit, Part, Minus, Member}
 use Rattle.cheapest_bounds.specs.Costs.{cost_of, no_cost, Price, Floor}
 use Rattle.bits.proofs.Digits.{eq?, digit_lt, digit_and, digit_or, digit_ext, a_member, pow_only}

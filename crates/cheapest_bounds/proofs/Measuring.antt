@@ -1,13 +1,9 @@
 -- Costs that are multiples of a unit: their greatest common divisor is one, and a limit between two multiples can be lowered to the lower one.
-use mathlib.Core.Path.{◌≡◌, refl, ap, sym, subst, ◌∙◌}
-use mathlib.Core.List.{List, [], ◌∷◌}
-use Prim.Native.Nat.{ℕ, suc, ◌+◌, ◌-◌, ◌*◌, ◌/◌, ◌%◌, ◌≤◌, ◌<◌, ◌∣◌}
-use native.Mathlib.Nat.{add-mul, one-mul, div-add-mod', mod-lt, mul-le-mul_right, mul-mod_left, dvd_refl, dvd-zero, dvd_trans, dvd-add}
+use Rattle.std.proofs.Common.{◌≡◌, refl, ap, sym, subst, ◌∙◌, List, [], ◌∷◌, ℕ, suc, ◌+◌, ◌-◌, ◌*◌, ◌/◌, ◌%◌, ◌≤◌, ◌<◌, max, add-mul, one-mul, div-add-mod', mod-lt, mul-le-mul_right, arith, below_more, length, get_or}
+use Prim.Native.Nat.{◌∣◌}
+use native.Mathlib.Nat.{mul-mod_left, dvd_refl, dvd-zero, dvd_trans, dvd-add}
 use native.Mathlib.Nat.{dvd-mul_left_of_dvd, dvd-mod_iff, dvd_of_mod-eq-zero, div-mul_cancel, one-dvd, eq-zero_of_zero-dvd}
-use native.Mathlib.Decide.{dec_le}
-use native.Mathlib.Omega.{arith}
-use borrow.Author.Count.{below_more}
-use lib.ListN.{length, get_or}
+use native.Mathlib.Decide.{dec_le, dec_lt}
 use Rattle.cheapest_bounds.specs.Costs.{cost_of}
 use Rattle.cheapest_bounds.specs.Units.{Multiple, Measures, GreatestDivisor, CommonDivisor, GreatestUnit, LimitBelow}
 
@@ -68,9 +64,9 @@ pub folded_none : (costs : List ℕ) (u : ℕ) → u ≡ 0 → Folded costs 0 u
 unfolding Measured
 folded_none costs u z = record { divides = λ k lt. absurd (omega arith); greatest = λ d h. multiple_zero d u z }
 
-pub folded_more : {costs : List ℕ} {n u v : ℕ} → Folded costs n u → GreatestDivisor (get_or costs n 0) u v → Folded costs (n + 1) v
+pub folded_more : {costs : List ℕ} {n u c v : ℕ} → Folded costs n u → c ≡ get_or costs n 0 → GreatestDivisor c u v → Folded costs (n + 1) v
 unfolding Measured
-folded_more {costs} {n} {u} {v} h g = record {
+folded_more {costs} {n} {u} {c} {v} h is divisor = let g : GreatestDivisor (get_or costs n 0) u v = subst (λ (x : ℕ). GreatestDivisor x u v) is divisor in record {
   divides = below_more (λ k. Multiple v (get_or costs k 0)) n
       (λ k lt. of_dvd v (get_or costs k 0) (dvd_trans v (to_dvd v u g.right) (to_dvd u (get_or costs k 0) (h.divides k lt)))) g.left;
   greatest = λ d m. g.greatest d (m n (omega arith)) (h.greatest d (λ k lt. m k (omega arith)));
@@ -96,7 +92,7 @@ whole [] u h t = multiple_zero u 0 refl
 whole (w ∷ ws) u h t = of_dvd u (t % 2 * w + cost_of ws (t / 2)) (dvd-add u (dvd-mul_left_of_dvd u (to_dvd u w (h 0 (omega arith))) (t % 2))
     (to_dvd u (cost_of ws (t / 2)) (whole ws u (λ k lt. h (suc k) (omega arith)) (t / 2))))
 
-pub unit_free : {costs : List ℕ} {u : ℕ} → CommonDivisor costs u → u ≡ 0 → GreatestUnit costs 1
+unit_free : {costs : List ℕ} {u : ℕ} → CommonDivisor costs u → u ≡ 0 → GreatestUnit costs 1
 unfolding Measures
 unit_free {costs} {u} h z = record {
   unit = record { positive = omega arith; whole = λ t. multiple_one 1 (cost_of costs t) refl };
@@ -104,13 +100,19 @@ unit_free {costs} {u} h z = record {
   greatest = λ k lt some d m. absurd (omega (arith, zero_of u (get_or costs k 0) z (h.divides k lt)));
 }
 
-pub unit_greatest : {costs : List ℕ} {u : ℕ} → CommonDivisor costs u → (u ≡ 0 → ⊥) → GreatestUnit costs u
+unit_greatest : {costs : List ℕ} {u : ℕ} → CommonDivisor costs u → (u ≡ 0 → ⊥) → GreatestUnit costs u
 unfolding Measures
 unit_greatest {costs} {u} h some = record {
   unit = record { positive = omega arith; whole = whole costs u h.divides };
   free = λ none. absurd (some (zero_of 0 u refl (h.greatest 0 (λ k lt. multiple_zero 0 (get_or costs k 0) (none k lt)))));
   greatest = λ k lt more d m. h.greatest d m;
 }
+
+pub unit_of : {costs : List ℕ} {u r : ℕ} → CommonDivisor costs u → r ≡ max u 1 → GreatestUnit costs r
+unit_of {costs} {u} {r} h e = elim (dec_lt 0 u) [
+  | yes some ↦ subst (GreatestUnit costs) (omega arith) (unit_greatest h (λ z. omega arith))
+  | no none ↦ subst (GreatestUnit costs) (omega arith) (unit_free h (omega arith))
+]
 
 -- ---- the limit
 

@@ -1,5 +1,5 @@
 -- The cost of a set, and what a cover costs at least.
-use Rattle.std.specs.Prelude.{◌≡◌, List, [], ◌∷◌, ℕ, ◌+◌, ◌*◌, ◌/◌, ◌%◌, ◌^◌, ◌≤◌, ◌<◌}
+use Rattle.std.specs.Prelude.{◌≡◌, List, [], ◌∷◌, ℕ, ◌+◌, ◌*◌, ◌/◌, ◌%◌, ◌^◌, ◌≤◌, ◌<◌, Option, IfSome}
 use Rattle.std.specs.Int.Bits.{bit_and}
 use Rattle.bits.specs.Bits.{digit}
 use Rattle.rows.specs.Covers.{Cover, Between}
@@ -27,9 +27,9 @@ pub record Floor (costs : List ℕ) (x r : ℕ) : Type 0 where
 unfoldable pub CoverBetween : List ℕ → ℕ → ℕ → ℕ → Type 0
 CoverBetween rows s free t = Cover rows t × Between s free t
 
--- where r is not 0, it is what is free of a row that s does not meet, and apart from used
-unfoldable pub Fresh : ℕ → ℕ → ℕ → ℕ → ℕ → Type 0
-Fresh row s free used r = (r ≡ 0 → ⊥) → (bit_and row s ≡ 0) × (r ≡ bit_and row free) × (bit_and used r ≡ 0)
+-- where there is one, it is what is free of a row that s does not meet, and apart from used
+abbrev pub Fresh : ℕ → ℕ → ℕ → ℕ → Option ℕ → Type 0
+Fresh row s free used r = IfSome r (λ x. (bit_and row s ≡ 0) × (x ≡ bit_and row free) × (bit_and used x ≡ 0))
 
 -- every cover between s and s | free costs r more than s, or more
 pub record Bound (rows costs : List ℕ) (s free r : ℕ) : Type 0 where

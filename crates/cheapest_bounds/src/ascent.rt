@@ -20,13 +20,9 @@ fn charge(left: &mut [u16], x: u64, y: u64)
     requires floor { Floor left.old x y }
     ensures { Charged x y left.old left.new }
 {
-    let y16 = y as u16;
-    let mut rest = x;
-    while rest != 0 {
-        let m = set::lowest(rest);
-        let i = set::index(m);
-        left[i] = left[i] - y16;
-        rest = set::minus(rest, m);
+    let y16 = y as u16; // fits: a floor is no more than a cost
+    for m in set::members(x) {
+        left[set::index(m)] -= y16;
     }
 }
 
@@ -36,10 +32,7 @@ fn pay(x: u64, most: u32, half: bool, left: &mut [u16]) -> u64
     requires { length left.old ≡ 64 }
     ensures { Paid x left.old left.new result }
 {
-    if x == 0 {
-        return 0;
-    }
-    if most < u64::count_ones(x) {
+    if x == 0 || most < x.count_ones() {
         return 0;
     }
     let all = costs::floor(left, x);
@@ -56,26 +49,20 @@ fn raise(rows: &[u64], most: u32, half: bool, left: &mut [u16]) -> u64
     requires { length left.old ≡ 64 }
     ensures { Raised rows.now left.old left.new result }
 {
-    let mut sum: u64 = 0;
-    let mut i = 0;
-    while i < rows.len() {
-        sum = sum + pay(rows[i], most, half, left);
-        i += 1;
+    let mut sum = 0;
+    for row in rows {
+        sum += pay(*row, most, half, left);
     }
     sum
 }
 
-// The costs, and 0 behind them.
+// The costs, and 0 behind them. (`library` has the like of bytes: one for both would have to say what the zero of a type is.)
 fn padded(costs: &[u16]) -> [u16; 64]
     requires { length costs.now ≤ 64 }
     ensures { SameCosts costs.now result }
 {
-    let mut left: [u16; 64] = [0; 64];
-    let mut i = 0;
-    while i < costs.len() {
-        left[i] = costs[i];
-        i += 1;
-    }
+    let mut left = [0; 64];
+    left[..costs.len()].copy_from_slice(costs);
     left
 }
 
@@ -94,7 +81,7 @@ fn ascent(rows: &[u64], costs: &[u16]) -> Duals
     let rest = raise(rows, 64, false, &mut left);
     Duals {
         sum: two + three + four + six + some + rest,
-        left: left,
+        left,
     }
 }
 
@@ -103,10 +90,7 @@ fn trim(left: &[u16], free: u64, spare: u64) -> u64
     ensures { Trimmed left.now free spare result }
 {
     let mut kept = free;
-    let mut rest = free;
-    while rest != 0 {
-        let m = set::lowest(rest);
-        rest = set::minus(rest, m);
+    for m in set::members(free) {
         if spare <= costs::price(left, m) {
             kept = set::minus(kept, m);
         }
@@ -124,10 +108,8 @@ pub fn affordable(rows: &[u64], costs: &[u16], free: u64, spare: u64) -> u64
         return free;
     }
     let duals = ascent(rows, costs);
-    let sum = duals.sum;
-    if spare <= sum {
+    if spare <= duals.sum {
         return 0;
     }
-    let left = duals.left;
-    trim(&left, free, spare - sum)
+    trim(&duals.left, free, spare - duals.sum)
 }

@@ -20,11 +20,10 @@ pub fn price(costs: &[u16], m: u64) -> u64
     requires { Single m }
     ensures { Price costs.now m result }
 {
-    let i = set::index(m);
-    if i < costs.len() {
-        return costs[i] as u64;
+    match costs.get(set::index(m)) {
+        Some(cost) => u64::from(*cost),
+        None => 0,
     }
-    0
 }
 
 // At most the cost of the cheapest member of x: the bounds need no more.
@@ -32,17 +31,12 @@ pub fn floor(costs: &[u16], x: u64) -> u64
     ensures { Floor costs.now x result }
 {
     let mut low: u64 = 65535;
-    let mut rest = x;
-    while rest != 0 {
-        let m = set::lowest(rest);
+    for m in set::members(x) {
         let p = price(costs, m);
         if p == 0 {
             return 0;
         }
-        if p < low {
-            low = p;
-        }
-        rest = set::minus(rest, m);
+        low = low.min(p);
     }
     low
 }
@@ -52,12 +46,9 @@ pub fn total(costs: &[u16], x: u64) -> u64
     requires { length costs.now ≤ 64 }
     ensures { result ≡ cost_of costs.now x }
 {
-    let mut sum: u64 = 0;
-    let mut rest = x;
-    while rest != 0 {
-        let m = set::lowest(rest);
-        sum = sum + price(costs, m);
-        rest = set::minus(rest, m);
+    let mut sum = 0;
+    for m in set::members(x) {
+        sum += price(costs, m);
     }
     sum
 }

@@ -4,17 +4,17 @@ ghost use Rattle.cheapest_bounds.specs.Costs.{Fresh, Bound};
 
 use crate::costs;
 
-// What is free of the row, if s does not meet the row and used has none of it; else 0. Which rows are left out is open.
-fn fresh(row: u64, s: u64, free: u64, used: u64) -> u64
+// What is free of the row, if s does not meet the row and used has none of it. Which rows are left out is open.
+fn fresh(row: u64, s: u64, free: u64, used: u64) -> Option<u64>
     ensures { Fresh row s free used result }
 {
     if row & s == 0 {
         let x = row & free;
         if used & x == 0 {
-            return x;
+            return Some(x);
         }
     }
-    0
+    None
 }
 
 // What a cover between s and s | free costs more than s, at least: a floor for each of some disjoint unmet rows. Where a row has
@@ -25,17 +25,14 @@ pub fn bound(rows: &[u64], costs: &[u16], s: u64, free: u64) -> u64
 {
     let mut used: u64 = 0;
     let mut sum: u64 = 0;
-    let mut i = 0;
-    while i < rows.len() {
-        if rows[i] & (s | free) == 0 {
+    for row in rows {
+        if row & (s | free) == 0 {
             return costs::NO_COST;
         }
-        let x = fresh(rows[i], s, free, used);
-        if x != 0 {
-            used = used | x;
-            sum = sum + costs::floor(costs, x);
+        if let Some(x) = fresh(*row, s, free, used) {
+            used |= x;
+            sum += costs::floor(costs, x);
         }
-        i += 1;
     }
     sum
 }

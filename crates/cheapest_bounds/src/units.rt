@@ -21,13 +21,11 @@ pub fn common(costs: &[u16]) -> u64
     ensures { CommonDivisor costs.now result }
 {
     let mut u: u64 = 0;
-    let mut i = 0;
-    while i < costs.len() {
-        u = divisor(costs[i] as u64, u);
+    for cost in costs {
+        u = divisor(u64::from(*cost), u);
         if u == 1 {
             return u;
         }
-        i += 1;
     }
     u
 }
@@ -36,11 +34,7 @@ pub fn common(costs: &[u16]) -> u64
 pub fn unit(costs: &[u16]) -> u64
     ensures { GreatestUnit costs.now result }
 {
-    let u = common(costs);
-    if u == 0 {
-        return 1;
-    }
-    u
+    common(costs).max(1)
 }
 
 // The least limit above the multiples of u that are below cost; that it is the least is left open.

@@ -1,12 +1,5 @@
 -- Free candidates in two parts that no unmet row links.
-use mathlib.Core.Path.{◌≡◌, subst}
-use mathlib.Core.Logic.{◌⊎◌, inr}
-use mathlib.Core.List.{List}
-use Prim.Native.Nat.{ℕ, ◌+◌}
-use native.Mathlib.Omega.{arith}
-use borrow.Author.Count.{below_more}
-use lib.ListN.{length, get_or}
-use lib.Bits.{bit_and}
+use Rattle.std.proofs.Common.{◌≡◌, subst, ◌⊎◌, inr, List, ℕ, ◌+◌, arith, below_more, length, get_or, bit_and}
 use Rattle.bits.specs.Bits.{Part}
 use Rattle.cheapest_nodes.specs.Nodes.{Closed, Component}
 use Rattle.bits.proofs.Parts.{part_self, part_and_left, part_and_less}

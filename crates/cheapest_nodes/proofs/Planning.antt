@@ -1,20 +1,15 @@
 -- What is left of the rows when s is taken, and how the search for the cheapest cover goes on: candidates that are too dear are not needed.
-use mathlib.Core.Path.{◌≡◌, sym, ap, ◌∙◌, subst}
-use mathlib.Core.Logic.{◌⊎◌, ⊎_elim}
-use mathlib.Core.List.{List}
-use Prim.Native.Nat.{ℕ, ◌+◌, ◌-◌, ◌≤◌, ◌<◌}
+use Rattle.std.proofs.Common.{◌≡◌, sym, ap, ◌∙◌, subst, ◌⊎◌, ⊎_elim, Option, List, ℕ, ◌+◌, ◌-◌, ◌≤◌, ◌<◌, arith, length, get_or, take, get_or-take, length-take-le, bit_and, bit_xor}
+use Rattle.std.specs.Prelude.{◌==◌}
+use Rattle.std.specs.Bool.{then_some}
 use native.Mathlib.Decide.{dec_lt}
-use native.Mathlib.Omega.{arith}
-use borrow.Author.Count.{below_more}
-use lib.ListN.{length, get_or, set, take}
-use lib.Seq.{get_or-set_same, get_or-set_other, get_or-take, length-take-le}
-use lib.Bits.{bit_and, bit_xor}
 use Rattle.cheapest_nodes.specs.declared.branching.Choice.{Choice}
 use Rattle.cheapest_nodes.specs.declared.branching.Choice.TheVariants.{Done as IsDone, Lost, Try}
 use Rattle.cheapest_nodes.specs.declared.plan.Next.{Next}
 use Rattle.cheapest_nodes.specs.declared.plan.Next.TheVariants.{Cut, Done, Split, Branch}
 use Rattle.bits.specs.Bits.{digit, Part, Minus}
 use Rattle.rows.specs.Covers.{Cover, Between}
+use Rattle.rows.specs.Keeping.{Kept}
 use Rattle.cheapest_bounds.specs.Costs.{cost_of, CoverBetween, Bound}
 use Rattle.cheapest_nodes.specs.Nodes.{Chosen, Closed, Component, Thinned}
 use Rattle.cheapest_bounds.specs.Ascent.{Affordable, Meets}
@@ -24,77 +19,37 @@ use Rattle.bits.proofs.Members.{and_left, and_right, and_both}
 use Rattle.bits.proofs.Parts.{members, by_members, part_self, part_trans, part_and_left, minus_bits, apart_by, no_common}
 use Rattle.cheapest_bounds.proofs.Costing.{cost_apart}
 use Rattle.rows.proofs.Sets.{meets}
+use Rattle.rows.proofs.Making.{Told, if_zero, kept_has, kept_from}
 use Rattle.cheapest_nodes.proofs.Choosing.{tried}
 
 -- ---- what is left of the rows
 
--- the first n of out are what is free of the rows among the first i that s does not meet
-pub record Leaves (rows : List ℕ) (s free : ℕ) (out : List ℕ) (n i : ℕ) : Type 0 where
-  pub few : n ≤ i
-  pub has : (k : ℕ) → k < i → bit_and (get_or rows k 0) s ≡ 0 → (j : ℕ) × (j < n) × (get_or out j 0 ≡ bit_and (get_or rows k 0) free)
-  pub from : (j : ℕ) → j < n → (k : ℕ) × (k < i) × (bit_and (get_or rows k 0) s ≡ 0) × (get_or out j 0 ≡ bit_and (get_or rows k 0) free)
-
-pub leaves_none : (rows : List ℕ) (s free : ℕ) (out : List ℕ) → Leaves rows s free out 0 0
-leaves_none rows s free out = record {
-  few = omega arith;
-  has = λ k lt z. absurd (omega arith);
-  from = λ j lt. absurd (omega arith);
-}
-
-module _ (rows : List ℕ) (s free : ℕ) (out : List ℕ) (n i : ℕ) (g : Leaves rows s free out n i) where
-  pub leaves_skip : (bit_and (get_or rows i 0) s ≡ 0 → ⊥) → Leaves rows s free out n (i + 1)
-  leaves_skip met = record {
-    few = omega (arith, g.few);
-    has = below_more _ i g.has (λ z. absurd (met z));
-    from = λ j lt.
-        let r : (k : ℕ) × (k < i) × (bit_and (get_or rows k 0) s ≡ 0) × (get_or out j 0 ≡ bit_and (get_or rows k 0) free) = g.from j lt in
-        (r.0, omega (arith, r.1), r.2, r.3);
-  }
-
-  pub leaves_take : n < length out → bit_and (get_or rows i 0) s ≡ 0 → Leaves rows s free (set out n (bit_and (get_or rows i 0) free)) (n + 1) (i + 1)
-  leaves_take room z = record {
-    few = omega (arith, g.few);
-    has = below_more (λ k. bit_and (get_or rows k 0) s ≡ 0 → (j : ℕ) × (j < n + 1) × (get_or (set out n x) j 0 ≡ bit_and (get_or rows k 0) free)) i
-        (λ k lt y.
-        let r : (j : ℕ) × (j < n) × (get_or out j 0 ≡ bit_and (get_or rows k 0) free) = g.has k lt y in
-        (r.0, omega (arith, r.1), other r.0 r.1 ∙ r.2))
-        (λ y. (n, omega arith, get_or-set_same out n x 0 room));
-    from = below_more (λ j. (k : ℕ) × (k < i + 1) × (bit_and (get_or rows k 0) s ≡ 0) × (get_or (set out n x) j 0 ≡ bit_and (get_or rows k 0) free)) n
-        (λ j lt.
-        let r : (k : ℕ) × (k < i) × (bit_and (get_or rows k 0) s ≡ 0) × (get_or out j 0 ≡ bit_and (get_or rows k 0) free) = g.from j lt in
-        (r.0, omega (arith, r.1), r.2, other j lt ∙ r.3))
-        (i, omega arith, z, get_or-set_same out n x 0 room);
-  }
-    where
-      x : ℕ
-      x = bit_and (get_or rows i 0) free
-
-      other : (j : ℕ) → j < n → get_or (set out n x) j 0 ≡ get_or out j 0
-      other j lt = get_or-set_other out n j x 0 (λ e. omega arith)
-
-pub leaves_as : (rows : List ℕ) (s free : ℕ) {out out' : List ℕ} {n n' : ℕ} (i : ℕ) → out' ≡ out → n' ≡ n
-    → Leaves rows s free out n i → Leaves rows s free out' n' i
-leaves_as rows s free {out} {out'} {n} {n'} i e f g =
-    subst (λ (o : List ℕ). Leaves rows s free o n' i) (sym e) (subst (λ (k : ℕ). Leaves rows s free out k i) (sym f) g)
-
-pub leaves_all : (rows : List ℕ) (s free : ℕ) (out : List ℕ) (n i size : ℕ) → Leaves rows s free out n i → i ≡ length rows → length out ≡ size
-    → n ≤ length out → ResidueIn rows s free size n out
-leaves_all rows s free out n i size g e l le = record {
-  size_is = l;
-  few = le;
+-- it is there where each row that s does not meet, and no other, gives what is free of it
+pub residue_kept : (makes : ℕ → Option ℕ → Type 0) (rows new : List ℕ) (s free size r : ℕ)
+    → ((x : ℕ) (o : Option ℕ) → makes x o → o ≡ then_some (bit_and x s == 0) (bit_and x free))
+    → length rows ≤ size → Kept makes rows size r new → ResidueIn rows s free size r new
+residue_kept makes rows new s free size r is le g = record {
+  size_is = g.size_is;
+  few = few;
   residue = record {
     has = λ k lt z.
-        let r : (j : ℕ) × (j < n) × (get_or out j 0 ≡ bit_and (get_or rows k 0) free) = g.has k (omega arith) z in
-        (r.0, omega (arith, r.1, long), get_or-take n out r.0 0 r.1 ∙ r.2);
+        let m = kept_has makes _ _ told _ _ _ _ g k lt z in
+        (m.0, omega (arith, m.1, long), get_or-take r new m.0 0 m.1 ∙ m.2);
     from = λ j lt.
-        let m : j < n = omega (arith, long) in
-        let r : (k : ℕ) × (k < i) × (bit_and (get_or rows k 0) s ≡ 0) × (get_or out j 0 ≡ bit_and (get_or rows k 0) free) = g.from j m in
-        (r.0, omega (arith, r.1), r.2, get_or-take n out j 0 m ∙ r.3);
+        let l : j < r = omega (arith, long) in
+        let m = kept_from makes _ _ told _ _ _ _ g j l in
+        (m.0, m.1, m.2, get_or-take r new j 0 l ∙ m.3);
   };
 }
   where
-    long : length (take n out) ≡ n
-    long = length-take-le n out le
+    few : r ≤ length new
+    few = omega (arith, g.size_is, g.few)
+
+    long : length (take r new) ≡ r
+    long = length-take-le r new few
+
+    told : (x : ℕ) (o : Option ℕ) → makes x o → Told (bit_and x s ≡ 0) (bit_and x free) o
+    told x o m = if_zero _ _ _ (is x o m)
 
 -- ---- rows that s does not meet: what a cover costs beyond s
 

@@ -1,13 +1,5 @@
 -- What the unmet rows of each candidate have in common, row by row and entry by entry.
-use mathlib.Core.Path.{◌≡◌, refl, sym, ◌∙◌, subst}
-use mathlib.Core.Logic.{⊎_elim}
-use mathlib.Core.List.{List}
-use Prim.Native.Nat.{ℕ, ◌+◌, ◌^◌, ◌<◌}
-use native.Mathlib.Omega.{arith}
-use borrow.Author.Count.{below_more}
-use lib.ListN.{length, get_or, set, length-set}
-use lib.Seq.{get_or-set_same, get_or-set_other}
-use lib.Bits.{bit_and}
+use Rattle.std.proofs.Common.{◌≡◌, refl, sym, ◌∙◌, subst, ⊎_elim, List, ℕ, ◌+◌, ◌^◌, ◌<◌, arith, below_more, length, get_or, set, length-set, get_or-set_same, get_or-set_other, bit_and}
 use Rattle.bits.specs.Bits.{digit, Part, Minus, Member, Index}
 use Rattle.cheapest_nodes.specs.Nodes.{Dominators, Restricted, Shared}
 use Rattle.bits.proofs.Digits.{eq?}

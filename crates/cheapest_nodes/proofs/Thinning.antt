@@ -1,11 +1,5 @@
 -- A free candidate that meets no unmet row, or for which another one stands in at no greater cost, is not needed.
-use mathlib.Core.Path.{◌≡◌, refl, sym, ap, ◌∙◌, subst}
-use mathlib.Core.Logic.{⊎_elim}
-use mathlib.Core.List.{List}
-use Prim.Native.Nat.{ℕ, ◌-◌, ◌≤◌, ◌<◌}
-use native.Mathlib.Omega.{arith}
-use lib.ListN.{length, get_or}
-use lib.Bits.{bit_and, bit_or, bit_xor}
+use Rattle.std.proofs.Common.{◌≡◌, ℕ, ◌-◌, ◌≤◌, ◌<◌, ⊎_elim, List, Option, Some, None, is_some, true, length, get_or, bit_and, bit_or, bit_xor, sym, ap, ◌∙◌, subst, arith, pow_pos}
 use Rattle.bits.specs.Bits.{digit, Single, Part, Minus, Member}
 use Rattle.rows.specs.Covers.{Cover, Unmet, Between}
 use Rattle.cheapest_bounds.specs.Costs.{cost_of, Price, CoverBetween}
@@ -15,13 +9,13 @@ use Rattle.bits.proofs.Members.{not_zero, and_left, and_right, and_both}
 use Rattle.bits.proofs.Parts.{members, by_members, part_self, part_trans, part_and_less, minus_bits, minus_part, member_of_more, no_common}
 use Rattle.cheapest_bounds.proofs.Costing.{cost_part, cost_either, cost_apart}
 
-pub cheaper_one : (costs : List ℕ) (x rest d m p q : ℕ) → Part rest x → Member rest d → Price costs d q → Price costs m p → q ≤ p → Cheaper costs x m d
-unfolding Cheaper
-cheaper_one costs x rest d m p q h one dr mr le n = (member_of_more rest x d h one, omega (arith, dr.is, mr.is))
+pub cheaper_one : (costs : List ℕ) (x rest d m p q : ℕ) → Part rest x → Member rest d → Price costs d q → Price costs m p → q ≤ p → Cheaper costs x m (Some d)
+cheaper_one costs x rest d m p q h one dr mr le = (member_of_more rest x d h one, omega (arith, dr.is, mr.is))
 
-pub cheaper_none : (costs : List ℕ) (x m : ℕ) → Cheaper costs x m 0
-unfolding Cheaper
-cheaper_none costs x m n = absurd (n refl)
+-- where one was found there is one
+pub cheaper_found : (costs : List ℕ) (x m : ℕ) (r : Option ℕ) → is_some r ≡ true → Cheaper costs x m r → (d : ℕ) × Member x d × (cost_of costs d ≤ cost_of costs m)
+cheaper_found costs x m (Some d) e h = (d, h.0, h.1)
+cheaper_found costs x m None e h = absurd (cc)
 
 -- ---- the swap
 
@@ -36,10 +30,10 @@ thinned_trans rows costs s free f g p q = record {
 
 -- b stands in for m
 module _ (rows costs : List ℕ) (s free m f doms b : ℕ) (one : Single m) (d : Minus free m f) (h : Dominators rows (length rows) s m doms)
-    (c : Cheaper costs (bit_and f doms) m b) (nz : b ≡ 0 → ⊥) where
-  by : Member (bit_and f doms) b × (cost_of costs b ≤ cost_of costs m)
-  unfolding Cheaper
-  by = c nz
+    (by : Member (bit_and f doms) b × (cost_of costs b ≤ cost_of costs m)) where
+  some_b : b ≡ 0 → ⊥
+  unfolding Single
+  some_b z = omega (arith, by.0.single.1, pow_pos by.0.single.0)
 
   in_f : (e : ℕ) → digit e b ≡ 1 → digit e f ≡ 1
   in_f e q = and_left e f doms (members b (bit_and f doms) by.0.part e q)
@@ -94,7 +88,7 @@ module _ (rows costs : List ℕ) (s free m f doms b : ℕ) (one : Single m) (d :
     unfolding other Dominators
     meets_still k lt z q w =
         let x : ℕ = get_or rows k 0 in
-        let e : (e : ℕ) × (digit e b ≡ 1) = a_member b nz in
+        let e : (e : ℕ) × (digit e b ≡ 1) = a_member b some_b in
         not_zero e.0 (bit_and x (bit_or rest b))
         (and_both e.0 x (bit_or rest b) (members doms x (h k lt z q) e.0 (in_doms e.0 e.1))
         (omega (arith, digit_or e.0 rest b, e.1, digit_lt e.0 rest))) w

@@ -1,5 +1,5 @@
 -- What is looked at at a node of the search for the cheapest cover: which candidates are needed, and which rows fall apart.
-use Rattle.std.specs.Prelude.{◌≡◌, List, ◌⊎◌, ℕ, ◌^◌, ◌≤◌, ◌<◌, length, get_or}
+use Rattle.std.specs.Prelude.{◌≡◌, List, ◌⊎◌, ℕ, ◌^◌, ◌≤◌, ◌<◌, length, get_or, Option, IfSome}
 use Rattle.std.specs.Int.Bits.{bit_and}
 use Rattle.cheapest_nodes.specs.declared.branching.Choice.{Choice}
 use Rattle.cheapest_nodes.specs.declared.branching.Choice.TheVariants.{Done, Lost, Try}
@@ -28,9 +28,9 @@ pub record Shared (rows : List ℕ) (n s free : ℕ) (common : List ℕ) : Type 
   pub size : length common ≡ 64
   pub each : (b : ℕ) → digit b free ≡ 1 → Dominators rows n s (2 ^ b) (get_or common b 0)
 
--- where r is not 0, it is one member of x that costs no more than m
-unfoldable pub Cheaper : List ℕ → ℕ → ℕ → ℕ → Type 0
-Cheaper costs x m r = (r ≡ 0 → ⊥) → Member x r × (cost_of costs r ≤ cost_of costs m)
+-- where there is one, it is one member of x that costs no more than m
+abbrev pub Cheaper : List ℕ → ℕ → ℕ → Option ℕ → Type 0
+Cheaper costs x m r = IfSome r (λ d. Member x d × (cost_of costs d ≤ cost_of costs m))
 
 -- f is a part of free, and for each cover between s and s | free there is one with f for free that costs no more
 pub record Thinned (rows costs : List ℕ) (s free f : ℕ) : Type 0 where

@@ -1,5 +1,5 @@
 // The candidate to branch on.
-ghost use Rattle.std.specs.Prelude.{◌≡◌, ◌⊎◌, ◌<◌};
+ghost use Rattle.std.specs.Prelude.{◌≡◌, ◌⊎◌, ◌<◌, Some};
 ghost use Rattle.bits.specs.Bits.{Member};
 ghost use Rattle.cheapest_nodes.specs.Nodes.{Chosen};
 
@@ -19,19 +19,11 @@ pub enum Choice {
 fn gain(rows: &[u64], s: u64, m: u64) -> u64
     ensures { result < 65536 }
 {
-    let mut n: u64 = 0;
-    let mut i = 0;
-    while i < rows.len() {
-        if rows[i] & s == 0 {
-            if rows[i] & m != 0 {
-                if n < 65535 {
-                    n += 1;
-                }
-            }
-        }
-        i += 1;
-    }
-    n
+    let met = rows
+        .iter()
+        .filter(|row| **row & s == 0 && **row & m != 0)
+        .count();
+    met.min(65535) as u64
 }
 
 // The member of x of most gain per cost, the lowest among equals; the contract says only that it is a member.
@@ -41,10 +33,7 @@ pub fn most_effective(rows: &[u64], costs: &[u16], s: u64, x: u64) -> u64
 {
     let mut pick = set::lowest(x);
     let mut most = gain(rows, s, pick);
-    let mut rest = set::minus(x, pick);
-    while rest != 0 {
-        let m = set::lowest(rest);
-        rest = set::minus(rest, m);
+    for m in set::members(set::minus(x, pick)) {
         let more = gain(rows, s, m);
         if most * costs::price(costs, m) < more * costs::price(costs, pick) {
             pick = m;
@@ -54,14 +43,14 @@ pub fn most_effective(rows: &[u64], costs: &[u16], s: u64, x: u64) -> u64
     pick
 }
 
-// The one of x and y that has fewer members, y among equals; x if y has none.
-fn smaller(x: u64, y: u64) -> u64
-    ensures { (result ≡ x) ⊎ ((result ≡ y) × (y ≡ 0 → ⊥)) }
+// The one of x and y that has fewer members, y among equals; x if there is no y.
+fn smaller(x: u64, y: Option<u64>) -> u64
+    ensures { (result ≡ x) ⊎ (y ≡ Some result) }
 {
-    if y == 0 {
-        return x;
+    match y {
+        Some(y) => set::fewer(y, x),
+        None => x,
     }
-    set::fewer(y, x)
 }
 
 // The most effective free candidate of the unmet row with fewest of them; or that s is a cover, or that none lies between s and s | free.
@@ -69,20 +58,18 @@ fn smaller(x: u64, y: u64) -> u64
 pub fn choose(rows: &[u64], costs: &[u16], s: u64, free: u64) -> Choice
     ensures { Chosen rows.now s free result }
 {
-    let mut pick: u64 = 0;
-    let mut i = 0;
-    while i < rows.len() {
-        if rows[i] & s == 0 {
-            let x = rows[i] & free;
+    let mut pick = None;
+    for row in rows {
+        if row & s == 0 {
+            let x = row & free;
             if x == 0 {
                 return Choice::Lost;
             }
-            pick = smaller(x, pick);
+            pick = Some(smaller(x, pick));
         }
-        i += 1;
     }
-    if pick == 0 {
-        return Choice::Done;
+    match pick {
+        Some(x) => Choice::Try(most_effective(rows, costs, s, x)),
+        None => Choice::Done,
     }
-    Choice::Try(most_effective(rows, costs, s, pick))
 }

@@ -8,24 +8,17 @@ ghost use Rattle.cheapest_nodes.specs.Nodes.{Closed, Component};
 fn apart_or_in(x: u64, a: u64) -> bool
     ensures { Decides ((bit_and x a ≡ 0) ⊎ Part x a) result }
 {
-    if x & a == 0 {
-        return true;
-    }
-    x & a == x
+    x & a == 0 || x & a == x
 }
 
 // Whether no unmet row is partly in a.
 fn closed(rows: &[u64], s: u64, free: u64, a: u64) -> bool
     ensures { Decides (Closed rows.now (length rows.now) s free a) result }
 {
-    let mut i = 0;
-    while i < rows.len() {
-        if rows[i] & s == 0 {
-            if !apart_or_in(rows[i] & free, a) {
-                return false;
-            }
+    for row in rows {
+        if row & s == 0 && !apart_or_in(row & free, a) {
+            return false;
         }
-        i += 1;
     }
     true
 }
@@ -33,15 +26,13 @@ fn closed(rows: &[u64], s: u64, free: u64, a: u64) -> bool
 // a with what is free of each unmet row that it meets, in one pass.
 fn spread(rows: &[u64], s: u64, free: u64, a: u64) -> u64 {
     let mut acc = a;
-    let mut i = 0;
-    while i < rows.len() {
-        if rows[i] & s == 0 {
-            let x = rows[i] & free;
+    for row in rows {
+        if row & s == 0 {
+            let x = row & free;
             if x & acc != 0 {
-                acc = acc | x;
+                acc |= x;
             }
         }
-        i += 1;
     }
     acc
 }
@@ -49,14 +40,12 @@ fn spread(rows: &[u64], s: u64, free: u64, a: u64) -> u64 {
 // a spread until nothing changes, in at most 64 passes. `component` tests what it gets, so neither has a contract.
 fn grown(rows: &[u64], s: u64, free: u64, a: u64) -> u64 {
     let mut old = a;
-    let mut i: u64 = 0;
-    while i < 64 {
+    for _ in 0..64 {
         let new = spread(rows, s, free, old);
         if new == old {
             return old;
         }
         old = new;
-        i += 1;
     }
     old
 }
@@ -76,10 +65,5 @@ pub fn component(rows: &[u64], s: u64, free: u64, m: u64) -> u64
 pub fn divides(s: u64, free: u64, a: u64, b: u64) -> bool
     ensures { Decides ((a < free) × (b < free) × (bit_and s free ≡ 0)) result }
 {
-    if a < free {
-        if b < free {
-            return s & free == 0;
-        }
-    }
-    false
+    a < free && b < free && s & free == 0
 }

@@ -11,13 +11,11 @@ use cheapest_bounds::costs;
 fn unmet_members(rows: &[u64], s: u64) -> u64
     ensures { Unmet rows.now (length rows.now) s result }
 {
-    let mut acc: u64 = 0;
-    let mut i = 0;
-    while i < rows.len() {
-        if rows[i] & s == 0 {
-            acc = acc | rows[i];
+    let mut acc = 0;
+    for row in rows {
+        if row & s == 0 {
+            acc |= row;
         }
-        i += 1;
     }
     acc
 }
@@ -27,12 +25,8 @@ fn restrict(common: &mut [u64], row: u64, x: u64)
     requires { length common.old ≡ 64 }
     ensures { Restricted row x common.old common.new }
 {
-    let mut rest = x;
-    while rest != 0 {
-        let m = set::lowest(rest);
-        let i = set::index(m);
-        common[i] = common[i] & row;
-        rest = set::minus(rest, m);
+    for m in set::members(x) {
+        common[set::index(m)] &= row;
     }
 }
 
@@ -40,38 +34,29 @@ fn restrict(common: &mut [u64], row: u64, x: u64)
 fn shared(rows: &[u64], s: u64, free: u64) -> [u64; 64]
     ensures { Shared rows.now (length rows.now) s free result }
 {
-    let mut common: [u64; 64] = [0xffff_ffff_ffff_ffff; 64];
-    let mut i = 0;
-    while i < rows.len() {
-        if rows[i] & s == 0 {
-            restrict(&mut common, rows[i], rows[i] & free);
+    let mut common = [u64::MAX; 64];
+    for row in rows {
+        if row & s == 0 {
+            restrict(&mut common, *row, row & free);
         }
-        i += 1;
     }
     common
 }
 
-// A member of x that costs less than m, or as much and has a lower number; or 0, where the contract says nothing.
-fn cheaper(costs: &[u16], x: u64, m: u64) -> u64
+// A member of x that costs less than m, or as much and has a lower number; where there is none the contract says nothing.
+fn cheaper(costs: &[u16], x: u64, m: u64) -> Option<u64>
     requires { Single m }
     ensures { Cheaper costs.now x m result }
 {
     let p = costs::price(costs, m);
-    let mut rest = x;
-    while rest != 0 {
-        let d = set::lowest(rest);
+    for d in set::members(x) {
         let q = costs::price(costs, d);
-        if q < p {
-            return d;
+        let better = q < p || q == p && d < m;
+        if better {
+            return Some(d);
         }
-        if q == p {
-            if d < m {
-                return d;
-            }
-        }
-        rest = set::minus(rest, d);
     }
-    0
+    None
 }
 
 // The free candidates without those that meet no unmet row, or for which another one can stand in at no greater cost.
@@ -81,13 +66,9 @@ pub fn thin(rows: &[u64], costs: &[u16], s: u64, free: u64) -> u64
 {
     let common = shared(rows, s, free);
     let mut f = free & unmet_members(rows, s);
-    let mut rest = f;
-    while rest != 0 {
-        let m = set::lowest(rest);
-        rest = set::minus(rest, m);
+    for m in set::members(f) {
         let others = set::minus(f, m);
-        let i = set::index(m);
-        if cheaper(costs, others & common[i], m) != 0 {
+        if cheaper(costs, others & common[set::index(m)], m).is_some() {
             f = others;
         }
     }

@@ -1,9 +1,9 @@
 // What the search for the cheapest cover does next.
-ghost use Rattle.std.specs.Prelude.{◌≡◌, ◌≤◌, length};
-ghost use Rattle.cheapest_bounds.specs.Costs.{cost_of};
+ghost use Rattle.std.specs.Prelude.{◌≤◌, length};
 ghost use Rattle.cheapest_nodes.specs.Plan.{Open, Planned};
 
 use crate::branching::Choice;
+use crate::node::Node;
 use crate::{branching, components, dominance, residue};
 use bits::set;
 use cheapest_bounds::{ascent, disjoint};
@@ -18,64 +18,64 @@ pub enum Next {
     Branch(u64, u64),
 }
 
-// How to look for a cover of the rows, of which s meets none, between s and s | free that costs less than limit; cost is that of s.
-// Which way is taken is left open: each is right where it is taken.
-fn decide(rows: &[u64], costs: &[u16], s: u64, free: u64, cost: u64, limit: u64) -> Next
-    requires costs_len_bound { length costs.now ≤ 64 }
-    requires cost_value { cost ≡ cost_of costs.now s }
-    requires fact { Open rows.now s free }
-    ensures { Planned rows.now costs.now s free cost limit result }
-{
-    if limit <= cost + disjoint::bound(rows, costs, s, free) {
-        return Next::Cut;
-    }
-    let kept = ascent::affordable(rows, costs, free, limit - cost);
-    let useful = dominance::thin(rows, costs, s, kept);
-    let choice = branching::choose(rows, costs, s, useful);
-    match choice {
-        Choice::Done => Next::Done,
-        Choice::Lost => Next::Cut,
-        Choice::Try(m) => {
-            let part = components::component(rows, s, useful, m);
-            let other = set::minus(useful, part);
-            if components::divides(s, useful, part, other) {
-                return Next::Split(useful, part);
+impl<'a> Node<'a> {
+    // How to look for a cover of the rows, of which s meets none, between s and s | free that costs less than limit. Which way is taken is
+    // left open: each is right where it is taken.
+    fn decide(&self, limit: u64) -> Next
+        requires { Open self.now.rows.now self.now.s self.now.free }
+        ensures { let n = self.now in Planned n.rows.now n.costs.now n.s n.free n.cost limit result }
+    {
+        let Node {
+            rows,
+            costs,
+            s,
+            free,
+            cost,
+        } = *self;
+        if limit <= cost + disjoint::bound(rows, costs, s, free) {
+            return Next::Cut;
+        }
+        let kept = ascent::affordable(rows, costs, free, limit - cost);
+        let useful = dominance::thin(rows, costs, s, kept);
+        match branching::choose(rows, costs, s, useful) {
+            Choice::Done => Next::Done,
+            Choice::Lost => Next::Cut,
+            Choice::Try(m) => {
+                let part = components::component(rows, s, useful, m);
+                let other = set::minus(useful, part);
+                if components::divides(s, useful, part, other) {
+                    return Next::Split(useful, part);
+                }
+                Next::Branch(useful, m)
             }
-            Next::Branch(useful, m)
         }
     }
-}
 
-// The same for any rows: what is free of those that s does not meet is put in front of out, and only that is looked at.
-fn look(
-    rows: &[u64],
-    costs: &[u16],
-    s: u64,
-    free: u64,
-    cost: u64,
-    limit: u64,
-    out: &mut [u64],
-) -> Next
-    requires rows_in_bounds { length rows.now ≤ length out.old }
-    requires costs_len_bound { length costs.now ≤ 64 }
-    requires cost_value { cost ≡ cost_of costs.now s }
-    ensures { Planned rows.now costs.now s free cost limit result }
-{
-    let n = residue::unmet(rows, s, free, out);
-    decide(&out[..n], costs, s, free, cost, limit)
-}
-
-// The same with room for the rows: most tables have few, and it is made anew at each node.
-pub fn plan(rows: &[u64], costs: &[u16], s: u64, free: u64, cost: u64, limit: u64) -> Next
-    requires rows_len_bound { length rows.now ≤ 2048 }
-    requires costs_len_bound { length costs.now ≤ 64 }
-    requires cost_value { cost ≡ cost_of costs.now s }
-    ensures { Planned rows.now costs.now s free cost limit result }
-{
-    if rows.len() <= 64 {
-        let mut few: [u64; 64] = [0; 64];
-        return look(rows, costs, s, free, cost, limit, &mut few);
+    // The same for any rows, of which there are N at most: what is free of those that s does not meet is kept, and only that is looked at.
+    fn look<const N: usize>(&self, limit: u64) -> Next
+        requires rows_len_bound { length self.now.rows.now ≤ N }
+        requires size_bound { N ≤ 2048 }
+        ensures { let n = self.now in Planned n.rows.now n.costs.now n.s n.free n.cost limit result }
+    {
+        let mut left = [0; N];
+        let n = residue::unmet(self.rows, self.s, self.free, &mut left);
+        let node = Node {
+            rows: &left[..n],
+            costs: self.costs,
+            s: self.s,
+            free: self.free,
+            cost: self.cost,
+        };
+        node.decide(limit)
     }
-    let mut many: [u64; 2048] = [0; 2048];
-    look(rows, costs, s, free, cost, limit, &mut many)
+
+    // The same with room for the rows: most tables have few, and it is made anew at each node.
+    pub fn plan(&self, limit: u64) -> Next
+        ensures { let n = self.now in Planned n.rows.now n.costs.now n.s n.free n.cost limit result }
+    {
+        if self.rows.len() <= 64 {
+            return self.look::<64>(limit);
+        }
+        self.look::<2048>(limit)
+    }
 }

@@ -6,25 +6,14 @@ ghost use Rattle.model.specs.Commands.{number, block_of_f};
 
 use model::{Block, Prices, Term};
 
-// A byte as a 64-bit number.
-fn long(x: u8) -> u64
-    ensures { (result ≡ x) × (result ≤ 255) }
-{
-    x as u64
-}
-
-// The 8 bytes at `at` as a number, low byte first: read from the last one down.
+// The 8 bytes at `at` as a number, low byte first.
 pub fn number_at(job: &[u8], at: usize) -> u64
     requires { at + 8 ≤ length job.now }
     ensures { result ≡ number (take 8 (drop at job.now)) }
 {
-    let mut x: u64 = 0;
-    let mut i: usize = 8;
-    while 0 < i {
-        i -= 1;
-        x = x * 256 + long(job[at + i]);
-    }
-    x
+    let mut bytes = [0; 8];
+    bytes.copy_from_slice(&job[at..at + 8]);
+    u64::from_le_bytes(bytes)
 }
 
 // The 3 bytes at `at` as prices.
@@ -51,35 +40,12 @@ pub fn term_at(job: &[u8], at: usize) -> Term
     }
 }
 
-// A byte as a 16-bit number.
-fn short(x: u8) -> u16
-    ensures { (result ≡ x) × (result ≤ 255) }
-{
-    x as u16
-}
-
 // The 2 bytes at `at` as a number, low byte first.
 pub fn short_at(job: &[u8], at: usize) -> u16
     requires { at + 2 ≤ length job.now }
     ensures { result ≡ number (get_or job.now at 0 ∷ get_or job.now (at + 1) 0 ∷ []) }
 {
-    let low = short(job[at]);
-    let high = short(job[at + 1]);
-    low + 256 * high
-}
-
-// The 32 bytes at `at`.
-fn bytes_at(job: &[u8], at: usize) -> [u8; 32]
-    requires { at + 32 ≤ length job.now }
-    ensures { result ≡ take 32 (drop at job.now) }
-{
-    let mut all = [0u8; 32];
-    let mut i: usize = 0;
-    while i < 32 {
-        all[i] = job[at + i];
-        i += 1;
-    }
-    all
+    u16::from_le_bytes([job[at], job[at + 1]])
 }
 
 // The 35 bytes at `at` as a block: its outputs, its vertices and its weight.
@@ -87,11 +53,11 @@ pub fn block_at(job: &[u8], at: usize) -> Block
     requires { at + 35 ≤ length job.now }
     ensures { result ≡ block_of_f (drop at job.now) }
 {
-    let vertices = bytes_at(job, at + 1);
-    let weight = short_at(job, at + 33);
+    let mut vertices = [0; 32];
+    vertices.copy_from_slice(&job[at + 1..at + 33]);
     Block {
         outputs: job[at],
-        vertices: vertices,
-        weight: weight,
+        vertices,
+        weight: short_at(job, at + 33),
     }
 }

@@ -11,6 +11,8 @@ use Rattle.model.specs.Commands.{Context, Row, row_of_b, rows_of_b, add_row, add
 use Rattle.model.specs.Answers.{answer_for}
 use Rattle.model.specs.Refusals.{first_of, row_refusals, rows_refusals, refusals_of}
 use Rattle.model.specs.Invariants.{Valid}
+use Rattle.model.specs.Places.{place_of}
+use Rattle.model.specs.declared.place.Place.TheVariants.{AmongRows}
 use Rattle.model.proofs.Lists.{all_to}
 use Rattle.model.proofs.Runs.{first_none, none_first, first_before, first_behind}
 use Rattle.model.proofs.RowByRow.{rows_eight, rows_drop, rows_rise, rows_place, EachPasses, all_pass}
@@ -21,8 +23,7 @@ use Rattle.problem.specs.Problems.{Holds, Reached, Sized}
 use Rattle.problem.specs.Refusing as record·refusals
 use Rattle.problem.proofs.Refusing.{row_refusal_lem}
 use Rattle.problem.proofs.Keeping.{reached_sized, all_rows, after_rows}
-use Rattle.commands.specs.declared.Effect.{Effect}
-use Rattle.commands.specs.Effects.{refused_as, Handled, HandlesR, HandlesB}
+use Rattle.commands.specs.Effects.{Outcome, refused_as, Handled, HandlesR, HandlesB}
 use Rattle.commands.proofs.Handling.{late_own, late_silent, handled_refused, handled_silent}
 
 -- ---- one row
@@ -31,7 +32,7 @@ use Rattle.commands.proofs.Handling.{late_own, late_silent, handled_refused, han
 abbrev row_context : model.Problem → Row → Context
 row_context q w = record { problem = q; kind = model.Kind.R; rest = w.vertex ∷ w.on ∷ w.dc ∷ []; free = 0 }
 
-module _ {p : Problem} {q : model.Problem} (w : Row) {e : Effect} (h : Holds p q) (v : Valid q) (o : model.begun ≤ q.place) (r : HandlesR p w.vertex w.on w.dc e) where
+module _ {p : Problem} {q : model.Problem} (w : Row) {e : Outcome} (h : Holds p q) (v : Valid q) (o : model.begun ≤ q.place) (r : HandlesR p w.vertex w.on w.dc e) where
   handled : Handled (row_context q w) model.Kind.R [] [] e
   handled = r (row_context q w) [] (record { holds = h; valid = v; begun = o }) refl refl refl
 
@@ -66,12 +67,12 @@ pub record Added (p : Problem) (ws : List Row) (i : ℕ) (now : Problem) : Type 
 pub added_none : {p : Problem} (ws : List Row) → Added p ws 0 p
 added_none ws = record { in_problem = λ q h v o m. record { behind = q; holds = h; valid = v; begun = o; in_rows = m; refusals = refl; after = refl } }
 
-pub added_sized : {p now : Problem} {ws : List Row} {i : ℕ} → Reached p → model.begun ≤ p.place → p.place ≤ model.among_rows → Added p ws i now → Sized now
+pub added_sized : {p now : Problem} {ws : List Row} {i : ℕ} → Reached p → model.begun ≤ place_of p.place → place_of p.place ≤ model.among_rows → Added p ws i now → Sized now
 added_sized r o m a =
     let b = a.in_problem r.problem r.holds r.valid (omega (arith, r.holds.place)) (omega (arith, r.holds.place)) in
     reached_sized _ (record { problem = b.behind; holds = b.holds; valid = b.valid })
 
-module _ {p now : Problem} {ws : List Row} {i : ℕ} {w : Row} {e : Effect} (a : Added p ws i now) (next : drop i ws ≡ w ∷ drop (suc i) ws)
+module _ {p now : Problem} {ws : List Row} {i : ℕ} {w : Row} {e : Outcome} (a : Added p ws i now) (next : drop i ws ≡ w ∷ drop (suc i) ws)
     (r : HandlesR now w.vertex w.on w.dc e) where
   pub added_next : e.number ≡ 0 → Added p ws (suc i) e.problem
   added_next z = record { in_problem = λ q h v o m. go q (a.in_problem q h v o m) }
@@ -91,7 +92,7 @@ module _ {p now : Problem} {ws : List Row} {i : ℕ} {w : Row} {e : Effect} (a :
             after = b.after ∙ ap (add_rows b.behind) next;
           }
 
-  pub added_refused : {f : Effect} → (e.number ≡ 0 → ⊥) → f ≡ refused_as p e.number → HandlesB p ws f
+  pub added_refused : {f : Outcome} → (e.number ≡ 0 → ⊥) → f ≡ refused_as p e.number → HandlesB p ws f
   unfolding refusals_of
   added_refused {f} n s x free d m g = handled_refused x model.Kind.B free p e.number f d.holds s (late_own x model.Kind.B e.number own n) n
     where
@@ -121,7 +122,7 @@ added_all {p} {now} {ws} {i} a none x free d m g = handled_silent x model.Kind.B
 
 -- ---- the rows of a B, as they are read
 
-module _ {p now : Problem} (job : List ℕ) (at : ℕ) {first i : ℕ} {e : Effect} (a : Added p (rows_of_b (drop at job)) i now) (l : i < 8) (f : first ≡ get_or job at 0)
+module _ {p now : Problem} (job : List ℕ) (at : ℕ) {first i : ℕ} {e : Outcome} (a : Added p (rows_of_b (drop at job)) i now) (l : i < 8) (f : first ≡ get_or job at 0)
     (r : HandlesR now (first + i) (get_or job (at + 1 + 2 * i) 0) (get_or job (at + 2 + 2 * i) 0) e) where
   read_row : let w = row_of_b (drop at job) i in HandlesR now w.vertex w.on w.dc e
   read_row =
@@ -133,7 +134,7 @@ module _ {p now : Problem} (job : List ℕ) (at : ℕ) {first i : ℕ} {e : Effe
   pub row_next : e.number ≡ 0 → Added p (rows_of_b (drop at job)) (i + 1) e.problem
   row_next z = let s : suc i ≡ i + 1 = omega arith in subst (λ (k : ℕ). Added p (rows_of_b (drop at job)) k e.problem) s (added_next a (rows_drop (drop at job) i l) read_row z)
 
-  pub row_stops : {g : Effect} → (e.number ≡ 0 → ⊥) → g ≡ refused_as p e.number → HandlesB p (rows_of_b (drop at job)) g
+  pub row_stops : {g : Outcome} → (e.number ≡ 0 → ⊥) → g ≡ refused_as p e.number → HandlesB p (rows_of_b (drop at job)) g
   row_stops n s = added_refused a (rows_drop (drop at job) i l) read_row n s
 
 pub rows_done : {p now : Problem} (bs : List ℕ) {i : ℕ} → Added p (rows_of_b bs) i now → 8 ≤ i → HandlesB p (rows_of_b bs) (record { number = 0; written = 0; problem = now })
@@ -149,13 +150,13 @@ module _ (p : Problem) (sizes : Sized p) (bs : List ℕ)
       (λ w e. first_none (row_refusals q w) (refusals_of_no (row_context q w) model.Kind.R) (sym (e ∙ row_refusal_lem p q w sizes h))) (rows_of_b bs) accepted
 
   -- a B each of whose rows is accepted by itself
-  pub eight_kept : HandlesB p (rows_of_b bs) (record { number = 0; written = 0; problem = all_rows model.among_rows (rows_of_b bs) p })
+  pub eight_kept : HandlesB p (rows_of_b bs) (record { number = 0; written = 0; problem = all_rows AmongRows (rows_of_b bs) p })
   unfolding refusals_of answer_for problem_after
   eight_kept x free d m g =
       let q = x.problem in
       let ws = rows_of_b bs in
       let passes = all_pass ws q (get_or bs 0 0) (rows_rise bs) (each_passes q d.holds) in
-      let after = after_rows ws p q d.holds d.valid d.begun m passes in
+      let after = after_rows ws p q AmongRows d.holds d.valid d.begun m passes (sym (rows_place bs q)) in
       let own = none_first (rows_refusals q ws) passes in
-      handled_silent x model.Kind.B free (all_rows model.among_rows ws p) refl (sym (ap (λ (vs : List Row). first_of (rows_refusals q vs)) g ∙ own))
-      (subst⁻¹ (λ (r : model.Problem). Holds (all_rows model.among_rows ws p) r) (ap (add_rows q) g) (subst (λ (place : ℕ). Holds (all_rows place ws p) (add_rows q ws)) (rows_place bs q) after))
+      handled_silent x model.Kind.B free (all_rows AmongRows ws p) refl (sym (ap (λ (vs : List Row). first_of (rows_refusals q vs)) g ∙ own))
+      (subst⁻¹ (λ (r : model.Problem). Holds (all_rows AmongRows ws p) r) (ap (add_rows q) g) after)

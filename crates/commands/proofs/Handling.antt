@@ -1,5 +1,5 @@
 -- The laws behind the commands: a refusal, an answer of no bytes, an answer that is written, and one that is too long.
-use Prim.Native.Nat.{ℕ, ◌^◌, ◌≤◌, ◌<◌, max}
+use Prim.Native.Nat.{ℕ, ◌^◌, ◌≤◌, ◌<◌}
 use native.Mathlib.Omega.{arith}
 use native.Mathlib.Decide.{ℕ_discrete}
 use mathlib.Core.Path.{◌≡◌, refl, sym, ap, ◌∙◌, subst, subst⁻¹}
@@ -11,6 +11,9 @@ use lib.ListN.{length, drop, take, length-take}
 use Rattle.model.specs.declared.Term.{Term}
 use Rattle.model.specs.declared.Block.{Block}
 use Rattle.model.specs.declared.Prices.{Prices}
+use Rattle.model.specs.declared.reason.Reason.{Reason}
+use Rattle.model.specs.Reasons.{number_of}
+use Rattle.std.specs.Prelude.{Result, Ok, Err, IsErrAnd}
 use Rattle.model.specs.Base.{without, All}
 use Rattle.model.specs.Candidates.{Candidate}
 use Rattle.model.specs.Primes.{primes}
@@ -20,6 +23,8 @@ use Rattle.model.specs.Commands.{Context, table_of, operand, Row, row_of_r, oper
 use Rattle.model.specs.Answers.{Answer, bytes_of, answer_for}
 use Rattle.model.specs.Refusals as model·refusals
 use Rattle.model.specs.Refusals.{Refusal, refuse, first_of, refusals_of, size, dear, bad_range}
+use Rattle.model.specs.Places.{later}
+use Rattle.model.specs.declared.place.Place.TheVariants.{Begun, InPrices, InCandidates, Queried}
 use Rattle.model.proofs.Runs.{Numbered, first_none, first_before, first_behind}
 use Rattle.model.proofs.Sound.{refusals_of_no}
 use Rattle.primes.specs.declared.prime_list.PrimeList.{PrimeList}
@@ -28,8 +33,6 @@ use Rattle.table.specs.Cubes.{MayOf}
 use Rattle.incidence.specs.Stored.{BlocksAt, Adds, TakesOut}
 use Rattle.primes.specs.Primes.{FirstTerms, AllPrimes}
 use Rattle.primes.proofs.Uses.{whole_list}
-use Rattle.answers.specs.declared.writers.Reply.{Reply}
-use Rattle.answers.specs.declared.writers.Reply.TheVariants.{Written, TooLong}
 use Rattle.answers.specs.Writers.{Replied}
 use Rattle.problem.specs.declared.Problem.{Problem}
 use Rattle.problem.specs.Problems.{started_with, at_place, with_prices, with_candidates, term_put, block_put, candidate_taken, range_put, WithPrimes, Sized, Holds, Reached}
@@ -37,8 +40,13 @@ use Rattle.problem.specs.Refusing.{row_refusals, term_refusals, TermRefusal, blo
 use Rattle.problem.proofs.Refusing.{row_refusal_lem, held_bytes, term_here, block_here}
 use Rattle.problem.proofs.Keeping.{after_i, after_w, with_row, after_row, row_within, held_count, after_term, after_block, after_p, after_d, after_g}
 use Rattle.commands.specs.declared.Effect.{Effect}
-use Rattle.commands.specs.Effects.{refused_as, answer_bytes, late_refusal, Handled, Found, HandlesI, HandlesW, HandlesR, RefusesTerm}
+use Rattle.commands.specs.Effects.{Outcome, refused_as, outcome, answer_bytes, late_refusal, Handled, Found, HandlesI, HandlesW, HandlesR, RefusesTerm}
 use Rattle.commands.specs.Effects.{RefusesBlock, HandlesTerm, HandlesF, HandlesP, HandlesD, HandlesG, HandlesE}
+
+-- a refusal that a `?` passes on
+pub passed_on : (p : Problem) (r : Result Effect Reason) (y : Reason) → IsErrAnd r (λ e. e ≡ y) → outcome p r ≡ refused_as p (number_of y)
+passed_on p (Ok e) y h = absurd h
+passed_on p (Err e) y h = ap (λ (x : Reason). refused_as p (number_of x)) h
 
 -- ---- 14 stands behind the command's own refusals
 
@@ -65,7 +73,7 @@ module _ (x : Context) (k : model.Kind) where
 
   -- ---- effects
 
-  pub handled_refused : (old : List ℕ) (p : Problem) (n : ℕ) (e : Effect) → Holds p x.problem → e ≡ refused_as p n → n ≡ late_refusal x k → (n ≡ 0 → ⊥) → Handled x k old old e
+  pub handled_refused : (old : List ℕ) (p : Problem) (n : ℕ) (e : Outcome) → Holds p x.problem → e ≡ refused_as p n → n ≡ late_refusal x k → (n ≡ 0 → ⊥) → Handled x k old old e
   handled_refused old p n e h q l d = rw q record { number = l; refused = λ i. record { bytes = refl; problem = h }; answered = λ z. absurd (d z) }
 
   pub handled_silent : (old : List ℕ) (q : Problem) → answer_bytes x k ≡ [] → 0 ≡ first_of (refusals_of x k) → Holds q (problem_after x k)
@@ -76,30 +84,30 @@ module _ (x : Context) (k : model.Kind) where
     answered = λ z. record { written = sym (ap length a); bytes = rw a; problem = h };
   }
 
-  pub handled_written : (old new : List ℕ) (q : Problem) (r : Reply) (n : ℕ) → r ≡ Written n → x.free ≡ length old
+  pub handled_written : (old new : List ℕ) (q : Problem) (r : Result ℕ Reason) (n : ℕ) → r ≡ Ok n → x.free ≡ length old
       → Replied (answer_bytes x k) old new r → 0 ≡ first_of (refusals_of x k) → Holds q (problem_after x k)
       → Handled x k old new (record { number = 0; written = n; problem = q })
   handled_written old new q r n s f w e h =
-      let w' : Replied (answer_bytes x k) old new (Written n) = subst (Replied (answer_bytes x k) old new) s w in
+      let w' : Replied (answer_bytes x k) old new (Ok n) = subst (Replied (answer_bytes x k) old new) s w in
       record {
         number = late_none e (omega (arith, w'.0, w'.1));
         refused = λ d. absurd (d refl);
         answered = λ z. record { written = w'.0; bytes = w'.2 ∙ ap (λ (i : ℕ). answer_bytes x k ++ drop i old) w'.0; problem = h };
       }
 
-  pub handled_long : (old new : List ℕ) (p : Problem) (r : Reply) (e : Effect) → Holds p x.problem → r ≡ TooLong → e ≡ refused_as p 14 → x.free ≡ length old
+  pub handled_long : (old new : List ℕ) (p : Problem) (r : Result ℕ Reason) (y : Reason) (e : Outcome) → Holds p x.problem → r ≡ Err y → e ≡ refused_as p (number_of y) → x.free ≡ length old
       → Replied (answer_bytes x k) old new r → 0 ≡ first_of (refusals_of x k) → Handled x k old new e
-  handled_long old new p r e h s q f w o =
-      let w' : Replied (answer_bytes x k) old new TooLong = subst (Replied (answer_bytes x k) old new) s w in
-      rw q record { number = late_long o (omega (arith, w'.0)); refused = λ d. record { bytes = w'.1; problem = h }; answered = λ z. absurd (omega (arith, z)) }
+  handled_long old new p r y e h s q f w o =
+      let w' : Replied (answer_bytes x k) old new (Err y) = subst (Replied (answer_bytes x k) old new) s w in
+      rw (q, w'.0) record { number = late_long o (omega (arith, w'.1)); refused = λ d. record { bytes = w'.2; problem = h }; answered = λ z. absurd (omega (arith, z)) }
 
 -- ---- I, W and R
 
-pub init_refused : (p : Problem) (n m r : ℕ) (e : Effect) → r ≡ first_of (refuse 6 (not (size n && size m)) ∷ []) → (r ≡ 0 → ⊥) → e ≡ refused_as p r → HandlesI p n m e
+pub init_refused : (p : Problem) (n m r : ℕ) (e : Outcome) → r ≡ first_of (refuse 6 (not (size n && size m)) ∷ []) → (r ≡ 0 → ⊥) → e ≡ refused_as p r → HandlesI p n m e
 unfolding refusals_of
 init_refused p n m r e o d q x free h a b = handled_refused x model.Kind.I free p r e h q (late_own x model.Kind.I r (rw (a, b) o) d) d
 
-pub init_good : (p : Problem) (n m r : ℕ) (q : Problem) → r ≡ first_of (refuse 6 (not (size n && size m)) ∷ []) → r ≡ 0 → q ≡ started_with n m model.begun
+pub init_good : (p : Problem) (n m r : ℕ) (q : Problem) → r ≡ first_of (refuse 6 (not (size n && size m)) ∷ []) → r ≡ 0 → q ≡ started_with n m Begun
     → HandlesI p n m (record { number = 0; written = 0; problem = q })
 unfolding refusals_of answer_for
 init_good p n m r q o z s x free h a b = handled_silent x model.Kind.I free q refl (rw (a, b) (sym z ∙ o)) (subst⁻¹ (λ (y : Problem). Holds y (problem_after x model.Kind.I)) s (after_i x n m a b))
@@ -109,10 +117,10 @@ module _ (p : Problem) (w : Prices) (r : ℕ) (o : r ≡ first_of (refuse 16 (de
   unfolding refusals_of
   prices_here x a = o ∙ ap (λ (v : Prices). first_of (refuse 16 (dear v) ∷ [])) (sym a)
 
-  pub prices_refused : (e : Effect) → (r ≡ 0 → ⊥) → e ≡ refused_as p r → HandlesW p w e
+  pub prices_refused : (e : Outcome) → (r ≡ 0 → ⊥) → e ≡ refused_as p r → HandlesW p w e
   prices_refused e d q x free f l a = handled_refused x model.Kind.W free p r e f.holds q (late_own x model.Kind.W r (prices_here x a) d) d
 
-  pub prices_kept : (q : Problem) → r ≡ 0 → q ≡ at_place model.in_prices (with_prices w p) → HandlesW p w (record { number = 0; written = 0; problem = q })
+  pub prices_kept : (q : Problem) → r ≡ 0 → q ≡ at_place InPrices (with_prices w p) → HandlesW p w (record { number = 0; written = 0; problem = q })
   unfolding answer_for
   prices_kept q z s x free f l a =
       let none = f.valid.early (omega (arith, l)) in
@@ -127,7 +135,7 @@ module _ (p : Problem) (sizes : Sized p) (v on dc r : ℕ) (o : r ≡ first_of (
   unfolding refusals_of
   row_here x f a b c = rw (a, b, c) (o ∙ row_refusal_lem p x.problem as_row sizes f.holds)
 
-  pub row_refused : (e : Effect) → (r ≡ 0 → ⊥) → e ≡ refused_as p r → HandlesR p v on dc e
+  pub row_refused : (e : Outcome) → (r ≡ 0 → ⊥) → e ≡ refused_as p r → HandlesR p v on dc e
   row_refused e d q x free f a b c = handled_refused x model.Kind.R free p r e f.holds q (late_own x model.Kind.R r (row_here x f a b c) d) d
 
   row_holds : (x : Context) → Found p x → operand x 0 ≡ v → operand x 1 ≡ on → operand x 2 ≡ dc → 0 ≡ first_of (refusals_of x model.Kind.R) → Holds (with_row as_row p) (problem_after x model.Kind.R)
@@ -153,7 +161,7 @@ refuses_block p may b r z of f x d = block_here p x may b r z d.holds d.valid of
 -- a command that adds a candidate: 11 stands behind the two refusals of its operands, of which r is the first
 module _ (p : Problem) (k : model.Kind) (x : Context) (f : Found p x) (two : List Refusal) (numbered : All Numbered two)
     (own : refusals_of x k ≡ two ++ (refuse 11 (leb 64 (length x.problem.cands)) ∷ [])) (r : ℕ) (o : r ≡ first_of two) where
-  candidate_refused : (free : List ℕ) (e : Effect) → (r ≡ 0 → ⊥) → e ≡ refused_as p r → Handled x k free free e
+  candidate_refused : (free : List ℕ) (e : Outcome) → (r ≡ 0 → ⊥) → e ≡ refused_as p r → Handled x k free free e
   candidate_refused free e d q =
       let first : r ≡ first_of (refusals_of x k) = sym (ap first_of own ∙ first_before two (refuse 11 (leb 64 (length x.problem.cands)) ∷ []) (λ z. d (o ∙ z)) ∙ sym o) in
       handled_refused x k free p r e f.holds q (late_own x k r first d) d
@@ -161,7 +169,7 @@ module _ (p : Problem) (k : model.Kind) (x : Context) (f : Found p x) (two : Lis
   behind : r ≡ 0 → first_of (refusals_of x k) ≡ first_of (refuse 11 (leb 64 (length x.problem.cands)) ∷ [])
   behind z = ap first_of own ∙ first_behind two (refuse 11 (leb 64 (length x.problem.cands)) ∷ []) numbered (sym o ∙ z)
 
-  candidate_many : (free : List ℕ) (e : Effect) → r ≡ 0 → 64 ≤ p.candidates.count → e ≡ refused_as p 11 → Handled x k free free e
+  candidate_many : (free : List ℕ) (e : Outcome) → r ≡ 0 → 64 ≤ p.candidates.count → e ≡ refused_as p 11 → Handled x k free free e
   candidate_many free e z l q =
       let full : 11 ≡ first_of (refusals_of x k) = sym (behind z ∙ rw (le-leb 64 (length x.problem.cands) (omega (arith, held_count p x.problem f.holds)))) in
       handled_refused x k free p 11 e f.holds q (late_own x k 11 full (λ n. omega (arith, n))) (λ n. omega (arith, n))
@@ -173,7 +181,7 @@ module _ (p : Problem) (k : model.Kind) (x : Context) (f : Found p x) (two : Lis
       handled_silent x k free q silent room h
 
 -- an A is refused as a T is, answers nothing too, and leaves the same problem
-both : (x : Context) (free : List ℕ) (e : Effect) → Handled x model.Kind.T free free e → Handled x model.Kind.T free free e × Handled x model.Kind.A free free e
+both : (x : Context) (free : List ℕ) (e : Outcome) → Handled x model.Kind.T free free e → Handled x model.Kind.T free free e × Handled x model.Kind.A free free e
 unfolding refusals_of answer_for problem_after
 both x free e h = (
   h,
@@ -189,13 +197,13 @@ module _ (p : Problem) (t : Term) (r : ℕ) (o : RefusesTerm p t r) where
   unfolding refusals_of
   term_own x e = rw e
 
-  pub term_refused : (e : Effect) → (r ≡ 0 → ⊥) → e ≡ refused_as p r → HandlesTerm p t e
+  pub term_refused : (e : Outcome) → (r ≡ 0 → ⊥) → e ≡ refused_as p r → HandlesTerm p t e
   term_refused e d q x free f a = both x free e (candidate_refused p model.Kind.T x f (term_refusals (table_of x.problem) t) (omega arith, (omega arith, tt)) (term_own x a) r (o x f) free e d q)
 
-  pub term_many : (e : Effect) → r ≡ 0 → 64 ≤ p.candidates.count → e ≡ refused_as p 11 → HandlesTerm p t e
+  pub term_many : (e : Outcome) → r ≡ 0 → 64 ≤ p.candidates.count → e ≡ refused_as p 11 → HandlesTerm p t e
   term_many e z l q x free f a = both x free e (candidate_many p model.Kind.T x f (term_refusals (table_of x.problem) t) (omega arith, (omega arith, tt)) (term_own x a) r (o x f) free e z l q)
 
-  pub term_kept : (q : Problem) → r ≡ 0 → p.candidates.count < 64 → q ≡ at_place (max p.place model.in_candidates) (with_candidates (term_put p.settings.prices p.candidates t) p)
+  pub term_kept : (q : Problem) → r ≡ 0 → p.candidates.count < 64 → q ≡ at_place (later p.place InCandidates) (with_candidates (term_put p.settings.prices p.candidates t) p)
       → HandlesTerm p t (record { number = 0; written = 0; problem = q })
   unfolding answer_for problem_after
   term_kept q z l s x free f a = both x free (record { number = 0; written = 0; problem = q })
@@ -207,24 +215,24 @@ module _ (p : Problem) (b : Block) (r : ℕ) (o : RefusesBlock p b r) where
   unfolding refusals_of
   block_own x e = ap (model·refusals.block_refusals x.problem) e
 
-  pub block_refused : (held : List ℕ) (e : Effect) → (r ≡ 0 → ⊥) → e ≡ refused_as p r → HandlesF p b held held e
+  pub block_refused : (held : List ℕ) (e : Outcome) → (r ≡ 0 → ⊥) → e ≡ refused_as p r → HandlesF p b held held e
   block_refused held e d q x free f h a = record {
     handled = candidate_refused p model.Kind.F x f (block_refusals (table_of x.problem) b) (omega arith, (omega arith, tt)) (block_own x a) r (o x f) free e d q;
     left = λ n. refl;
-    blocks = λ z. absurd (d (sym (ap (λ (e : Effect). e.number) q) ∙ z));
+    blocks = λ z. absurd (d (sym (ap (λ (e : Outcome). e.number) q) ∙ z));
   }
 
-  pub block_many : (held : List ℕ) (e : Effect) → r ≡ 0 → 64 ≤ p.candidates.count → e ≡ refused_as p 11 → HandlesF p b held held e
+  pub block_many : (held : List ℕ) (e : Outcome) → r ≡ 0 → 64 ≤ p.candidates.count → e ≡ refused_as p 11 → HandlesF p b held held e
   block_many held e z l q x free f h a = record {
     handled = candidate_many p model.Kind.F x f (block_refusals (table_of x.problem) b) (omega arith, (omega arith, tt)) (block_own x a) r (o x f) free e z l q;
     left = λ n. refl;
-    blocks = λ n. absurd (omega (arith, n, ap (λ (e : Effect). e.number) q));
+    blocks = λ n. absurd (omega (arith, n, ap (λ (e : Outcome). e.number) q));
   }
 
   pub block_kept : (q : Problem) (old new : List ℕ) → r ≡ 0 → p.candidates.count < 64 → Adds p.candidates.count b old new
-      → q ≡ at_place (max p.place model.in_candidates) (with_candidates (block_put p.candidates b) p) → HandlesF p b old new (record { number = 0; written = 0; problem = q })
+      → q ≡ at_place (later p.place InCandidates) (with_candidates (block_put p.candidates b) p) → HandlesF p b old new (record { number = 0; written = 0; problem = q })
   unfolding answer_for problem_after
-  block_kept q old new z l g s x free f h a = let then = at_place (max p.place model.in_candidates) (with_candidates (block_put p.candidates b) p) in record {
+  block_kept q old new z l g s x free f h a = let then = at_place (later p.place InCandidates) (with_candidates (block_put p.candidates b) p) in record {
     handled = candidate_kept p model.Kind.F x f (block_refusals (table_of x.problem) b) (omega arith, (omega arith, tt)) (block_own x a) r (o x f) free q z l refl
         (subst⁻¹ (λ (y : Problem). Holds y (problem_after x model.Kind.F)) s (subst⁻¹ (λ (u : Block). Holds then (add_block x.problem u)) a (after_block p x.problem b f.holds l)));
     left = λ n. absurd (n refl);
@@ -242,13 +250,13 @@ module _ (p : Problem) (z : Sized p) (may : List ℕ) (of : MayOf p.rows.on p.ro
       let l = all (table_of r.problem) (of (table_of r.problem) p.settings.n z.inputs (held_bytes p r.problem z r.holds r.valid)) in
       omega (arith, l.stored.counted, length-take 64 (primes (table_of r.problem)))
 
-  pub primes_many : (old : List ℕ) (e : Effect) → list.full ≡ true → e ≡ refused_as p 11 → HandlesP p old old e
+  pub primes_many : (old : List ℕ) (e : Outcome) → list.full ≡ true → e ≡ refused_as p 11 → HandlesP p old old e
   unfolding refusals_of
   primes_many old e g q x f s =
       handled_refused x model.Kind.P old p 11 e f.holds q
       (late_own x model.Kind.P 11 (rw (← (primes_here x f).more, g)) (λ n. omega (arith, n))) (λ n. omega (arith, n))
 
-  module _ (old new : List ℕ) (r : Reply) (g : list.full ≡ false) (w : Replied (bytes_of (Answer.primes_are (take list.count list.terms))) old new r) where
+  module _ (old new : List ℕ) (r : Result ℕ Reason) (g : list.full ≡ false) (w : Replied (bytes_of (Answer.primes_are (take list.count list.terms))) old new r) where
     own_none : (x : Context) → Found p x → 0 ≡ first_of (refusals_of x model.Kind.P)
     unfolding refusals_of
     own_none x f = rw (← (primes_here x f).more, g)
@@ -260,22 +268,22 @@ module _ (p : Problem) (z : Sized p) (may : List ℕ) (of : MayOf p.rows.on p.ro
     unfolding answer_for
     replied x f = subst (λ (ts : List Term). Replied (bytes_of (Answer.primes_are ts)) old new r) (whole x f).same w
 
-    pub primes_long : (e : Effect) → r ≡ TooLong → e ≡ refused_as p 14 → HandlesP p old new e
-    primes_long e s q x f l = handled_long x model.Kind.P old new p r e f.holds s q l (replied x f) (own_none x f)
+    pub primes_long : (e : Outcome) (y : Reason) → r ≡ Err y → e ≡ refused_as p (number_of y) → HandlesP p old new e
+    primes_long e y s q x f l = handled_long x model.Kind.P old new p r y e f.holds s q l (replied x f) (own_none x f)
 
-    pub primes_kept : (q : Problem) (n : ℕ) → r ≡ Written n → WithPrimes p list q → HandlesP p old new (record { number = 0; written = n; problem = q })
+    pub primes_kept : (q : Problem) (n : ℕ) → r ≡ Ok n → WithPrimes p list q → HandlesP p old new (record { number = 0; written = n; problem = q })
     primes_kept q n s w x f l = handled_written x model.Kind.P old new q r n s l (replied x f) (own_none x f) (after_p x p list q f.holds (whole x f) w)
 
 -- ---- D
 
-pub number_gone : (p : Problem) (k i : ℕ) (held : List ℕ) (e : Effect) → i ≡ k → p.candidates.count ≤ i → e ≡ refused_as p 15 → HandlesD p k held held e
+pub number_gone : (p : Problem) (k i : ℕ) (held : List ℕ) (e : Outcome) → i ≡ k → p.candidates.count ≤ i → e ≡ refused_as p 15 → HandlesD p k held held e
 unfolding refusals_of
 number_gone p k i held e j l q x free f h a =
     let own : leb (length x.problem.cands) (operand_number x) ≡ true = le-leb (length x.problem.cands) (operand_number x) (omega (arith, held_count p x.problem f.holds, a)) in
     record {
       handled = handled_refused x model.Kind.D free p 15 e f.holds q (late_own x model.Kind.D 15 (rw own) (λ n. omega (arith, n))) (λ n. omega (arith, n));
       left = λ n. refl;
-      blocks = λ n. absurd (omega (arith, n, ap (λ (e : Effect). e.number) q));
+      blocks = λ n. absurd (omega (arith, n, ap (λ (e : Outcome). e.number) q));
     }
 
 pub number_taken : (p : Problem) (k i : ℕ) (old new : List ℕ) (q : Problem) → Sized p → i ≡ k → i < p.candidates.count → TakesOut p.candidates.blocks i old new
@@ -294,7 +302,7 @@ number_taken p k i old new q z j l t s x free f h a =
 -- ---- G
 
 module _ (p : Problem) (k i low high : ℕ) (j : i ≡ k) where
-  pub range_gone : (e : Effect) → p.candidates.count ≤ i → e ≡ refused_as p 15 → HandlesG p k low high e
+  pub range_gone : (e : Outcome) → p.candidates.count ≤ i → e ≡ refused_as p 15 → HandlesG p k low high e
   unfolding refusals_of
   range_gone e l q x free f a g =
       let own : leb (length x.problem.cands) (operand_number x) ≡ true = le-leb (length x.problem.cands) (operand_number x) (omega (arith, held_count p x.problem f.holds, a)) in
@@ -308,10 +316,10 @@ module _ (p : Problem) (k i low high : ℕ) (j : i ≡ k) where
         let own : leb (length x.problem.cands) (operand_number x) ≡ false = lt-leb (length x.problem.cands) (operand_number x) (omega (arith, n, a)) in
         rw own (o ∙ ap (λ (s : Range). first_of (refuse 19 (bad_range s) ∷ [])) (sym g))
 
-    pub range_refused : (e : Effect) → (r ≡ 0 → ⊥) → e ≡ refused_as p r → HandlesG p k low high e
+    pub range_refused : (e : Outcome) → (r ≡ 0 → ⊥) → e ≡ refused_as p r → HandlesG p k low high e
     range_refused e d q x free f a g = handled_refused x model.Kind.G free p r e f.holds q (late_own x model.Kind.G r (range_here x f a g) d) d
 
-    pub range_kept : (q : Problem) → r ≡ 0 → q ≡ at_place model.queried (with_candidates (range_put p.candidates i low high) p)
+    pub range_kept : (q : Problem) → r ≡ 0 → q ≡ at_place Queried (with_candidates (range_put p.candidates i low high) p)
         → HandlesG p k low high (record { number = 0; written = 0; problem = q })
     unfolding answer_for
     range_kept q z s x free f a g = handled_silent x model.Kind.G free q refl (sym z ∙ range_here x f a g)
@@ -319,7 +327,7 @@ module _ (p : Problem) (k i low high : ℕ) (j : i ≡ k) where
 
 -- ---- E
 
-pub end_early : (p : Problem) (rest : ℕ) (old : List ℕ) (e : Effect) → 0 < rest → e ≡ refused_as p 13 → HandlesE p rest old old e
+pub end_early : (p : Problem) (rest : ℕ) (old : List ℕ) (e : Outcome) → 0 < rest → e ≡ refused_as p 13 → HandlesE p rest old old e
 unfolding refusals_of
 end_early p rest old e l q x h r f =
     handled_refused x model.Kind.E old p 13 e h q (late_own x model.Kind.E 13 (rw (r, lt-ltb 0 rest l)) (λ n. omega (arith, n))) (λ n. omega (arith, n))
@@ -328,11 +336,11 @@ end_none : (x : Context) (rest : ℕ) → rest ≤ 0 → length x.rest ≡ rest 
 unfolding refusals_of
 end_none x rest l r = rw (r, le-ltb 0 rest l)
 
-module _ (p : Problem) (rest : ℕ) (old new : List ℕ) (r : Reply) (l : rest ≤ 0) (w : Replied (bytes_of Answer.ended) old new r) where
-  pub end_long : (e : Effect) → r ≡ TooLong → e ≡ refused_as p 14 → HandlesE p rest old new e
+module _ (p : Problem) (rest : ℕ) (old new : List ℕ) (r : Result ℕ Reason) (l : rest ≤ 0) (w : Replied (bytes_of Answer.ended) old new r) where
+  pub end_long : (e : Outcome) (y : Reason) → r ≡ Err y → e ≡ refused_as p (number_of y) → HandlesE p rest old new e
   unfolding answer_for
-  end_long e s q x h i f = handled_long x model.Kind.E old new p r e h s q f w (end_none x rest l i)
+  end_long e y s q x h i f = handled_long x model.Kind.E old new p r y e h s q f w (end_none x rest l i)
 
-  pub end_written : (n : ℕ) → r ≡ Written n → HandlesE p rest old new (record { number = 0; written = n; problem = p })
+  pub end_written : (n : ℕ) → r ≡ Ok n → HandlesE p rest old new (record { number = 0; written = n; problem = p })
   unfolding answer_for problem_after
   end_written n s x h i f = handled_written x model.Kind.E old new p r n s f w (end_none x rest l i) h

@@ -6,6 +6,7 @@ use mathlib.Core.Path.{◌≡◌, refl, sym, ap, ap₂, ◌∙◌, subst}
 use mathlib.Core.Bool.{Bool, true, false, cond}
 use mathlib.Core.List.{List, [], ◌∷◌, map}
 use lib.Dec.{T}
+use mir.Val.{bool_byte}
 use lib.ListN.{get_or, length, set, replicate, length-set, length-map, length-take, length-replicate}
 use lib.Pow.{pow_mono}
 use lib.Seq.{get_or-set_same, get_or-set_other, get_or-take}
@@ -26,6 +27,11 @@ use Rattle.problem.specs.Problems.{HoldsCands}
 use Rattle.dump.specs.Shown.{candidate_at, range_at, in_set, vertex_byte, Vertices, ShownAs}
 
 -- ---- a byte, from its last vertex down
+
+-- a truth value as a bit
+pub one_or_none : (b : Bool) → bool_byte b ≡ cond b 1 0
+one_or_none true = refl
+one_or_none false = refl
 
 module _ (held : List ℕ) (i a : ℕ) where
   -- of eight vertices from a on, those from the k-th on are passed

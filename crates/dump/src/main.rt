@@ -18,7 +18,7 @@
 // candidate's.
 #![tactic(auto)]
 
-ghost use Rattle.std.specs.Prelude.{◌≡◌, cond, [], ◌<◌};
+ghost use Rattle.std.specs.Prelude.{◌≡◌, [], ◌<◌};
 ghost use Rattle.model.specs.Ranges.{between};
 ghost use Rattle.model.specs.Candidates.{Candidate, term_cost};
 ghost use Rattle.incidence.specs.Stored.{BlocksAt};
@@ -28,40 +28,18 @@ ghost use Rattle.dump.specs.Shown.{left, candidate_at, range_at, vertex_byte, Ve
 use bits::set;
 use model::{Block, Prices, Term};
 use problem::{Candidates, Problem, TableRows};
+use report::Hex;
 use std::io;
 use std::io::Read;
 
-// A name and a number.
-fn print_number(rt: &impl Print, name: &[u8], x: usize) -> io::Result<()> {
-    rt.write_all(name)?;
-    print!(rt; "{x}")
-}
-
-// A name and a byte.
-fn print_byte(rt: &impl Print, name: &[u8], b: u8) -> io::Result<()> {
-    rt.write_all(name)?;
-    report::print_byte(rt, b)
-}
-
-fn end_line(rt: &impl Print) -> io::Result<()> {
-    rt.write_all(b"\n")
-}
-
-fn print_row(rt: &impl Print, v: usize, on: u8, dc: u8) -> io::Result<()> {
-    print_number(rt, b"row ", v)?;
-    print_byte(rt, b" on ", on)?;
-    print_byte(rt, b" dc ", dc)?;
-    end_line(rt)
-}
-
 // A line for each vertex that has a row.
 fn print_rows(rt: &impl Print, rows: TableRows) -> io::Result<()> {
-    let mut v: usize = 0;
-    while v < 256 {
+    for v in 0..256 {
         if rows.given[v] != 0 {
-            print_row(rt, v, rows.on[v], rows.dc[v])?;
+            let on = rows.on[v];
+            let dc = rows.dc[v];
+            println!(rt; "row {v} on {on:02x} dc {dc:02x}")?;
         }
-        v += 1;
     }
     Ok(())
 }
@@ -78,18 +56,14 @@ fn print_term(
     requires i_value { candidate_at (left job.now).cands i ≡ Candidate.term t }
     requires weight_value { weight ≡ term_cost w t }
 {
-    print_number(rt, b"candidate ", i)?;
-    print_byte(rt, b" care ", t.care)?;
-    print_byte(rt, b" value ", t.value)?;
-    print_byte(rt, b" outputs ", t.outputs)?;
-    print_number(rt, b" weight ", weight as usize)
-}
-
-// A truth value as a bit.
-fn flag(b: bool) -> u8
-    ensures { result ≡ cond b 1 0 }
-{
-    if b { 1 } else { 0 }
+    let Term {
+        care,
+        value,
+        outputs,
+    } = t;
+    print!(rt;
+        "candidate {i} care {care:02x} value {value:02x} outputs {outputs:02x} weight {weight}"
+    )
 }
 
 // Byte j of the vertices of block i, read from its last vertex down.
@@ -97,11 +71,9 @@ fn vertex_byte(held: &[u64; 256], i: u64, j: usize) -> u8
     requires { (i < 64) × (j < 32) }
     ensures { result ≡ vertex_byte held.now i j }
 {
-    let mut byte: u8 = 0;
-    let mut k: usize = 8;
-    while 0 < k {
-        k -= 1;
-        byte = byte * 2 + flag(set::has(held[8 * j + k], i));
+    let mut byte = 0;
+    for k in (0..8).rev() {
+        byte = byte * 2 + u8::from(set::has(held[8 * j + k], i));
     }
     byte
 }
@@ -111,44 +83,31 @@ fn vertices(held: &[u64; 256], i: u64) -> [u8; 32]
     requires { i < 64 }
     ensures { Vertices held.now i 32 result }
 {
-    let mut bytes = [0u8; 32];
-    let mut j: usize = 0;
-    while j < 32 {
+    let mut bytes = [0; 32];
+    for j in 0..32 {
         bytes[j] = vertex_byte(held, i, j);
-        j += 1;
     }
     bytes
-}
-
-// Each byte by its two digits.
-fn print_bytes(rt: &impl Print, name: &[u8], bytes: [u8; 32]) -> io::Result<()> {
-    rt.write_all(name)?;
-    let mut j: usize = 0;
-    while j < 32 {
-        report::print_byte(rt, bytes[j])?;
-        j += 1;
-    }
-    Ok(())
 }
 
 // Candidate i of the record that this job leaves: block b.
 fn print_block(rt: &impl Print, job: &[u8], i: usize, b: Block) -> io::Result<()>
     requires { ShownAs (left job.now).cands i b }
 {
-    let vertices = b.vertices;
-    print_number(rt, b"candidate ", i)?;
-    print_byte(rt, b" block outputs ", b.outputs)?;
-    print_bytes(rt, b" vertices ", vertices)?;
-    print_number(rt, b" weight ", b.weight as usize)
+    let Block {
+        outputs,
+        vertices,
+        weight,
+    } = b;
+    let vertices = Hex(&vertices);
+    print!(rt; "candidate {i} block outputs {outputs:02x} vertices {vertices} weight {weight}")
 }
 
 // The range of candidate i of the record that this job leaves, and the end of its line.
 fn print_range(rt: &impl Print, job: &[u8], i: usize, low: u16, high: u16) -> io::Result<()>
     requires { range_at (left job.now).ranges i ≡ between low high }
 {
-    print_number(rt, b" low ", low as usize)?;
-    print_number(rt, b" high ", high as usize)?;
-    end_line(rt)
+    println!(rt; " low {low} high {high}")
 }
 
 // A line for candidate i.
@@ -174,8 +133,8 @@ fn print_one(
             i,
             Block {
                 outputs: t.outputs,
-                vertices: vertices,
-                weight: weight,
+                vertices,
+                weight,
             },
         )?;
     } else {
@@ -195,19 +154,19 @@ fn print_candidates(
     requires holds_cands { HoldsCands w candidates (left job.now).cands (left job.now).weights (left job.now).ranges }
     requires blocks_at { BlocksAt (left job.now).cands held.now }
 {
-    let mut i: usize = 0;
-    while i < candidates.count {
+    for i in 0..candidates.count {
         print_one(rt, job, w, candidates, held, i)?;
-        i += 1;
     }
     Ok(())
 }
 
 fn print_prices(rt: &impl Print, w: Prices) -> io::Result<()> {
-    print_number(rt, b"prices ", w.term as usize)?;
-    print_number(rt, b" ", w.literal as usize)?;
-    print_number(rt, b" ", w.connection as usize)?;
-    end_line(rt)
+    let Prices {
+        term,
+        literal,
+        connection,
+    } = w;
+    println!(rt; "prices {term} {literal} {connection}")
 }
 
 // The whole record, which is the one that this job leaves; `held` has the vertices of its blocks.
@@ -215,11 +174,11 @@ fn print_record(rt: &impl Print, job: &[u8], p: Problem, held: &[u64; 256]) -> i
     requires holds { Holds p (left job.now) }
     requires blocks_at { BlocksAt (left job.now).cands held.now }
 {
-    print_number(rt, b"place ", p.place as usize)?;
-    end_line(rt)?;
-    print_number(rt, b"inputs ", p.settings.n as usize)?;
-    print_number(rt, b" outputs ", p.settings.m as usize)?;
-    end_line(rt)?;
+    let place = p.place.number();
+    let n = p.settings.n;
+    let m = p.settings.m;
+    println!(rt; "place {place}")?;
+    println!(rt; "inputs {n} outputs {m}")?;
     print_prices(rt, p.settings.prices)?;
     print_rows(rt, p.rows)?;
     print_candidates(rt, job, p.settings.prices, p.candidates, held)
@@ -239,9 +198,9 @@ fn main(rt: HostRuntime) -> io::Result<()> {
     let mut answers = [0u8; 32768];
     let mut held = no_blocks();
     let e = engine::run_job(&job, &mut answers, &mut held);
-    print_number(&rt, b"number ", e.number as usize)?;
-    print_number(&rt, b" offset ", e.offset)?;
-    print_number(&rt, b" written ", e.written)?;
-    end_line(&rt)?;
+    let number = e.number;
+    let offset = e.offset;
+    let written = e.written;
+    println!(rt; "number {number} offset {offset} written {written}")?;
     print_record(&rt, &job, e.problem, &held)
 }

@@ -7,8 +7,8 @@ use mathlib.Core.List.{List}
 use borrow.Author.Tests.{le-ltb, lt-leb}
 use lib.Bits.{bit_and, bit_or, and_le_l, and_le_r, or_add_and}
 use lib.Pow.{pow_mono}
-use lib.Seq.{get_or-drop}
-use lib.ListN.{get_or, length, drop, drop_of_length-le}
+use lib.Seq.{get_or-drop, get_or-take, length-take-le}
+use lib.ListN.{get_or, length, take, drop, length-drop, drop_of_length-le}
 use Rattle.model.specs.Base.{below}
 use Rattle.model.specs.Commands.{kind_of, Row, row_of_b, rows_of_b}
 use Rattle.model.specs.Refusals.{first_of}
@@ -18,30 +18,27 @@ use Rattle.problem.specs.declared.Settings.{Settings}
 use Rattle.problem.specs.declared.TableRows.{TableRows}
 use Rattle.problem.specs.Problems.{row_put, rows_put}
 use Rattle.problem.specs.Refusing.{is_taken, row_refusals}
-use Rattle.eight_rows.specs.Rows.{EightAt, rows_of}
+use Rattle.eight_rows.specs.Rows.{EightAt}
 
 -- ---- bits that hold those of each number
 
--- the loop's invariant: `all` is no less than each of the first i of so many numbers
-pub record Union (f : ℕ → ℕ) (most i all : ℕ) : Type 0 where
-  pub within : i ≤ most
-  pub each : (j : ℕ) → j < i → f j ≤ all
+-- the loop's invariant: `all` is no less than each of the first i numbers
+abbrev pub Union : (ℕ → ℕ) → ℕ → ℕ → Type 0
+Union f i all = (j : ℕ) → j < i → f j ≤ all
 
-pub union_none : {f : ℕ → ℕ} {most : ℕ} → Union f most 0 0
-union_none = record { within = omega arith; each = λ j l. absurd (omega arith) }
-
-pub union_next : {f : ℕ → ℕ} {most i all : ℕ} → Union f most i all → i < most → Union f most (i + 1) (bit_or all (f i))
-union_next {f} {most} {i} {all} u l = record { within = omega arith; each = each_next }
+pub union_next : {f : ℕ → ℕ} {i all : ℕ} → Union f i all → Union f (i + 1) (bit_or all (f i))
+union_next {f} {i} {all} u j k = go (dec_lt j i)
   where
-    each_next : (j : ℕ) → j < i + 1 → f j ≤ bit_or all (f i)
-    each_next j k = go (dec_lt j i)
-      where
-        go : Dec (j < i) → f j ≤ bit_or all (f i)
-        go (yes s) = omega (arith, u.each j s, or_add_and all (f i), and_le_r all (f i))
-        go (no n) = let e : j ≡ i = omega arith in rw e (omega (arith, or_add_and all (f i), and_le_l all (f i)))
+    go : Dec (j < i) → f j ≤ bit_or all (f i)
+    go (yes s) = omega (arith, u j s, or_add_and all (f i), and_le_r all (f i))
+    go (no n) = let e : j ≡ i = omega arith in rw e (omega (arith, or_add_and all (f i), and_le_l all (f i)))
 
-pub union_all : {f : ℕ → ℕ} {most i all : ℕ} → Union f most i all → most ≤ i → (j : ℕ) → j < most → f j ≤ all
-union_all u l j k = u.each j (omega arith)
+-- of a part of a list
+pub part_below : (xs : List ℕ) (a b r : ℕ) → b ≤ length xs → ((i : ℕ) → i < length (take (b - a) (drop a xs)) → get_or (take (b - a) (drop a xs)) i 0 ≤ r)
+    → (i : ℕ) → i < b - a → get_or xs (a + i) 0 ≤ r
+part_below xs a b r h f i l =
+    let n : length (take (b - a) (drop a xs)) ≡ b - a = length-take-le (b - a) (drop a xs) (omega (arith, length-drop a xs)) in
+    omega (arith, f i (omega (arith, n)), get_or-take (b - a) (drop a xs) i 0 l, get_or-drop a xs i 0)
 
 -- ---- a B that is accepted
 
@@ -90,18 +87,15 @@ pub record Putting (rows : TableRows) (ws : List Row) (i : ℕ) (now : TableRows
 pub putting_none : {rows : TableRows} (ws : List Row) → Putting rows ws 0 rows
 putting_none ws = record { within = omega arith; left = refl }
 
-pub putting_next : {rows : TableRows} {on dc given : List ℕ} (job : List ℕ) (at : ℕ) {i v : ℕ} → Putting rows (rows_of_b (drop at job)) i (rows_of on dc given) → i < 8 → v ≡ get_or job at 0
-    → Putting rows (rows_of_b (drop at job)) (i + 1) (row_put (rows_of on dc given) (v + i) (get_or job (at + 1 + 2 * i) 0) (get_or job (at + 2 + 2 * i) 0))
-putting_next {rows} {on} {dc} {given} job at {i} {v} p l e = record {
+pub putting_next : {rows now : TableRows} (job : List ℕ) (at : ℕ) {i v : ℕ} → Putting rows (rows_of_b (drop at job)) i now → i < 8 → v ≡ get_or job at 0
+    → Putting rows (rows_of_b (drop at job)) (i + 1) (row_put now (v + i) (get_or job (at + 1 + 2 * i) 0) (get_or job (at + 2 + 2 * i) 0))
+putting_next {rows} {now} job at {i} {v} p l e = record {
   within = omega arith;
   left = ap (λ (k : ℕ). rows_put after (drop k ws)) next ∙ ap (λ (r : TableRows). rows_put r (drop (suc i) ws)) (sym same) ∙ sym (ap (rows_put now) (rows_drop (drop at job) i l)) ∙ p.left;
 }
   where
     ws : List Row
     ws = rows_of_b (drop at job)
-
-    now : TableRows
-    now = rows_of on dc given
 
     after : TableRows
     after = row_put now (v + i) (get_or job (at + 1 + 2 * i) 0) (get_or job (at + 2 + 2 * i) 0)

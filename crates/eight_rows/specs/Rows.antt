@@ -5,7 +5,6 @@ use Rattle.model.specs.Commands as model
 use Rattle.model.specs.Commands.{kind_of, rows_of_b}
 use Rattle.model.specs.Refusals.{first_of}
 use Rattle.problem.specs.declared.Settings.{Settings}
-use Rattle.problem.specs.declared.TableRows.{TableRows}
 use Rattle.problem.specs.Refusing.{row_refusals}
 
 -- a B with its operands stands at `at`, its vertices are bytes, and neither 7 nor 8 applies to one of its rows
@@ -14,7 +13,3 @@ pub record EightAt (s : Settings) (given job : List ℕ) (at : ℕ) : Type 0 whe
   pub kind : kind_of (get_or job at 0) ≡ model.Kind.B
   pub bytes : get_or job (at + 1) 0 + 8 ≤ 256
   pub accepted : All (λ w. 0 ≡ first_of (row_refusals s.n s.m given w.vertex w.on w.dc)) (rows_of_b (drop (at + 1) job))
-
--- the rows of three arrays
-abbrev pub rows_of : List ℕ → List ℕ → List ℕ → TableRows
-rows_of on dc given = record { on = on; dc = dc; given = given }

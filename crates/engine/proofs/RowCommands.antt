@@ -5,17 +5,22 @@ use mathlib.Core.Path.{◌≡◌, refl, sym, ap, ◌∙◌, subst, subst⁻¹}
 use mathlib.Core.Bool.{false, not}
 use mathlib.Core.List.{List, []}
 use borrow.Author.Tests.{le-leb, le-ltb}
-use lib.Dec.{T, T_not, eqb, eqb→eq}
+use lib.Dec.{T, T_not}
 use lib.ListN.{get_or, length, drop, replicate, length-replicate}
 use lib.Seq.{drop-drop}
 use Rattle.model.specs.Commands as model
 use Rattle.model.specs.Commands.{Context, kind_of, is, is_query_kind, width, rows_of_b, problem_after}
 use Rattle.model.specs.Answers.{Answer, bytes_of, answer, answer_for}
+use Rattle.std.specs.Prelude.{Result, Ok, Err, is_ok}
+use Rattle.model.specs.declared.reason.Reason.{Reason}
+use Rattle.model.specs.Reasons.{told}
 use Rattle.model.specs.Refusals.{first_of}
 use Rattle.model.specs.Rules.{engine}
 use Rattle.model.specs.Job.{Run, answer_then, written}
 use Rattle.model.specs.Records.{last_left}
 use Rattle.model.specs.Invariants.{Valid}
+use Rattle.model.specs.Places.{place_of}
+use Rattle.model.specs.declared.place.Place.TheVariants.{AmongRows}
 use Rattle.model.proofs.Runs.{Passed, passed}
 use Rattle.model.proofs.Sound.{engine_lawful}
 use Rattle.model.proofs.Valid.{after_valid}
@@ -26,8 +31,7 @@ use Rattle.problem.specs.declared.Problem.{Problem}
 use Rattle.problem.specs.Problems.{Holds, Reached}
 use Rattle.problem.specs.Refusing.{row_refusals}
 use Rattle.problem.proofs.Keeping.{reached_sized, with_row, all_rows}
-use Rattle.commands.specs.declared.Effect.{Effect}
-use Rattle.commands.specs.Effects.{HandlesR}
+use Rattle.commands.specs.Effects.{Outcome, HandlesR}
 use Rattle.commands.proofs.Handling.{row_kept}
 use Rattle.commands.proofs.EightRows.{eight_kept}
 use Rattle.model.specs.Candidates.{Candidate, Basis}
@@ -42,13 +46,17 @@ use Rattle.engine.proofs.Running.{one_left, x, rest, run_next}
 
 -- ---- an R or B that is accepted
 
-pub row_at : {s : Settings} {given job : List ℕ} {at v r : ℕ} → 4 ≤ length job - at → get_or job at 0 ≡ 0x52 → v ≡ get_or job (at + 1) 0
-    → r ≡ first_of (row_refusals s.n s.m given v (get_or job (at + 2) 0) (get_or job (at + 3) 0)) → T (eqb r 0) → RowAt s given job at
+told_none : {A : Type 0} (r : Result A Reason) → T (is_ok r) → 0 ≡ told r
+told_none (Ok a) t = refl
+told_none (Err y) t = absurd t
+
+pub row_at : {A : Type 0} {s : Settings} {given job : List ℕ} {at v : ℕ} (r : Result A Reason) → 4 ≤ length job - at → get_or job at 0 ≡ 0x52 → v ≡ get_or job (at + 1) 0
+    → told r ≡ first_of (row_refusals s.n s.m given v (get_or job (at + 2) 0) (get_or job (at + 3) 0)) → T (is_ok r) → RowAt s given job at
 unfolding kind_of
-row_at {s} {given} {job} {at} {v} {r} l b f e t = record {
+row_at {s = s} {given} {job} {at} r l b f e t = record {
   room = omega (arith, l);
   kind = ap kind_of b;
-  accepted = sym (eqb→eq r 0 t) ∙ e ∙ ap (λ (u : ℕ). first_of (row_refusals s.n s.m given u (get_or job (at + 2) 0) (get_or job (at + 3) 0))) f;
+  accepted = told_none r t ∙ e ∙ ap (λ (u : ℕ). first_of (row_refusals s.n s.m given u (get_or job (at + 2) 0) (get_or job (at + 3) 0))) f;
 }
 
 -- ---- what a step would do with it
@@ -69,7 +77,7 @@ pub record Sets (p : Problem) (job : List ℕ) (at : ℕ) (next : Problem) (byte
   pub steps : (q : model.Problem) → Holds p q → Valid q → (free : ℕ)
       → Stepped (context_at q job at free) no_blocks no_blocks (replicate free 0) (replicate free 0) (record { number = 0; written = 0; problem = next })
 
-module _ {p : Problem} {job : List ℕ} {at : ℕ} {e : Effect} (in_rows : p.place ≤ model.among_rows) (steps : (old : List ℕ) → Steps p no_blocks no_blocks [] false job at old old e)
+module _ {p : Problem} {job : List ℕ} {at : ℕ} {e : Outcome} (in_rows : place_of p.place ≤ model.among_rows) (steps : (old : List ℕ) → Steps p no_blocks no_blocks [] false job at old old e)
     (asks_not : T (not (is_query_kind (kind_of (get_or job at 0))))) where
   none_yet : (q : model.Problem) → Holds p q → Valid q → BlocksAt q.cands no_blocks
   none_yet q h v = subst⁻¹ (λ (cs : List Candidate). BlocksAt cs no_blocks) (v.early (omega (arith, h.place))) (blocks_alone [])
@@ -85,9 +93,9 @@ behind_row p job at v = with_row (record { vertex = v; on = get_or job (at + 2) 
 
 -- and behind the B
 abbrev pub behind_eight : Problem → List ℕ → ℕ → Problem
-behind_eight p job at = all_rows model.among_rows (rows_of_b (drop (at + 1) job)) p
+behind_eight p job at = all_rows AmongRows (rows_of_b (drop (at + 1) job)) p
 
-module _ (p : Problem) {job : List ℕ} {at : ℕ} (reached : Reached p) (behind_i : model.begun ≤ p.place) (in_rows : p.place ≤ model.among_rows) where
+module _ (p : Problem) {job : List ℕ} {at : ℕ} (reached : Reached p) (behind_i : model.begun ≤ place_of p.place) (in_rows : place_of p.place ≤ model.among_rows) where
   pub row_sets : {v : ℕ} → v ≡ get_or job (at + 1) 0 → RowAt p.settings p.rows.given job at → Sets p job at (behind_row p job at v) 4
   unfolding answer_for problem_after
   row_sets {v} e a = record {
@@ -98,15 +106,14 @@ module _ (p : Problem) {job : List ℕ} {at : ℕ} (reached : Reached p) (behind
     goes = refl;
     silent = λ x. refl;
     cands = λ x. refl;
-    steps = stepped in_rows (λ old. step_r read refl refl refl kept) (subst⁻¹ (λ (k : model.Kind). T (not (is_query_kind k))) a.kind tt);
+    steps = stepped in_rows (λ old. step_r read refl refl kept) (subst⁻¹ (λ (k : model.Kind). T (not (is_query_kind k))) a.kind tt);
   }
     where
-      read : Read p job at Kind.R 0 (length job - at - 1)
+      read : Read p job at Kind.R
       read = record {
         here = omega (arith, a.room);
         kind = sym a.kind;
-        left = refl;
-        early = rw (le-leb 1 p.place behind_i, le-leb p.place model.among_rows in_rows, le-ltb (length job - at - 1) 3 (omega (arith, a.room)));
+        passes = rw (a.kind, le-leb 1 (place_of p.place) behind_i, le-leb (place_of p.place) model.among_rows in_rows, le-ltb (length job - at - 1) 3 (omega (arith, a.room)));
       }
 
       kept : HandlesR p (get_or job (at + 1) 0) (get_or job (at + 2) 0) (get_or job (at + 3) 0) (record { number = 0; written = 0; problem = behind_row p job at v })
@@ -122,16 +129,15 @@ module _ (p : Problem) {job : List ℕ} {at : ℕ} (reached : Reached p) (behind
     goes = refl;
     silent = λ x. refl;
     cands = λ x. ap (λ (b : Basis). b.cands) (rows_set_lem (rows_of_b x.rest) x.problem);
-    steps = stepped in_rows (λ old. step_b read refl refl (eight_kept p (reached_sized p reached) (drop (at + 1) job) a.accepted))
+    steps = stepped in_rows (λ old. step_b read refl (eight_kept p (reached_sized p reached) (drop (at + 1) job) a.accepted))
         (subst⁻¹ (λ (k : model.Kind). T (not (is_query_kind k))) a.kind tt);
   }
     where
-      read : Read p job at Kind.B 0 (length job - at - 1)
+      read : Read p job at Kind.B
       read = record {
         here = omega (arith, a.room);
         kind = sym a.kind;
-        left = refl;
-        early = rw (le-leb 1 p.place behind_i, le-leb p.place model.among_rows in_rows, le-ltb (length job - at - 1) 17 (omega (arith, a.room)));
+        passes = rw (a.kind, le-leb 1 (place_of p.place) behind_i, le-leb (place_of p.place) model.among_rows in_rows, le-ltb (length job - at - 1) 17 (omega (arith, a.room)));
       }
 
 -- ---- the run behind it

@@ -9,6 +9,8 @@ use borrow.Author.Tests.{lt-ltb, le-ltb, ne_eqb}
 use borrow.Author.Rules.{part_to_end}
 use borrow.Rule.Slice.PartMut.{put_mid, post_of, Post-is}
 use lib.Dec.{T}
+use Rattle.std.specs.Prelude.{Option, Some, None, IfSome, is_some}
+use Rattle.std.specs.Option.{unwrap_or}
 use lib.ListN.{get_or, length, take, drop, length-append, length-drop, take-append-drop}
 use lib.Seq.{take-append_seam, drop-append_seam, drop-length, drop-drop, drop-cons}
 use Rattle.model.specs.Base.{join}
@@ -32,9 +34,8 @@ use Rattle.problem.specs.Problems.{no_problem, Holds, ReachedWith}
 use Rattle.problem.specs.declared.matrix.Matrix.{Matrix}
 use Rattle.problem.specs.Matrix.{MatrixOf, Prepares}
 use Rattle.problem.proofs.Keeping.{holds_empty}
-use Rattle.commands.specs.declared.Effect.{Effect}
-use Rattle.commands.specs.Effects.{Answered}
-use Rattle.engine.specs.Steps.{Stepped, context_at}
+use Rattle.commands.specs.Effects.{Outcome, Answered}
+use Rattle.engine.specs.Steps.{Stepped, Steps, context_at}
 use Rattle.engine.specs.declared.job.Ended.{Ended}
 use Rattle.engine.specs.Jobs.{called, EndsAs, too_long, IsMatrix, Refreshed}
 
@@ -75,15 +76,34 @@ nothing_left out n offset xs = append-nil out
 
 -- ---- the covering matrix: one that stands, one made anew, and a command that looks at none
 
-module _ {p : Problem} {held : List ℕ} {k : Kind} {ready : Bool} {m : Matrix} where
-  pub refreshed_none : {rows : List ℕ} {b : Bool} → length rows ≡ 2048 → m.count ≤ 2048 → b ≡ is_query_kind k → b ≡ false → Refreshed p held k ready m rows rows m
-  refreshed_none s l e z = record { size = s; within = l; matrix = λ q h b f t. absurd (subst (λ (x : Bool). T x) (sym e ∙ z) t) }
+module _ {p : Problem} {held : List ℕ} {k : Kind} {kept : Option Matrix} {b : Bool} (is_query : b ≡ is_query_kind k) where
+  pub refreshed_none : {rows : List ℕ} → length rows ≡ 2048 → b ≡ false → Refreshed p held k kept rows rows None
+  refreshed_none s z = record { size = s; within = tt; asked = sym z ∙ is_query; matrix = λ q h b f. tt }
 
-  pub refreshed_same : {rows : List ℕ} → length rows ≡ 2048 → m.count ≤ 2048 → ready ≡ true → Refreshed p held k ready m rows rows m
-  refreshed_same s l z = record { size = s; within = l; matrix = λ q h b f t. f z }
+  pub refreshed_same : {rows : List ℕ} {m : Matrix} → length rows ≡ 2048 → IfSome kept (λ m. m.count ≤ 2048) → b ≡ true → kept ≡ Some m → Refreshed p held k kept rows rows (Some m)
+  refreshed_same {rows} {m} s l z e = record {
+    size = s;
+    within = subst (λ (o : Option Matrix). IfSome o (λ m. m.count ≤ 2048)) e l;
+    asked = sym z ∙ is_query;
+    matrix = λ q h b f. subst (λ (o : Option Matrix). IfSome o (IsMatrix q rows)) e f;
+  }
 
-  pub refreshed_anew : {old new : List ℕ} {r : Matrix} → Prepares p held new r → Refreshed p held k ready m old new r
-  refreshed_anew d = record { size = d.size; within = d.within; matrix = λ q h b f t. d.matrix q h b }
+  pub refreshed_anew : {old new : List ℕ} {r : Matrix} → b ≡ true → Prepares p held new r → Refreshed p held k kept old new (Some r)
+  refreshed_anew z d = record { size = d.size; within = d.within; asked = sym z ∙ is_query; matrix = λ q h b f. d.matrix q h b }
+
+-- what a matrix that may be none is read as
+
+some_to : {P Q : Matrix → Type 0} (o : Option Matrix) → ((m : Matrix) → is_some o ≡ true → P m → Q m) → IfSome o P → IfSome o Q
+some_to None f h = tt
+some_to (Some m) f h = f m refl h
+
+pub read_count : (o : Option Matrix) (d : Matrix) {m : Matrix} → m ≡ unwrap_or o d → d.count ≤ 2048 → IfSome o (λ m. m.count ≤ 2048) → m.count ≤ 2048
+read_count None d e l h = subst⁻¹ (λ (m : Matrix). m.count ≤ 2048) e l
+read_count (Some n) d e l h = subst⁻¹ (λ (m : Matrix). m.count ≤ 2048) e h
+
+read_matrix : (P : Matrix → Type 0) (o : Option Matrix) (d : Matrix) {m : Matrix} → m ≡ unwrap_or o d → T (is_some o) → IfSome o P → P m
+read_matrix P None d e t h = absurd t
+read_matrix P (Some n) d e t h = subst⁻¹ P e h
 
 -- ---- the buffer
 
@@ -104,7 +124,7 @@ tail_is n bs = part_to_end bs n
 
 -- ---- the loop's invariant: the run is what is written, and then the rest of the job
 
-pub record Going (job old answers held : List ℕ) (p : Problem) (rows : List ℕ) (m : Matrix) (ready : Bool) (at done : ℕ) : Type 0 where
+pub record Going (job old answers held : List ℕ) (p : Problem) (rows : List ℕ) (kept : Option Matrix) (at done : ℕ) : Type 0 where
   pub fuel : ℕ
   pub problem : model.Problem
   pub out : List ℕ
@@ -117,20 +137,17 @@ pub record Going (job old answers held : List ℕ) (p : Problem) (rows : List �
   pub bytes : answers ≡ out ++ drop (length out) old
   pub fits : length out ≤ length old
   pub size : length rows ≡ 2048
-  pub few : m.count ≤ 2048
-  pub matrix : ready ≡ true → IsMatrix problem rows m
+  pub few : IfSome kept (λ m. m.count ≤ 2048)
+  pub matrix : IfSome kept (IsMatrix problem rows)
   pub number : (run job (length old)).number ≡ (commands engine fuel problem (drop at job) (length old - length out) at).number
   pub offset : (run job (length old)).offset ≡ (commands engine fuel problem (drop at job) (length old - length out) at).offset
   pub written : written (run job (length old)) ≡ out ++ written (commands engine fuel problem (drop at job) (length old - length out) at)
   pub left : last_record (run job (length old)) ≡ last_left engine problem (commands engine fuel problem (drop at job) (length old - length out) at).contexts
 
-pub not_ready : false ≡ true → ⊥
-not_ready z = let y : ◌≡◌ {A = ℕ} 0 1 = cc in omega arith
-
-pub going_first : {job old held rows : List ℕ} {p : Problem} {covered : Bool} → length job ≤ 32768 → length old ≤ 32768 → p ≡ no_problem
-    → BlocksAt [] held → length rows ≡ 2048 → Going job old old held p rows (record { count = 0; covered = covered }) false 0 0
+pub going_first : {job old held rows : List ℕ} {p : Problem} → length job ≤ 32768 → length old ≤ 32768 → p ≡ no_problem
+    → BlocksAt [] held → length rows ≡ 2048 → Going job old old held p rows None 0 0
 unfolding run_by
-going_first {job} {old} {held} {rows} {p} {covered} h g e b s = record {
+going_first {job} {old} {held} {rows} {p} h g e b s = record {
   fuel = suc (length job);
   problem = model.empty;
   out = [];
@@ -143,8 +160,8 @@ going_first {job} {old} {held} {rows} {p} {covered} h g e b s = record {
   bytes = refl;
   fits = omega arith;
   size = s;
-  few = omega arith;
-  matrix = λ z. absurd (not_ready z);
+  few = tt;
+  matrix = tt;
   number = rw (le-ltb 32768 (length job) h, le-ltb 32768 (length old) g, all_free);
   offset = rw (le-ltb 32768 (length job) h, le-ltb 32768 (length old) g, all_free);
   written = rw (le-ltb 32768 (length job) h, le-ltb 32768 (length old) g, all_free);
@@ -154,7 +171,7 @@ going_first {job} {old} {held} {rows} {p} {covered} h g e b s = record {
     all_free : length old - 0 ≡ length old
     all_free = omega arith
 
-module _ {job old answers held : List ℕ} {p : Problem} {rows : List ℕ} {m : Matrix} {ready : Bool} {at done : ℕ} (w : Going job old answers held p rows m ready at done) where
+module _ {job old answers held : List ℕ} {p : Problem} {rows : List ℕ} {kept : Option Matrix} {at done : ℕ} (w : Going job old answers held p rows kept at done) where
   pub long : length answers ≡ length old
   long = ap length w.bytes ∙ omega (arith, length-append w.out (drop (length w.out) old), length-drop (length w.out) old, w.fits)
 
@@ -206,8 +223,8 @@ module _ {job old answers held : List ℕ} {p : Problem} {rows : List ℕ} {m : 
 
   -- ---- the job's bytes end
 
-  pub going_cut : length job ≤ at → EndsAs job old answers held (record { number = 2; offset = at; written = done; problem = p })
-  going_cut l = ended 2 at [] answers (go w.fuel) refl w.holds w.blocks
+  pub going_cut : {n : ℕ} → n ≡ 2 → length job ≤ at → EndsAs job old answers held (record { number = n; offset = at; written = done; problem = p })
+  going_cut e l = subst⁻¹ (λ (n : ℕ). EndsAs job old answers held (record { number = n; offset = at; written = done; problem = p })) e (ended 2 at [] answers (go w.fuel) refl w.holds w.blocks)
     where
       none : drop at job ≡ []
       none = ap (λ (k : ℕ). drop k job) (let e : at ≡ length job = omega (arith, w.within) in e) ∙ drop-length job
@@ -218,24 +235,30 @@ module _ {job old answers held : List ℕ} {p : Problem} {rows : List ℕ} {m : 
 
   -- ---- a command
 
-  module _ (here : at < length job) {last sets : List ℕ} {e : Effect} (s : Stepped (context_at w.problem job at (length (tail done answers))) held sets (tail done answers) last e) where
+  -- with the covering matrix that it finds
+  pub this_step : {rows' sets last : List ℕ} {kept' : Option Matrix} (d : Matrix) {m : Matrix} {e : Outcome} → Refreshed p held (kind_of (get_or job at 0)) kept rows rows' kept' → m ≡ unwrap_or kept' d
+      → Steps p held sets (take m.count rows') m.covered job at (tail done answers) last e → Stepped (context_at w.problem job at (length (tail done answers))) held sets (tail done answers) last e
+  this_step {rows'} {kept' = kept'} d r u s = s.in_problem w.problem w.holds w.blocks w.valid
+      (λ t. read_matrix (IsMatrix w.problem rows') kept' d u (subst⁻¹ (λ (b : Bool). T b) r.asked t) (r.matrix w.problem w.holds w.blocks w.matrix))
+
+  module _ (here : at < length job) {last sets : List ℕ} {e : Outcome} (s : Stepped (context_at w.problem job at (length (tail done answers))) held sets (tail done answers) last e) where
     abbrev ctx : Context
     ctx = context_at w.problem job at (length old - length w.out)
 
     s' : Stepped ctx held sets (tail done answers) last e
     s' = subst (λ (n : ℕ). Stepped (context_at w.problem job at n) held sets (tail done answers) last e) free_is s
 
-    pub going_refused : {q : Problem} → (e.number ≡ 0 → ⊥) → q ≡ e.problem
-        → EndsAs job old (with_tail done answers last) sets (record { number = e.number; offset = at; written = done; problem = q })
+    pub going_refused : {n : ℕ} {q : Problem} → n ≡ e.number → (e.number ≡ 0 → ⊥) → q ≡ e.problem
+        → EndsAs job old (with_tail done answers last) sets (record { number = n; offset = at; written = done; problem = q })
     unfolding x
-    going_refused {q} d qe =
+    going_refused {q = q} ne d qe =
         let n : refusal ctx ≡ 0 → ⊥ = λ z. d (s'.number ∙ z) in
         let step = ap (λ (n : ℕ). commands engine n w.problem (drop at job) (length old - length w.out) at) (fuel_suc here).1
         ∙ run_refused (fuel_suc here).0 w.problem job at (length old - length w.out) here n in
         let h : Holds q (leaves engine ctx) = subst⁻¹ (λ (y : Problem). Holds y (leaves engine ctx)) qe (subst⁻¹ (Holds e.problem) ((left_by ctx).refused n) (s'.refused d).0.problem) in
         let b : BlocksAt (leaves engine ctx).cands sets = subst⁻¹ (λ (o : model.Problem). BlocksAt o.cands sets) ((left_by ctx).refused n)
         (subst⁻¹ (BlocksAt w.problem.cands) (s'.refused d).1 w.blocks) in
-        subst⁻¹ (λ (n : ℕ). EndsAs job old (with_tail done answers last) sets (record { number = n; offset = at; written = done; problem = q })) s'.number
+        subst⁻¹ (λ (n : ℕ). EndsAs job old (with_tail done answers last) sets (record { number = n; offset = at; written = done; problem = q })) (ne ∙ s'.number)
         (ended (refusal ctx) at (ctx ∷ []) (with_tail done answers last) step (put_same last (s'.refused d).0.bytes) h b)
 
     module _ (z : e.number ≡ 0) where
@@ -293,11 +316,10 @@ module _ {job old answers held : List ℕ} {p : Problem} {rows : List ℕ} {m : 
       unfolding ans
       free_left = omega (arith, length-append w.out (bytes_of (answer ctx)))
 
-      pub going_next : {q : Problem} {rows' : List ℕ} {m' : Matrix} {ready' : Bool} {at' : ℕ} → q ≡ e.problem → length rows' ≡ 2048 → m'.count ≤ 2048
-          → (ready' ≡ true → T (is_query_kind (kind_of (get_or job at 0))) × IsMatrix w.problem rows' m')
-          → is (kind_of (get_or job at 0)) Kind.E ≡ false → at' ≡ at + 1 + width (kind_of (get_or job at 0)) → Going job old (with_tail done answers last) sets q rows' m' ready' at' (done + e.written)
+      pub going_next : {q : Problem} {rows' : List ℕ} {kept' : Option Matrix} {at' : ℕ} → q ≡ e.problem → Refreshed p held (kind_of (get_or job at 0)) kept rows rows' kept'
+          → is (kind_of (get_or job at 0)) Kind.E ≡ false → at' ≡ at + 1 + width (kind_of (get_or job at 0)) → Going job old (with_tail done answers last) sets q rows' kept' at' (done + e.written)
       unfolding x rest
-      going_next {q} {rows'} {m'} {ready'} {at'} qe sz fw mx k ae =
+      going_next {q} {rows'} {kept'} {at'} qe r k ae =
           let step = ap (λ (n : ℕ). commands engine n w.problem (drop at job) (length old - length w.out) at) (fuel_suc here).1
           ∙ run_next (fuel_suc here).0 w.problem job at (length old - length w.out) here (sym s'.number ∙ z) k in
           record {
@@ -312,9 +334,11 @@ module _ {job old answers held : List ℕ} {p : Problem} {rows : List ℕ} {m : 
             counted = count_is;
             bytes = put_back;
             fits = omega (arith, count_is, room_left);
-            size = sz;
-            few = fw;
-            matrix = λ t. subst⁻¹ (λ (b : Basis). MatrixOf b (take m'.count rows') m'.covered) (query_keeps ctx (kind_of (get_or job at 0)) (mx t).0) (mx t).1;
+            size = r.size;
+            few = r.within;
+            matrix = some_to kept'
+                (λ m t. subst⁻¹ (λ (b : Basis). MatrixOf b (take m.count rows') m.covered) (query_keeps ctx (kind_of (get_or job at 0)) (subst (λ (b : Bool). T b) (sym t ∙ r.asked) tt)))
+                (r.matrix w.problem w.holds w.blocks w.matrix);
             number = w.number ∙ ap (λ (y : Run). y.number) step ∙ ap (λ (y : Run). y.number) moved;
             offset = w.offset ∙ ap (λ (y : Run). y.offset) step ∙ ap (λ (y : Run). y.offset) moved;
             written = one_more _ (w.written ∙ ap (λ (y : Run). w.out ++ written y) step) ∙ ap (λ (y : Run). (w.out ++ ans) ++ written y) moved;

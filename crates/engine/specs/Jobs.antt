@@ -1,5 +1,5 @@
 -- What the contracts of the exported call and of the job cite.
-use Rattle.std.specs.Prelude.{ℕ, ◌≤◌, ◌≡◌, Bool, true, List, T, length, take}
+use Rattle.std.specs.Prelude.{ℕ, ◌≤◌, ◌≡◌, List, Option, IfSome, is_some, length, take}
 use Rattle.model.specs.Commands as model
 use Rattle.model.specs.Commands.{basis_of, is_query_kind}
 use Rattle.model.specs.Job.{run, written, buffer_after}
@@ -15,6 +15,10 @@ use Rattle.engine.specs.declared.job.Ended.{Ended}
 -- a call: its job, the answer buffer before, what it returned, the buffer after
 abbrev pub called : List ℕ → List ℕ → ℕ → List ℕ → Call
 called job before returned after = record { job = job; before = before; returned = returned; after = after }
+
+-- a job that has ended, by what it tells and leaves
+abbrev pub ended_with : ℕ → ℕ → ℕ → Problem → Ended
+ended_with number offset written problem = record { number = number; offset = offset; written = written; problem = problem }
 
 -- how a job ends by the definitions: what the call tells, every byte of the buffer, and K5's record: e has the one that the job leaves, and held
 -- the vertices of its blocks
@@ -34,8 +38,9 @@ too_long = record { number = 1; offset = 0; written = 0; problem = no_problem }
 abbrev pub IsMatrix : model.Problem → List ℕ → Matrix → Type 0
 IsMatrix q rows m = MatrixOf (basis_of q) (take m.count rows) m.covered
 
--- a command of kind k finds the covering matrix r of the problem, where it is a query; `ready` says that m was it
-pub record Refreshed (p : Problem) (held : List ℕ) (k : model.Kind) (ready : Bool) (m : Matrix) (old new : List ℕ) (r : Matrix) : Type 0 where
+-- a command of kind k finds in r the covering matrix of the problem where it is a query, and else nothing; `kept` has that of a query right before it
+pub record Refreshed (p : Problem) (held : List ℕ) (k : model.Kind) (kept : Option Matrix) (old new : List ℕ) (r : Option Matrix) : Type 0 where
   pub size : length new ≡ 2048
-  pub within : r.count ≤ 2048
-  pub matrix : (q : model.Problem) → Holds p q → BlocksAt q.cands held → (ready ≡ true → IsMatrix q old m) → T (is_query_kind k) → IsMatrix q new r
+  pub within : IfSome r (λ m. m.count ≤ 2048)
+  pub asked : is_some r ≡ is_query_kind k
+  pub matrix : (q : model.Problem) → Holds p q → BlocksAt q.cands held → IfSome kept (IsMatrix q old) → IfSome r (IsMatrix q new)

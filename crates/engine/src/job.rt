@@ -1,18 +1,19 @@
 // A whole job.
-ghost use Rattle.std.specs.Prelude.{◌≡◌, ◌+◌, ◌*◌, ◌^◌, ◌≤◌, length, []};
-ghost use Rattle.codec.specs.Kinds.{kind_is};
+ghost use Rattle.std.specs.Prelude.{◌≡◌, ◌+◌, ◌*◌, ◌^◌, ◌≤◌, IfSome, length, []};
+ghost use Rattle.model.specs.Commands as model;
+ghost use Rattle.model.specs.Commands.{kind_of, is, is_query_kind, width};
 ghost use Rattle.incidence.specs.Stored.{BlocksAt};
 ghost use Rattle.problem.specs.Problems.{Sized};
-ghost use Rattle.engine.specs.Jobs.{EndsAs, Refreshed};
+ghost use Rattle.engine.specs.Jobs.{ended_with, EndsAs, Refreshed};
 
 use crate::{row_block, step};
-use bits::byte;
-use codec::kinds;
 use codec::kinds::Kind;
+use model::reason::Reason;
 use problem::matrix::Matrix;
 use problem::{Problem, matrix};
 
-// How a job ended: its number, its offset, how many answer bytes it wrote, and the record that its last command left.
+// How a job ended: its number, its offset, how many answer bytes it wrote, and the record that its last command left. (A number and no `Reason`:
+// the call hands it out, 0 for an accepted job.)
 #[derive(Clone, Copy)]
 pub struct Ended {
     pub number: u8,
@@ -21,11 +22,17 @@ pub struct Ended {
     pub problem: Problem,
 }
 
-// A number that counts as a 64-bit number.
-fn long(x: usize) -> u64
-    ensures { result ≡ x }
-{
-    x as u64
+impl Ended {
+    fn new(number: u8, offset: usize, written: usize, problem: Problem) -> Self
+        ensures { result ≡ ended_with number offset written problem }
+    {
+        Ended {
+            number,
+            offset,
+            written,
+            problem,
+        }
+    }
 }
 
 // number × 2^32 + offset × 2^16 + written.
@@ -33,35 +40,63 @@ pub fn pack(number: u8, offset: usize, written: usize) -> u64
     requires { (offset ≤ 32768) × (written ≤ 32768) }
     ensures { result ≡ number * 2 ^ 32 + offset * 2 ^ 16 + written }
 {
-    long(byte::wide(number)) * 4294967296 + long(offset) * 65536 + long(written)
+    u64::from(number) * 4294967296 + offset as u64 * 65536 + written as u64
 }
 
-// The covering matrix that command k looks at: m as it stands where the command before was a query too, else made anew. Other commands look
-// at none.
+// Whether the command of byte b is a query.
+fn is_query(b: u8) -> bool
+    ensures { result ≡ is_query_kind (kind_of b) }
+{
+    match Kind::try_from(b) {
+        Ok(k) => k.is_query(),
+        Err(_) => false,
+    }
+}
+
+// Whether it is the E that ends a job.
+fn is_end(b: u8) -> bool
+    ensures { result ≡ is (kind_of b) model.Kind.E }
+{
+    match Kind::try_from(b) {
+        Ok(k) => k.is_end(),
+        Err(_) => false,
+    }
+}
+
+// How many operand bytes it has; a byte that is no command has none.
+fn width_of(b: u8) -> usize
+    ensures { result ≡ width (kind_of b) }
+{
+    match Kind::try_from(b) {
+        Ok(k) => k.width(),
+        Err(_) => 0,
+    }
+}
+
+// The covering matrix that the command of byte b looks at, where it is a query: that of the query right before it, else one made anew.
 fn refresh(
     p: Problem,
     held: &[u64; 256],
-    k: Kind,
-    ready: bool,
-    m: Matrix,
+    b: u8,
+    kept: Option<Matrix>,
     rows: &mut [u64],
-) -> Matrix
+) -> Option<Matrix>
     requires sized { Sized p }
-    requires rows_len { (length rows.old ≡ 2048) × (m.count ≤ 2048) }
-    ensures { Refreshed p held.now (kind_is k) ready m rows.old rows.new result }
+    requires rows_len { (length rows.old ≡ 2048) × IfSome kept (λ m. m.count ≤ 2048) }
+    ensures { Refreshed p held.now (kind_of b) kept rows.old rows.new result }
 {
-    if kinds::is_query(k) {
-        if ready {
-            return m;
-        }
-        return matrix::prepare(p, held, rows);
+    if !is_query(b) {
+        return None;
     }
-    m
+    match kept {
+        Some(m) => Some(m),
+        None => Some(matrix::prepare(p, held, rows)),
+    }
 }
 
-// The commands one by one, but the rows behind I and W in one go, until one is refused, E is answered or the job's bytes end. The covering
-// matrix is kept from query to query. `held` has the sets of the blocks, at first of none. p is set right behind the step: so the compiler copies
-// the record once, and not twice.
+// The commands one by one, but the rows behind I and W in one go, until one is refused, E is answered or the job's bytes end. Each command has
+// its own width, so no range steps through the job. The covering matrix is kept from query to query. `held` has the sets of the blocks, at
+// first of none. p is set right behind the step: so the compiler copies the record once, and not twice.
 pub fn run(job: &[u8], answers: &mut [u8], held: &mut [u64; 256]) -> Ended
     requires job_len_bound { (length job.now ≤ 32768) × (length answers.old ≤ 32768) }
     requires blocks_at { BlocksAt [] held.old }
@@ -69,51 +104,33 @@ pub fn run(job: &[u8], answers: &mut [u8], held: &mut [u64; 256]) -> Ended
 {
     let mut p = problem::empty();
     let mut rows = [0u64; 2048];
-    let mut m = Matrix {
-        count: 0,
-        covered: false,
-    };
-    let mut ready = false;
+    let mut kept: Option<Matrix> = None;
     let mut at: usize = 0;
     let mut written: usize = 0;
     while at < job.len() {
-        let k = kinds::kind_of(job[at]);
-        m = refresh(p, held, k, ready, m, &mut rows);
-        ready = kinds::is_query(k);
-        let count = m.count;
-        let found = &rows[..count];
+        kept = refresh(p, held, job[at], kept, &mut rows);
+        let m = kept.unwrap_or(Matrix {
+            count: 0,
+            covered: false,
+        });
+        let found = &rows[..m.count];
         let free = &mut answers[written..];
-        let e = step::step(p, held, found, m.covered, job, at, free);
+        let e = match step::step(p, held, found, m.covered, job, at, free) {
+            Ok(e) => e,
+            Err(reason) => return Ended::new(reason.number(), at, written, p),
+        };
         p = e.problem;
-        if e.number != 0 {
-            return Ended {
-                number: e.number,
-                offset: at,
-                written: written,
-                problem: p,
-            };
+        written += e.written;
+        if is_end(job[at]) {
+            return Ended::new(0, at + 1, written, p);
         }
-        written = written + e.written;
-        if kinds::is_end(k) {
-            return Ended {
-                number: 0,
-                offset: at + 1,
-                written: written,
-                problem: p,
-            };
-        }
-        at = at + 1 + kinds::width_of(k);
+        at = at + 1 + width_of(job[at]);
         if row_block::starts(p.place, job, at) {
             let block = row_block::read_rows(p, job, at);
             p = block.problem;
             at = block.at;
-            ready = false;
+            kept = None;
         }
     }
-    Ended {
-        number: 2,
-        offset: at,
-        written: written,
-        problem: p,
-    }
+    Ended::new(Reason::NoEnd.number(), at, written, p)
 }

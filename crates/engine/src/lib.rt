@@ -11,6 +11,7 @@ ghost use Rattle.incidence.specs.Stored.{BlocksAt};
 ghost use Rattle.engine.specs.Jobs.{too_long, EndsAs, called};
 
 use job::Ended;
+use model::reason::Reason;
 
 pub mod job;
 pub mod row_block;
@@ -21,7 +22,7 @@ fn too_long() -> Ended
     ensures { result ≡ too_long }
 {
     Ended {
-        number: 1,
+        number: Reason::TooLong.number(),
         offset: 0,
         written: 0,
         problem: problem::empty(),

@@ -22,7 +22,7 @@ use Rattle.bits.proofs.Digits.{eq?, digit_lt, digit_and, a_member}
 use Rattle.bits.proofs.Members.{and_left, and_right, and_both, not_zero}
 use Rattle.incidence.specs.Stored.{Stored}
 use Rattle.incidence.specs.Rows.{has_vertex, drives_output, at_vertex}
-use Rattle.incidence.specs.Presence.{SummandsOf, TellsSum, BlockSummands}
+use Rattle.incidence.specs.Presence.{TellsSum, BlockSummands, InParts}
 use Rattle.incidence.proofs.Candidates.{held_blocks, stored_digits, entry_row, cell_row_lem}
 
 -- ---- a set without a block
@@ -110,17 +110,10 @@ module _ {cs : List Candidate} {ts : List Term} {blocks : ℕ} {held : List ℕ}
       (λ t. ⊎_elim of_term of_block (or_cases (ltb 0 (bit_and rest entries)) (ltb 0 (bit_and (get_or held v 0) driven)) t)) either
       ∙ sym (sum_meets candidate_holds cs s (cell v j))
 
--- the parts of set s as they are found once for all points: rest has its terms
-pub record InParts (ts : List Term) (blocks s m : ℕ) (care value outputs driving : List ℕ) : Type 0 where
-  pub rest : ℕ
-  pub terms : Minus s blocks rest
-  pub columns : SummandsOf ts rest care value outputs
-  pub blocks_driving : BlockSummands ts (bit_and s blocks) m driving
-
-pub point_sum : {ts : List Term} {blocks s m : ℕ} {care value outputs driving held : List ℕ} → InParts ts blocks s m care value outputs driving → (v j x : ℕ) (a b : Bool)
-    → v < 256 → j < m → x ≡ j → TellsSum care value outputs (cell v j) a → b ≡ ltb 0 (bit_and (get_or held v 0) (get_or driving x 0))
+pub point_sum : {ts : List Term} {blocks s m : ℕ} {care value outputs driving held : List ℕ} → InParts ts blocks s m care value outputs driving → (v j : ℕ) (a b : Bool)
+    → v < 256 → j < m → TellsSum care value outputs (cell v j) a → b ≡ ltb 0 (bit_and (get_or held v 0) (get_or driving j 0))
     → (cs : List Candidate) → Stored cs ts blocks held → (a || b) ≡ sum_at candidate_holds cs s (cell v j)
-point_sum {ts} {blocks} {s} {driving = driving} {held = held} k v j x a b l g e tells f cs q =
+point_sum {ts} {blocks} {s} {driving = driving} {held = held} k v j a b l g tells f cs q =
     ap₂ ◌||◌ (tells ts k.rest k.columns ∙ sum_meets holds ts k.rest (cell v j))
-    (f ∙ ap (λ (y : ℕ). ltb 0 (bit_and (get_or held v 0) y)) (ap (λ (y : ℕ). get_or driving y 0) e ∙ k.blocks_driving.sets j g))
+    (f ∙ ap (λ (y : ℕ). ltb 0 (bit_and (get_or held v 0) y)) (k.blocks_driving.sets j g))
     ∙ two_parts q s k.rest v j k.terms l

@@ -1,63 +1,64 @@
 -- Sets of candidates, each as a number; the laws behind `cubes_at`, `candidates_for`, `driving` and `driving_all`.
 use Prim.Native.Nat.{ℕ, zero, suc, ◌+◌, ◌-◌, ◌*◌, ◌/◌, ◌%◌, ◌^◌, ◌≤◌, ◌<◌, min, max}
 use native.Mathlib.Omega.{arith}
-use mathlib.Core.Path.{◌≡◌, refl, sym, ap, ap₂, ◌∙◌, subst}
+use native.Mathlib.Nat.{pow-suc}
+use mathlib.Core.Path.{◌≡◌, refl, sym, ap, ap₂, ◌∙◌}
 use mathlib.Core.Bool.{Bool, true, false, cond, ◌&&◌}
 use mathlib.Core.List.{List, [], ◌∷◌, map}
 use borrow.Author.Count.{below_more}
 use lib.Bits.{bit_and, bit_or, and_step}
-use lib.ListN.{length, take, drop, get_or, set, length-drop, length-set}
+use lib.ListN.{length, drop, get_or, set, length-set}
 use lib.Pow.{pow_mono}
-use lib.Seq.{drop-cons, drop-length, length-take-le, get_or-take, get_or-set_same, get_or-set_other}
+use lib.Seq.{drop-cons, drop-length, get_or-set_same, get_or-set_other}
+use mir.Val.{bool_byte}
 use Rattle.model.specs.declared.Term.{Term}
 use Rattle.model.specs.Table.{cell, holds}
 use Rattle.model.specs.Blocks.{vertex_bit, block_holds}
 use Rattle.model.specs.Candidates.{Candidate, candidate_holds}
 use Rattle.model.specs.Sets.{row_of}
-use Rattle.model.proofs.Matrix.{row_of_lt}
 use Rattle.bits.specs.Bits.{digit, Minus}
 use Rattle.bits.proofs.Digits.{digit_first, digit_next, digit_of_zero, digit_or, digit_ext}
 use Rattle.incidence.specs.Stored.{entry_of, is_block, block_at, Stored}
 use Rattle.incidence.specs.Rows.{has_vertex, drives_output, at_vertex, AtOutputs}
 
--- ---- one bit for each candidate, from the last one down
-
 pub flag_le : (b : Bool) (x : ℕ) → x ≡ cond b 1 0 → x ≤ 1
 flag_le true x e = omega arith
 flag_le false x e = omega arith
 
-module _ {X : Type 0} (f : Term → X → Bool) (terms : List Term) (count : ℕ) (y : X) (long : length terms ≡ 64) (most : count ≤ 64) where
-  whole : length (take count terms) ≡ count
-  whole = length-take-le count terms (omega arith)
+-- a truth value as a number
+pub as_flag : (b : Bool) {y : ℕ} → y ≡ bool_byte b → y ≡ cond b 1 0
+as_flag true e = e
+as_flag false e = e
 
-  pub row_none : ◌≡◌ {A = ℕ} 0 (row_of f (drop count (take count terms)) y)
+-- ---- one bit for each candidate, from the last one down
+
+-- s has the rows of the candidates from k on
+pub record RowFrom {A X : Type 0} (f : A → X → Bool) (ts : List A) (x : X) (k s : ℕ) : Type 0 where
+  pub same : s ≡ row_of f (drop k ts) x
+
+module _ {A X : Type 0} (f : A → X → Bool) (ts : List A) (x : X) where
+  pub from_none : RowFrom f ts x (length ts) 0
   unfolding row_of
-  row_none = rw (drop_all count (take count terms) whole)
-    where
-      drop_all : (k : ℕ) (ts : List Term) → length ts ≡ k → drop k ts ≡ []
-      drop_all k ts e = subst (λ (x : ℕ). drop x ts ≡ []) e (drop-length ts)
+  from_none = record { same = rw (drop-length ts) }
 
-  module _ (k s : ℕ) (l : 0 < k) (g : k ≤ count) (e : s ≡ row_of f (drop k (take count terms)) y) where
-    pub row_room : s * 2 + 1 < 2 ^ 64
-    row_room =
-        let n : length (drop k (take count terms)) ≡ count - k = length-drop k (take count terms) ∙ omega (arith, whole) in
-        let h : row_of f (drop k (take count terms)) y < 2 ^ (count - k) = subst (λ (x : ℕ). row_of f (drop k (take count terms)) y < 2 ^ x) n (row_of_lt f (drop k (take count terms)) y) in
-        let i : 2 ^ (count - k) ≤ 2 ^ 63 = pow_mono {i = count - k} {j = 63} (omega arith) in
-        omega arith
+  pub from_next : {k s : ℕ} (d : A) (b : Bool) (y : ℕ) → 0 < k → k ≤ length ts → b ≡ f (get_or ts (k - 1) d) x → y ≡ cond b 1 0 → RowFrom f ts x k s → RowFrom f ts x (k - 1) (s * 2 + y)
+  unfolding row_of
+  from_next {k} {s} d b y l m e z h =
+      let n : suc (k - 1) ≡ k = omega arith in
+      let q : drop (k - 1) ts ≡ get_or ts (k - 1) d ∷ drop k ts = drop-cons ts (k - 1) d (omega arith) ∙ ap (λ (j : ℕ). get_or ts (k - 1) d ∷ drop j ts) n in
+      record { same = rw (q, h.same, z, e) }
 
-    pub row_next : (d : Term) (b : Bool) (x : ℕ) → b ≡ f (get_or terms (k - 1) d) y → x ≡ cond b 1 0 → s * 2 + x ≡ row_of f (drop (k - 1) (take count terms)) y
-    unfolding row_of
-    row_next d b x h z =
-        let i : suc (k - 1) ≡ k = omega arith in
-        let q : drop (k - 1) (take count terms) ≡ get_or terms (k - 1) d ∷ drop k (take count terms) =
-        drop-cons (take count terms) (k - 1) d (omega (arith, whole))
-        ∙ ap₂ (λ (t : Term) (j : ℕ). t ∷ drop j (take count terms)) (get_or-take count terms (k - 1) d (omega arith)) i in
-        rw (q, e, z, h)
+-- each bit doubles the room
+pub room_next : (n k s y : ℕ) (b : Bool) → 0 < k → k ≤ n → s < 2 ^ (n - k) → y ≡ cond b 1 0 → s * 2 + y < 2 ^ (n - (k - 1))
+room_next n k s y b l m h e =
+    let i : n - (k - 1) ≡ suc (n - k) = omega arith in
+    let p : 2 ^ (n - (k - 1)) ≡ 2 ^ (n - k) * 2 = ap (λ (i : ℕ). 2 ^ i) i ∙ pow-suc 2 (n - k) in
+    omega (arith, flag_le b y e, p)
 
-pub row_done : {X : Type 0} (f : Term → X → Bool) (terms : List Term) (count k s : ℕ) (y : X) → k ≤ 0 → s ≡ row_of f (drop k (take count terms)) y → s ≡ row_of f (take count terms) y
-row_done f terms count k s y l e =
-    let z : k ≡ 0 = omega arith in
-    e ∙ ap (λ (j : ℕ). row_of f (drop j (take count terms)) y) z
+pub room_of : (n k s : ℕ) → n ≤ 64 → 0 < k → s < 2 ^ (n - k) → s * 2 + 1 < 2 ^ 64
+room_of n k s m l h =
+    let p : 2 ^ (n - k) ≤ 2 ^ 63 = pow_mono {i = n - k} {j = 63} (omega arith) in
+    omega arith
 
 -- ---- output by output
 
@@ -131,10 +132,10 @@ module _ {cs : List Candidate} {ts : List Term} {blocks : ℕ} {held : List ℕ}
   pub stored_digits : (v i : ℕ) → v < 256 → digit i (row_of at_vertex cs v) ≡ max (digit i (row_of has_vertex ts v) - digit i blocks) (digit i (get_or held v 0))
   stored_digits v i l = rw (q.entries, q.which, q.at.sets v l) (vertex_digits cs v i)
 
-  pub vertex_row : (v x y : ℕ) → v < 256 → x ≡ row_of has_vertex ts v → Minus x blocks y → bit_or y (get_or held v 0) ≡ row_of at_vertex cs v
+  pub vertex_row : (v u x y : ℕ) → v < 256 → u ≡ v → x ≡ row_of has_vertex ts v → Minus x blocks y → bit_or y (get_or held u 0) ≡ row_of at_vertex cs v
   unfolding Minus
-  vertex_row v x y l e m = digit_ext (bit_or y (get_or held v 0)) (row_of at_vertex cs v)
-      (λ i. omega (arith, digit_or i y (get_or held v 0), m i, ap (digit i) e, stored_digits v i l))
+  vertex_row v u x y l f e m = rw f (digit_ext (bit_or y (get_or held v 0)) (row_of at_vertex cs v)
+      (λ i. omega (arith, digit_or i y (get_or held v 0), m i, ap (digit i) e, stored_digits v i l)))
 
 -- ---- the row of a cell
 

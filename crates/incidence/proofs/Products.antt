@@ -1,26 +1,26 @@
--- The product of formula (4), point by point; the laws behind `presence`.
+-- The product of formula (4), point by point; the laws behind `product_at` and `presence`.
 use Prim.Native.Nat.{ℕ, zero, suc, ◌+◌, ◌-◌, ◌^◌, ◌≤◌, ◌<◌}
 use native.Mathlib.Omega.{arith}
 use mathlib.Core.Path.{◌≡◌, refl, sym, ap, ap₂, ◌∙◌, subst}
-use mathlib.Core.Bool.{Bool, true, false, ◌&&◌, and-true}
+use mathlib.Core.Bool.{Bool, true, false, ◌&&◌, ◌||◌, and-true}
 use mathlib.Core.List.{List, [], ◌∷◌, ◌++◌, map, map-append, append-nil, append_assoc}
-use borrow.Author.Tests.{leb-false}
-use lib.Dec.{leb, not_T}
+use lib.Bits.{bit_and}
+use lib.Dec.{ltb}
 use lib.ListN.{get_or, length, take}
-use lib.Pow.{pow_mono}
 use lib.Seq.{take-length, take_at}
 use Rattle.model.specs.declared.Term.{Term}
 use Rattle.model.specs.Base.{bit, from, below, every, filter, join}
 use Rattle.model.specs.Table.{Table, Cell, cell, cells, is_on, on_cells}
 use Rattle.model.specs.Candidates.{Candidate, candidate_holds, basis, covering}
 use Rattle.model.specs.Presence.{sum_at, product_up_to, presence}
-use Rattle.model.proofs.Lists.{T_false, every_append, filter_append}
-use Rattle.model.proofs.Bits.{bit_le}
+use Rattle.model.proofs.Lists.{every_append, filter_append}
 use Rattle.bits.specs.Lists.{parts}
 use Rattle.bits.proofs.Lists.{below_split, parts_next, parts_split}
 use Rattle.incidence.specs.Stored.{Stored}
 use Rattle.incidence.specs.Rows.{OnBytes}
-use Rattle.incidence.specs.Presence.{TellsPresence, cells_before, points_before, StandsAt}
+use Rattle.incidence.specs.Presence.{TellsSum, TellsPresence, cells_before, points_before, StandsAt, AtVertex}
+use Rattle.incidence.proofs.Matrix.{no_bit}
+use Rattle.incidence.proofs.BlockSums.{point_sum}
 
 module _ (p : Table) where
   abbrev cells_of : ℕ → List Cell
@@ -112,10 +112,7 @@ module _ (on : List ℕ) (n m : ℕ) (ts : List Term) (blocks : ℕ) (held : Lis
   unfolding cells_before product_up_to
   stands_none = record { up_to = λ p cs o q. refl }
 
-  module _ (size v j : ℕ) (product b : Bool) (z : size ≡ 2 ^ n) (l : v < size) (h : j < m) (e : b ≡ bit j (get_or on v 0)) (stands : StandsAt on n m ts blocks held s v j product) where
-    below_size : v < 2 ^ n
-    below_size = subst (λ (k : ℕ). v < k) z l
-
+  module _ (v j : ℕ) (product b : Bool) (below_size : v < 2 ^ n) (h : j < m) (e : b ≡ bit j (get_or on v 0)) (stands : StandsAt on n m ts blocks held s v j product) where
     here : (p : Table) → OnBytes p n m on → b ≡ is_on p (cell v j)
     unfolding is_on
     here p o = e ∙ ap (bit j) (o.bytes v below_size)
@@ -141,56 +138,67 @@ module _ (on : List ℕ) (n m : ℕ) (ts : List Term) (blocks : ℕ) (held : Lis
         none : (p : Table) (cs : List Candidate) → OnBytes p n m on → true ≡ every (sum_at candidate_holds cs s) (filter (is_on p) (cell v j ∷ []))
         none p cs o = rw (sym (here p o) ∙ t)
 
-  pub stands_vertex : (v j : ℕ) (product : Bool) → j ≤ m → m ≤ j → StandsAt on n m ts blocks held s v j product → StandsAt on n m ts blocks held s (v + 1) 0 product
-  stands_vertex v j product l h stands = record {
+  pub stands_vertex : (v : ℕ) (product : Bool) → StandsAt on n m ts blocks held s v m product → StandsAt on n m ts blocks held s (v + 1) 0 product
+  stands_vertex v product stands = record {
     up_to = λ p cs o q.
-        let e : j ≡ p.m = omega (arith, o.outputs) in
+        let e : m ≡ p.m = sym o.outputs in
         stands.up_to p cs o q
         ∙ ap (λ (xs : List Cell). product_up_to (covering (basis p cs)) s (length (filter (is_on p) xs))) (ap (cells_before p v) e ∙ vertex_end p v);
   }
 
-  -- no output at or above j is wanted at vertex v
-  pub stands_left : (size v j x : ℕ) (product : Bool) → size ≡ 2 ^ n → v < size → j ≤ m → x ≡ 2 ^ j → leb x (get_or on v 0) ≡ false → StandsAt on n m ts blocks held s v j product
-      → StandsAt on n m ts blocks held s (v + 1) 0 product
+  -- no cell of vertex v is wanted
+  pub stands_none_wanted : (v : ℕ) (product : Bool) → v < 2 ^ n → get_or on v 0 ≡ 0 → StandsAt on n m ts blocks held s v 0 product → StandsAt on n m ts blocks held s v m product
   unfolding is_on
-  stands_left size v j x product z l h e g stands = record {
-    up_to = λ p cs o q. stands.up_to p cs o q ∙ ap (λ (xs : List Cell). product_up_to (covering (basis p cs)) s (length xs)) (sym (same p o) ∙ ap (filter (is_on p)) (vertex_end p v));
+  stands_none_wanted v product l z stands = record {
+    up_to = λ p cs o q. stands.up_to p cs o q ∙ ap (λ (xs : List Cell). product_up_to (covering (basis p cs)) s (length xs)) (same p o);
   }
     where
-      off : (p : Table) → OnBytes p n m on → (u : ℕ) → j ≤ u → is_on p (cell v u) ≡ false
-      off p o u i =
-          let w : v < 2 ^ n = subst (λ (k : ℕ). v < k) z l in
-          let y : get_or on v 0 < x = leb-false x (get_or on v 0) g in
-          ap (bit u) (sym (o.bytes v w)) ∙ T_false {b = bit u (get_or on v 0)} (not_T (bit u (get_or on v 0)) (λ t. omega (arith, bit_le u (get_or on v 0) t, pow_mono i)))
+      off : (p : Table) → OnBytes p n m on → (u : ℕ) → is_on p (cell v u) ≡ false
+      off p o u = ap (bit u) (sym (o.bytes v l) ∙ z) ∙ no_bit u
 
-      same : (p : Table) → OnBytes p n m on → filter (is_on p) (cells_before p v p.m) ≡ filter (is_on p) (cells_before p v j)
+      same : (p : Table) → OnBytes p n m on → filter (is_on p) (cells_before p v 0) ≡ filter (is_on p) (cells_before p v m)
       same p o =
-          let k : j ≤ p.m = subst (λ (i : ℕ). j ≤ i) (sym o.outputs) h in
-          ap (filter (is_on p)) (cells_rest p v j k)
-          ∙ filter_append (is_on p) (cells_before p v j) (map (cell v) (from j (p.m - j)))
-          ∙ ap (λ (xs : List Cell). filter (is_on p) (cells_before p v j) ++ xs) (no_points p v j (p.m - j) (off p o))
-          ∙ append-nil (filter (is_on p) (cells_before p v j))
+          let k : 0 ≤ p.m = omega arith in
+          sym (
+          ap (λ (j : ℕ). filter (is_on p) (cells_before p v j)) (sym o.outputs)
+          ∙ ap (filter (is_on p)) (cells_rest p v 0 k)
+          ∙ filter_append (is_on p) (cells_before p v 0) (map (cell v) (from 0 (p.m - 0)))
+          ∙ ap (λ (xs : List Cell). filter (is_on p) (cells_before p v 0) ++ xs) (no_points p v 0 (p.m - 0) (λ u l. off p o u))
+          ∙ append-nil (filter (is_on p) (cells_before p v 0))
+          )
 
-  pub stands_all : (v j : ℕ) (product : Bool) → v ≡ 2 ^ n → j ≡ 0 → StandsAt on n m ts blocks held s v j product → TellsPresence on n m ts blocks held s product
-  stands_all v j product e z stands p cs o q =
+  pub stands_all : (v : ℕ) (product : Bool) → v ≡ 2 ^ n → StandsAt on n m ts blocks held s v 0 product → TellsPresence on n m ts blocks held s product
+  stands_all v product e stands p cs o q =
       let f : v ≡ 2 ^ p.n = e ∙ ap (λ (k : ℕ). 2 ^ k) (sym o.inputs) in
       stands.up_to p cs o q
-      ∙ ap₂ (λ (x y : ℕ). product_up_to (covering (basis p cs)) s (points_before p x y)) f z
+      ∙ ap (λ (x : ℕ). product_up_to (covering (basis p cs)) s (points_before p x 0)) f
       ∙ product_all p cs s
 
--- ---- the walk by vertex, then output
+-- ---- the cells of one vertex
 
-module _ (m : ℕ) where
-  -- (v, j) is a cell of the table, or the end of its vertex, or the end of all
-  pub record CellOrEnd (size v j : ℕ) : Type 0 where
-    pub output : j ≤ m
-    pub end : size ≤ v → (v ≡ size) × (j ≡ 0)
+module _ (product : Bool) (on : ℕ) (care value outputs : List ℕ) (held : ℕ) (driving : List ℕ) (v m : ℕ) where
+  pub at_none : AtVertex product on care value outputs held driving v m 0 product
+  at_none = record { up_to = λ table n ts blocks sets s k l e h stands. stands }
 
-  pub first_cell : (size : ℕ) → CellOrEnd size 0 0
-  first_cell size = record { output = omega arith; end = λ l. (omega arith, refl) }
+  pub at_off : on ≡ 0 → AtVertex product on care value outputs held driving v m m product
+  at_off z = record { up_to = λ table n ts blocks sets s k l e h stands. stands_none_wanted table n m ts blocks sets s v product l (e ∙ z) stands }
 
-  pub next_output : (size v j : ℕ) → v < size → j < m → CellOrEnd size v (j + 1)
-  next_output size v j l h = record { output = omega arith; end = λ g. absurd (omega arith) }
+  module _ {j : ℕ} {r : Bool} (b : Bool) (l : j < m) (e : b ≡ bit j on) (at : AtVertex product on care value outputs held driving v m j r) where
+    pub at_point : v < 256 → b ≡ true → (k : ℕ) → k ≡ j → (x y new : Bool) → TellsSum care value outputs (cell v j) x → y ≡ ltb 0 (bit_and held (get_or driving k 0)) → new ≡ (r && (x || y))
+        → AtVertex product on care value outputs held driving v m (j + 1) new
+    at_point g t k w x y new tells f q = record {
+      up_to = λ table n ts blocks sets s parts i d h stands.
+          stands_point table n m ts blocks sets s v j r b i l (e ∙ ap (bit j) (sym d)) (at.up_to table n ts blocks sets s parts i d h stands) (x || y) new t
+          (point_sum parts v j x y g l tells (f ∙ ap₂ (λ (i z : ℕ). ltb 0 (bit_and z (get_or driving i 0))) w (sym h))) q;
+    }
 
-  pub next_vertex : (size v : ℕ) → v < size → CellOrEnd size (v + 1) 0
-  next_vertex size v l = record { output = omega arith; end = λ g. (omega arith, refl) }
+    pub at_cell : b ≡ false → (new : Bool) → new ≡ r → AtVertex product on care value outputs held driving v m (j + 1) new
+    at_cell t new q = record {
+      up_to = λ table n ts blocks sets s parts i d h stands.
+          stands_cell table n m ts blocks sets s v j r b i l (e ∙ ap (bit j) (sym d)) (at.up_to table n ts blocks sets s parts i d h stands) new t q;
+    }
+
+  pub at_end : {j : ℕ} {r : Bool} → m ≤ j → j ≤ m → AtVertex product on care value outputs held driving v m j r → AtVertex product on care value outputs held driving v m m r
+  at_end {j} {r} l g at =
+      let e : j ≡ m = omega arith in
+      subst (λ (i : ℕ). AtVertex product on care value outputs held driving v m i r) e at

@@ -1,5 +1,5 @@
 -- What the contract on the cover test and its loop cite.
-use Rattle.std.specs.Prelude.{ℕ, ◌≤◌, ◌<◌, ◌≡◌, Bool, false, ◌&&◌, List, ◌++◌, map, get_or, length}
+use Rattle.std.specs.Prelude.{ℕ, ◌^◌, ◌≤◌, ◌<◌, ◌≡◌, Bool, false, ◌&&◌, List, ◌++◌, map, get_or, length}
 use Rattle.std.specs.Int.Bits.{bit_and}
 use Rattle.model.specs.declared.Term.{Term}
 use Rattle.model.specs.Base.{bit, below, filter}
@@ -7,6 +7,7 @@ use Rattle.model.specs.Table.{Table, Cell, cell, in_cube, holds, is_on}
 use Rattle.model.specs.Candidates.{Candidate, basis, covering}
 use Rattle.model.specs.Sets.{row_of}
 use Rattle.model.specs.Presence.{values_at, sum_at, product_up_to, presence}
+use Rattle.bits.specs.Bits.{Minus}
 use Rattle.bits.specs.Lists.{parts}
 use Rattle.incidence.specs.Stored.{Stored}
 use Rattle.incidence.specs.Rows.{OnBytes, drives_output, AtOutputs}
@@ -42,3 +43,15 @@ points_before p v j = length (filter (is_on p) (cells_before p v j))
 -- at cell (v, j) the product stands at formula (4) up to the points before it
 pub record StandsAt (on : List ℕ) (n m : ℕ) (ts : List Term) (blocks : ℕ) (held : List ℕ) (set v j : ℕ) (product : Bool) : Type 0 where
   pub up_to : (p : Table) (cs : List Candidate) → OnBytes p n m on → Stored cs ts blocks held → product ≡ product_up_to (covering (basis p cs)) set (points_before p v j)
+
+-- the parts of set s as they are found once for all points: rest has its terms
+pub record InParts (ts : List Term) (blocks s m : ℕ) (care value outputs driving : List ℕ) : Type 0 where
+  pub rest : ℕ
+  pub terms : Minus s blocks rest
+  pub columns : SummandsOf ts rest care value outputs
+  pub blocks_driving : BlockSummands ts (bit_and s blocks) m driving
+
+-- behind the cells (v, 0) to (v, j - 1) the product is r, where before them it was `product`; on has the byte of the vertex, held its blocks
+pub record AtVertex (product : Bool) (on : ℕ) (care value outputs : List ℕ) (held : ℕ) (driving : List ℕ) (v m j : ℕ) (r : Bool) : Type 0 where
+  pub up_to : (table : List ℕ) (n : ℕ) (ts : List Term) (blocks : ℕ) (sets : List ℕ) (set : ℕ) → InParts ts blocks set m care value outputs driving
+      → v < 2 ^ n → get_or table v 0 ≡ on → get_or sets v 0 ≡ held → StandsAt table n m ts blocks sets set v 0 product → StandsAt table n m ts blocks sets set v j r

@@ -25,6 +25,10 @@ has_vertex t v = in_cube t.care t.value v
 abbrev pub drives_output : Term → ℕ → Bool
 drives_output t j = bit j t.outputs
 
+-- s is the set of the candidates that pass a test: `told t b` says that b may be what the test tells of t
+pub record Passing (told : Term → Bool → Type 0) (ts : List Term) (s : ℕ) : Type 0 where
+  pub same : (f : Term → ℕ → Bool) (x : ℕ) → ((k : ℕ) (d : Term) (b : Bool) → k < length ts → told (get_or ts k d) b → b ≡ f (get_or ts k d) x) → s ≡ row_of f ts x
+
 -- a candidate has cells at vertex v: where it drives output j too, it holds the cell (law `cell_row_lem`)
 abbrev pub at_vertex : Candidate → ℕ → Bool
 at_vertex (Candidate.term t) v = has_vertex t v

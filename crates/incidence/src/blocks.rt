@@ -26,11 +26,8 @@ pub fn add(held: &mut [u64; 256], k: u64, b: Block)
     ensures { Adds k b held.old held.new }
 {
     let member = set::power(k);
-    let vertices = b.vertices;
-    let mut v: usize = 0;
-    while v < 256 {
-        held[v] = marked(held[v], member, &vertices, v as u8);
-        v += 1;
+    for (v, s) in held.iter_mut().enumerate() {
+        *s = marked(*s, member, &b.vertices, v as u8);
     }
 }
 
@@ -39,10 +36,8 @@ fn remove(held: &mut [u64; 256], k: u64)
     requires { k < 64 }
     ensures { Removes k held.old held.new }
 {
-    let mut v: usize = 0;
-    while v < 256 {
-        held[v] = set::removed(held[v], k);
-        v += 1;
+    for s in held.iter_mut() {
+        *s = set::removed(*s, k);
     }
 }
 

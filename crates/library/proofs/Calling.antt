@@ -1,15 +1,14 @@
 -- The laws behind the library call.
-use Prim.Native.Nat.{ℕ, zero, suc, ◌+◌, ◌-◌, ◌/◌, ◌^◌, ◌≤◌, ◌<◌}
+use Prim.Native.Nat.{ℕ, zero, suc, ◌+◌, ◌-◌, ◌^◌, ◌≤◌, ◌<◌}
 use native.Mathlib.Omega.{arith}
 use native.Mathlib.Numerals.{add-one}
 use mathlib.Core.Path.{◌≡◌, refl, sym, ap, ◌∙◌, subst, subst⁻¹}
 use mathlib.Core.Bool.{Bool, true, false, not, ◌&&◌, ◌||◌}
 use mathlib.Core.List.{List, [], ◌∷◌, ◌++◌, map}
-use borrow.Author.Tests.{lt-ltb, le-ltb, eq-eqb, ne_eqb}
+use borrow.Author.Tests.{le-ltb, ne_eqb}
 use lib.Dec.{T, leb, eqb, leb→le, eqb→eq, not_T}
-use lib.ListN.{get_or, length, take, drop, set, replicate, length-map, length-replicate, drop_of_length-le}
-use lib.Pow.{pow_mono}
-use lib.Seq.{take-suc, take-length, drop-cons, get_or-drop}
+use lib.ListN.{get_or, length, take, drop, replicate, length-map, length-replicate, drop_of_length-le}
+use lib.Seq.{drop-cons, get_or-drop}
 use Rattle.model.specs.Base.{from, below, some, join, All}
 use Rattle.model.specs.declared.Term.{Term}
 use Rattle.model.specs.Table.{Table}
@@ -20,27 +19,30 @@ use Rattle.model.specs.Candidates.{Candidate, terms_alone, usual, term_cost, can
 use Rattle.model.specs.Commands as model
 use Rattle.model.specs.Commands.{table_of}
 use Rattle.model.specs.Refusals.{Refusal, refuse, first_of, size, bad_row}
+use Rattle.std.specs.Prelude.{Result, Ok, Err}
+use Rattle.model.specs.declared.place.Place.TheVariants.{Queried}
+use Rattle.model.specs.declared.reason.Reason.{Reason}
+use Rattle.model.specs.declared.reason.Reason.TheVariants.{UnheldCell}
+use Rattle.model.specs.Reasons.{number_of}
 use Rattle.model.specs.Library.{unpack, call_basis, bad_vertex, refusals_of_word, call_refusals, list_covers}
 use Rattle.model.proofs.Lists.{zero_at, T_true, and_l, and_r, some_i, below_i, all_append}
 use Rattle.model.proofs.Runs.{Numbered, first_before, first_behind}
 use Rattle.model.proofs.Library.{listed_refused}
+use Rattle.model.proofs.Reasons.{has_number}
 use Rattle.bits.specs.Lists.{Filled}
 use Rattle.table.specs.Cubes.{Allowed, MayOf}
 use Rattle.incidence.proofs.Uses.{blocks_alone}
 use Rattle.rows.specs.Covers.{row_covers}
 use Rattle.lister.specs.Lister.{Paged}
-use Rattle.answers.specs.Writers.{InFront}
-use Rattle.answers.proofs.Bytes.{one_more, same_long}
+use Rattle.answers.proofs.Bytes.{same_long}
 use Rattle.problem.specs.declared.Problem.{Problem}
 use Rattle.problem.specs.declared.matrix.Matrix.{Matrix}
 use Rattle.problem.specs.Problems.{alone, Sized, HoldsCands, Holds}
-use Rattle.problem.specs.Refusing.{TermRefusal}
 use Rattle.problem.specs.Matrix.{RowsOf, Prepares}
 use Rattle.problem.proofs.Keeping.{none_given, holds_alone, held_count}
 use Rattle.problem.proofs.Refusing.{held_rows}
 use Rattle.problem.proofs.Preparing.{rows_listed}
-use Rattle.library.specs.declared.Listed.{Listed}
-use Rattle.library.specs.declared.Listed.TheVariants.{Filled as FilledWith, Refused}
+use Rattle.lister.specs.declared.cursor.PageFill.{PageFill}
 use Rattle.library.specs.Library.{Answers, called_table, right_sizes, some_bad, table_refusals, Admitted, TableRefusal, problem_of, Padded, WordRefusal, WordsRefusal}
 use Rattle.library.specs.Library.{TellsCovered, RowFilled}
 
@@ -48,21 +50,6 @@ use Rattle.library.specs.Library.{TellsCovered, RowFilled}
 
 pub size_le : (k : ℕ) (r : Bool) → r ≡ size k → r ≡ true → k ≤ 8
 size_le k r e t = leb→le k 8 (and_r (leb 1 k) (leb k 8) (subst (λ (b : Bool). T b) (sym t ∙ e) tt))
-
-module _ (n m on dc : ℕ) (a : Bool) (e : a ≡ size n) where
-  pub sizes_inputs : a ≡ false → false ≡ right_sizes n m on dc
-  sizes_inputs f = rw (← e, f)
-
-  module _ (b : Bool) (g : b ≡ size m) (t : a ≡ true) where
-    pub sizes_outputs : b ≡ false → false ≡ right_sizes n m on dc
-    sizes_outputs f = rw (← e, t, ← g, f)
-
-    module _ (u : b ≡ true) (k : ℕ) (h : k ≡ 2 ^ n) where
-      pub sizes_on : (on ≡ k → ⊥) → false ≡ right_sizes n m on dc
-      sizes_on d = rw (← e, t, ← g, u, ← h, ne_eqb on k d)
-
-      pub sizes_dc : on ≡ k → eqb dc k ≡ right_sizes n m on dc
-      sizes_dc i = rw (← e, t, ← g, u, ← h, eq-eqb on k i)
 
 pub sizes_are : (n m on dc : ℕ) (r : Bool) → r ≡ right_sizes n m on dc → r ≡ true → (n ≤ 8) × (m ≤ 8) × (on ≡ 2 ^ n) × (dc ≡ 2 ^ n)
 sizes_are n m on dc r e t = (
@@ -95,39 +82,21 @@ module _ (m : ℕ) (on dc : List ℕ) where
     pub within : v ≤ length on
     pub left : some_bad m on dc ≡ some bad_at (from v (length on - v))
 
-  pub good_first : GoodBelow 0
-  good_first = let e : length on ≡ length on - 0 = omega arith in record { within = omega arith; left = ap (λ (k : ℕ). some bad_at (from 0 k)) e }
-
   next_of : (v : ℕ) → v < length on → GoodBelow v → some_bad m on dc ≡ (bad_at v || some bad_at (from (suc v) (length on - suc v)))
   next_of v l g = let e : length on - v ≡ suc (length on - suc v) = omega arith in g.left ∙ ap (λ (k : ℕ). some bad_at (from v k)) e
-
-  pub bad_here : (v : ℕ) (b : Bool) → v < length on → b ≡ bad_at v → b ≡ true → GoodBelow v → true ≡ some_bad m on dc
-  bad_here v b l e t g = sym (next_of v l g ∙ ap (λ (x : Bool). x || some bad_at (from (suc v) (length on - suc v))) (sym e ∙ t))
 
   pub good_next : (v : ℕ) (b : Bool) → v < length on → b ≡ bad_at v → b ≡ false → GoodBelow v → GoodBelow (v + 1)
   good_next v b l e t g = rw (add-one v) record { within = l; left = next_of v l g ∙ ap (λ (x : Bool). x || some bad_at (from (suc v) (length on - suc v))) (sym e ∙ t) }
 
-  pub good_all : (v : ℕ) → length on ≤ v → GoodBelow v → false ≡ some_bad m on dc
-  good_all v l g = let e : length on - v ≡ 0 = omega arith in sym (g.left ∙ ap (λ (k : ℕ). some bad_at (from v k)) e)
-
 -- ---- 6, 8 and 11 in their order
 
 module _ (p : Table) (count : ℕ) (a : Bool) (e : a ≡ right_sizes p.n p.m (length p.on) (length p.dc)) where
-  pub refused_size : a ≡ false → TableRefusal p count 6
-  refused_size f = record { first = rw (← e, f); admitted = λ z. absurd (omega (arith, z)) }
-
   module _ (t : a ≡ true) (b : Bool) (g : b ≡ some_bad p.m p.on p.dc) where
     right : (p.n ≤ 8) × (p.m ≤ 8) × (length p.on ≡ 2 ^ p.n) × (length p.dc ≡ 2 ^ p.n)
     right = sizes_are p.n p.m (length p.on) (length p.dc) a e t
 
     vertices : b ≡ some (bad_vertex p) (below (2 ^ p.n))
     vertices = g ∙ ap (λ (k : ℕ). some (bad_vertex p) (below k)) right.2
-
-    pub refused_bad : b ≡ true → TableRefusal p count 8
-    refused_bad f = record { first = rw (← e, t, ← vertices, f); admitted = λ z. absurd (omega (arith, z)) }
-
-    pub refused_many : b ≡ false → 65 ≤ count → TableRefusal p count 11
-    refused_many f l = record { first = rw (← e, t, ← vertices, f, lt-ltb 64 count l); admitted = λ z. absurd (omega (arith, z)) }
 
     good : b ≡ false → (v : ℕ) → v < 2 ^ p.n → T (not (bad_vertex p v))
     good f v l = not_T (bad_vertex p v) (λ h. absurd (subst (λ (x : Bool). T x) (sym vertices ∙ f) (some_i (bad_vertex p) (below_i l) h)))
@@ -139,27 +108,6 @@ module _ (p : Table) (count : ℕ) (a : Bool) (e : a ≡ right_sizes p.n p.m (le
     }
 
 -- ---- the problem of a call
-
-abbrev pub PaddedBelow : List ℕ → ℕ → List ℕ → Type 0
-PaddedBelow row i all = (i ≤ length row) × InFront (take i row) i (replicate 256 0) all
-
-module _ (row : List ℕ) (i : ℕ) (all : List ℕ) (h : length row ≤ 256) (f : PaddedBelow row i all) where
-  pub padded_long : length all ≡ 256
-  padded_long = same_long (take i row) (replicate 256 0) all i f.1 (omega (arith, f.0, length-replicate {A = ℕ} 256 0)) ∙ length-replicate {A = ℕ} 256 0
-
-  pub padded_next : i < length row → PaddedBelow row (i + 1) (set all i (get_or row i 0))
-  padded_next l = (
-    omega arith,
-    subst⁻¹ (λ (a : List ℕ). InFront a (i + 1) (replicate 256 0) (set all i (get_or row i 0))) more
-        (one_more (take i row) (replicate 256 0) all i f.1 (get_or row i 0) (omega (arith, length-replicate {A = ℕ} 256 0))),
-  )
-    where
-      more : take (i + 1) row ≡ take i row ++ (get_or row i 0 ∷ [])
-      more = ap (λ (k : ℕ). take k row) (add-one i) ∙ take-suc row i 0 l
-
-  pub padded_all : length row ≤ i → Padded row all
-  padded_all l = let e : i ≡ length row = omega (arith, f.0) in subst (λ (a : List ℕ). InFront a (length row) (replicate 256 0) all)
-      (take-length row) (subst (λ (k : ℕ). InFront (take k row) k (replicate 256 0) all) e f.1)
 
 before_zeros : (xs zs : List ℕ) → ((w : ℕ) → get_or zs w 0 ≡ 0) → (v : ℕ) → get_or (xs ++ zs) v 0 ≡ get_or xs v 0
 before_zeros [] zs z v = z v
@@ -176,7 +124,7 @@ padded_size row all h f = same_long row (replicate 256 0) all (length row) f (om
 pub call_holds : (words : List ℕ) {n m : ℕ} {prices : Prices} {on dc on' dc' : List ℕ} {terms : List Term} {weights : List ℕ} → prices ≡ usual → length on ≤ 256 → length dc ≤ 256 → Padded on on'
     → Padded dc dc' → Filled 64 (map unpack words) terms (length words) → Filled 64 (map (term_cost prices) (take (length words) terms)) weights (length words)
     → Holds (record {
-      place = model.queried;
+      place = Queried;
       settings = record { n = n; m = m; prices = prices };
       rows = record { on = on'; dc = dc'; given = replicate 256 0 };
       candidates = alone terms weights (length words);
@@ -199,10 +147,6 @@ call_holds words {n} {m} {prices} {on} {dc} {on'} {dc'} {terms} {weights} e h k 
       (holds_alone prices t (subst (λ (ts : List Term). Filled 64 (map (term_cost prices) ts) weights (length words)) t.same w));
 }
 
-module _ {p : Table} {count : ℕ} (a : Admitted p count) where
-  pub call_room : (length p.on ≤ 256) × (length p.dc ≤ 256) × (count ≤ 64)
-  call_room = (omega (arith, a.on_size, pow_mono a.inputs), omega (arith, a.dc_size, pow_mono a.inputs), a.few)
-
 pub call_sized : (words : List ℕ) {r : Problem} {p : Table} → Admitted p (length words) → Holds r (problem_of p words) → Sized r
 call_sized words {r} {p} a h = record {
   inputs = omega (arith, h.settings.inputs, a.inputs);
@@ -211,14 +155,6 @@ call_sized words {r} {p} a h = record {
 }
 
 -- ---- 9 and 10
-
-module _ (may : List ℕ) (n m w : ℕ) where
-  pub word_top : (w / 16777216 ≡ 0 → ⊥) → WordRefusal may n m w 9
-  word_top d p a o = rw (ne_eqb (w / 2 ^ 24) 0 d)
-
-  -- without a top byte it is the term's
-  pub word_term : (t : Term) (r : ℕ) → t ≡ unpack w → w / 16777216 ≡ 0 → TermRefusal may n m t r → WordRefusal may n m w r
-  word_term t r e z f p a o = rw (eq-eqb (w / 2 ^ 24) 0 z, ← e) (f p a o)
 
 abbrev pub refusals_of_words : Table → List ℕ → List Refusal
 refusals_of_words p words = join (map (refusals_of_word p) words)
@@ -267,17 +203,17 @@ module _ {p : Problem} {out : List ℕ} {m : Matrix} (d : Prepares p (replicate 
   told : (b : Bool) → m.covered ≡ b → TellsCovered p b
   told b e t words h = sym e ∙ (d.matrix (problem_of t words) h (blocks_alone (map unpack words))).told
 
-  pub row_filled : {rows : List ℕ} {n start k : ℕ} {b : Bool} {old new : List ℕ} → m.covered ≡ true → rows ≡ take m.count out → n ≡ p.candidates.count
-      → Paged (row_covers n rows) start old new (record { count = k; more = b }) → RowFilled p start old new (FilledWith k b)
-  row_filled {rows} {n} {start} {k} {b} {old} {new} c e i w = (
+  pub row_filled : {rows : List ℕ} {n start : ℕ} {f : PageFill} {old new : List ℕ} → m.covered ≡ true → rows ≡ take m.count out → n ≡ p.candidates.count
+      → Paged (row_covers n rows) start old new f → RowFilled p start old new (Ok f)
+  row_filled {rows} {n} {start} {f} {old} {new} c e i w = (
     told true c,
     λ t words h.
         let q = problem_of t words in
         let r : RowsOf (call_basis t words) rows = subst⁻¹ (λ (l : List ℕ). RowsOf (call_basis t words) l) e (d.matrix q h (blocks_alone (map unpack words))).rows_of in
-        subst (λ (all : List ℕ). Paged all start old new (record { count = k; more = b })) (rows_listed p q rows n h r i) w,
+        subst (λ (all : List ℕ). Paged all start old new f) (rows_listed p q rows n h r i) w,
   )
 
-  pub row_refused : (start : ℕ) {old : List ℕ} → m.covered ≡ false → RowFilled p start old old (Refused 12)
+  pub row_refused : (start : ℕ) {old : List ℕ} → m.covered ≡ false → RowFilled p start old old (Err UnheldCell)
   row_refused start c = (told false c, refl, refl)
 
 -- ---- the answer
@@ -286,35 +222,36 @@ abbrev pub last_refusal : Table → List ℕ → List Refusal
 last_refusal p words = refuse 12 (not (coverable (covering (call_basis p words)))) ∷ []
 
 module _ (p : Table) (words : List ℕ) (start : ℕ) (old : List ℕ) where
-  call_refused : {r : ℕ} → r ≡ first_of (call_refusals p words) → (r ≡ 0 → ⊥) → Answers (list_covers p words start old) (Refused r) old
-  call_refused {r} e d =
-      let l = listed_refused p words start old (rw (ne_eqb (first_of (call_refusals p words)) 0 (λ z. d (e ∙ z))) tt) in
-      let n : r ≡ (list_covers p words start old).number = e ∙ sym l.number in
-      record { answer = rw (← n, ne_eqb r 0 d); number = n; filled = sym l.filled; above = sym l.above; row = sym l.row }
+  call_refused : (y : Reason) → number_of y ≡ first_of (call_refusals p words) → Answers (list_covers p words start old) (Err y) old
+  call_refused y e =
+      let l = listed_refused p words start old (rw (ne_eqb (first_of (call_refusals p words)) 0 (λ z. has_number y (e ∙ z))) tt) in
+      let n : number_of y ≡ (list_covers p words start old).number = e ∙ sym l.number in
+      record { answer = sym n; number = n; filled = sym l.filled; above = sym l.above; row = sym l.row }
 
-  module _ {r : ℕ} (f : TableRefusal p (length words) r) where
-    pub call_table : (r ≡ 0 → ⊥) → Answers (list_covers p words start old) (Refused r) old
+  pub call_table : (y : Reason) → TableRefusal p (length words) (number_of y) → Answers (list_covers p words start old) (Err y) old
+  unfolding call_refusals
+  call_table y f = call_refused y (f.first ∙ sym (first_before (table_refusals p (length words)) (refusals_of_words p words ++ last_refusal p words) (λ z. has_number y (f.first ∙ z))))
+
+  -- behind 6, 8 and 11
+  module _ (f : TableRefusal p (length words) 0) {q : Problem} (h : Holds q (problem_of p words)) {w : ℕ} (g : WordsRefusal q words w) where
+    behind_table : first_of (call_refusals p words) ≡ first_of (refusals_of_words p words ++ last_refusal p words)
     unfolding call_refusals
-    call_table d = call_refused (f.first ∙ sym (first_before (table_refusals p (length words)) (refusals_of_words p words ++ last_refusal p words) (λ z. d (f.first ∙ z)))) d
+    behind_table = first_behind (table_refusals p (length words)) (refusals_of_words p words ++ last_refusal p words) (omega arith, (omega arith, (omega arith, tt))) (sym f.first)
 
-    -- behind 6, 8 and 11
-    module _ (z : r ≡ 0) {q : Problem} (h : Holds q (problem_of p words)) {w : ℕ} (g : WordsRefusal q words w) where
-      behind_table : first_of (call_refusals p words) ≡ first_of (refusals_of_words p words ++ last_refusal p words)
-      unfolding call_refusals
-      behind_table = first_behind (table_refusals p (length words)) (refusals_of_words p words ++ last_refusal p words) (omega arith, (omega arith, (omega arith, tt))) (sym f.first ∙ z)
+    words_first : w ≡ first_of (refusals_of_words p words)
+    words_first = g (problem_of p words) h (f.admitted refl).good
 
-      words_first : w ≡ first_of (refusals_of_words p words)
-      words_first = g (problem_of p words) h (f.admitted z).good
+    pub call_words : (y : Reason) → number_of y ≡ w → Answers (list_covers p words start old) (Err y) old
+    call_words y e =
+        let first : number_of y ≡ first_of (refusals_of_words p words) = e ∙ words_first in
+        call_refused y (first ∙ sym (behind_table ∙ first_before (refusals_of_words p words) (last_refusal p words) (λ i. has_number y (first ∙ i))))
 
-      pub call_words : (w ≡ 0 → ⊥) → Answers (list_covers p words start old) (Refused w) old
-      call_words d = call_refused (words_first ∙ sym (behind_table ∙ first_before (refusals_of_words p words) (last_refusal p words) (λ i. d (words_first ∙ i)))) d
+    behind_words : w ≡ 0 → (c : Bool) → TellsCovered q c → first_of (call_refusals p words) ≡ first_of (refuse 12 (not c) ∷ [])
+    behind_words i c t = behind_table ∙ first_behind (refusals_of_words p words) (last_refusal p words) (words_numbered p words) (sym words_first ∙ i) ∙ rw (← t p words h)
 
-      behind_words : w ≡ 0 → (c : Bool) → TellsCovered q c → first_of (call_refusals p words) ≡ first_of (refuse 12 (not c) ∷ [])
-      behind_words i c t = behind_table ∙ first_behind (refusals_of_words p words) (last_refusal p words) (words_numbered p words) (sym words_first ∙ i) ∙ rw (← t p words h)
-
-      pub call_row : w ≡ 0 → (r : Listed) {new : List ℕ} → RowFilled q start old new r → Answers (list_covers p words start old) r new
-      unfolding list_covers
-      call_row i (FilledWith k b) {new} f =
-          let a = f.1 p words h in
-          rw (behind_words i true f.0) record { answer = rw (a.count, a.more); number = refl; filled = a.count; above = a.more; row = a.row }
-      call_row i (Refused n) {new} f = rw (f.2, f.1) (call_refused (sym (behind_words i false f.0)) (λ e. omega (arith, e)))
+    pub call_row : w ≡ 0 → (r : Result PageFill Reason) {new : List ℕ} → RowFilled q start old new r → Answers (list_covers p words start old) r new
+    unfolding list_covers
+    call_row i (Ok f) {new} o =
+        let a = o.1 p words h in
+        rw (behind_words i true o.0) record { answer = (refl, rw (a.count, a.more)); number = refl; filled = a.count; above = a.more; row = a.row }
+    call_row i (Err y) {new} o = rw (o.2, o.1) (call_refused UnheldCell (sym (behind_words i false o.0)))

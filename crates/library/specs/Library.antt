@@ -1,5 +1,5 @@
 -- What the contracts of the library call cite: what its answer stands for, and the steps on the way to it.
-use Rattle.std.specs.Prelude.{ℕ, ◌^◌, ◌≤◌, ◌<◌, ◌≡◌, Bool, true, false, not, cond, ◌&&◌, List, [], ◌∷◌, map, T, ltb, eqb, get_or, length, replicate}
+use Rattle.std.specs.Prelude.{ℕ, ◌^◌, ◌≤◌, ◌<◌, ◌≡◌, Bool, true, false, not, ◌&&◌, List, [], ◌∷◌, map, T, ltb, eqb, get_or, length, replicate, Result, Ok, Err}
 use Rattle.model.specs.Base.{below, some, join}
 use Rattle.model.specs.Table.{Table}
 use Rattle.model.specs.Sets.{coverable, irredundants}
@@ -8,6 +8,9 @@ use Rattle.model.specs.Candidates.{terms_alone, usual, candidate_cost, covering}
 use Rattle.model.specs.Commands as model
 use Rattle.model.specs.Commands.{table_of}
 use Rattle.model.specs.Refusals.{Refusal, refuse, first_of, size, bad_row}
+use Rattle.model.specs.declared.reason.Reason.{Reason}
+use Rattle.model.specs.declared.reason.Reason.TheVariants.{UnheldCell}
+use Rattle.model.specs.Reasons.{number_of, told}
 use Rattle.model.specs.Library as model_library
 use Rattle.model.specs.Library.{unpack, call_basis, bad_vertex, refusals_of_word}
 use Rattle.table.specs.Cubes.{Allowed}
@@ -15,34 +18,29 @@ use Rattle.lister.specs.Lister.{Paged}
 use Rattle.answers.specs.Writers.{InFront}
 use Rattle.problem.specs.declared.Problem.{Problem}
 use Rattle.problem.specs.Problems.{Holds}
-use Rattle.library.specs.declared.Listed.{Listed}
-use Rattle.library.specs.declared.Listed.TheVariants.{Filled, Refused}
+use Rattle.lister.specs.declared.cursor.PageFill.{PageFill}
 
 -- ---- the answer
 
--- the refusal's number, 0 where it is none
-abbrev pub number_of : Listed → ℕ
-number_of (Filled k b) = 0
-number_of (Refused r) = r
-
 -- how many sets were put into the row
-abbrev pub filled_of : Listed → ℕ
-filled_of (Filled k b) = k
-filled_of (Refused r) = 0
+abbrev pub filled_of : Result PageFill Reason → ℕ
+filled_of (Ok f) = f.count
+filled_of (Err r) = 0
 
 -- whether one stands above those
-abbrev pub above_of : Listed → Bool
-above_of (Filled k b) = b
-above_of (Refused r) = false
+abbrev pub above_of : Result PageFill Reason → Bool
+above_of (Ok f) = f.more
+above_of (Err r) = false
 
--- the answer that the definitions give
-abbrev pub answer_of : model_library.Listed → Listed
-answer_of l = cond (eqb l.number 0) (Filled l.filled l.above) (Refused l.number)
+-- the answer is the one that the definitions give: no two reasons have one number
+abbrev pub Gives : model_library.Listed → Result PageFill Reason → Type 0
+Gives l (Ok f) = (l.number ≡ 0) × (f ≡ record { count = l.filled; more = l.above })
+Gives l (Err r) = l.number ≡ number_of r
 
 -- the answer r is that one, it stands for what the definitions tell, and the row after the call is theirs
-pub record Answers (l : model_library.Listed) (r : Listed) (new : List ℕ) : Type 0 where
-  pub answer : r ≡ answer_of l
-  pub number : number_of r ≡ l.number
+pub record Answers (l : model_library.Listed) (r : Result PageFill Reason) (new : List ℕ) : Type 0 where
+  pub answer : Gives l r
+  pub number : told r ≡ l.number
   pub filled : filled_of r ≡ l.filled
   pub above : above_of r ≡ l.above
   pub row : new ≡ l.row
@@ -118,7 +116,7 @@ abbrev pub TellsCovered : Problem → Bool → Type 0
 TellsCovered p b = (t : Table) (words : List ℕ) → Holds p (problem_of t words) → b ≡ coverable (covering (call_basis t words))
 
 -- 12 and the row as it was, or the page of that call
-abbrev pub RowFilled : Problem → ℕ → List ℕ → List ℕ → Listed → Type 0
-RowFilled p start old new (Filled k b) =
-    TellsCovered p true × ((t : Table) (words : List ℕ) → Holds p (problem_of t words) → Paged (irredundants (covering (call_basis t words))) start old new (record { count = k; more = b }))
-RowFilled p start old new (Refused n) = TellsCovered p false × (n ≡ 12) × (new ≡ old)
+abbrev pub RowFilled : Problem → ℕ → List ℕ → List ℕ → Result PageFill Reason → Type 0
+RowFilled p start old new (Ok f) =
+    TellsCovered p true × ((t : Table) (words : List ℕ) → Holds p (problem_of t words) → Paged (irredundants (covering (call_basis t words))) start old new f)
+RowFilled p start old new (Err r) = TellsCovered p false × (r ≡ UnheldCell) × (new ≡ old)

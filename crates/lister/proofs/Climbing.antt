@@ -1,13 +1,8 @@
 -- The climb from a number: with each bit, the range above it that has been searched grows to the next multiple of the bit.
-use mathlib.Core.Path.{◌≡◌, sym, ap, ◌∙◌, subst}
-use mathlib.Core.List.{List}
-use Prim.Native.Nat.{ℕ, ◌+◌, ◌-◌, ◌*◌, ◌/◌, ◌%◌, ◌^◌, ◌≤◌, ◌<◌}
-use native.Mathlib.Nat.{div-one, div-eq_of_lt, mul_assoc, add-mul, mul-le-mul_right, add-mod_right, mul-mod_left, mod-lt}
-use native.Mathlib.Omega.{arith}
-use lib.Bits.{bit_and, and_mask}
-use lib.Pow.{pow_pos, pow_mono, pow-add, split, shr_lt, shr-shr}
-use Rattle.lister.specs.declared.cursor.FoundSet.{FoundSet}
-use Rattle.lister.specs.declared.cursor.FoundSet.TheVariants.{At, Nothing}
+use Rattle.std.proofs.Common.{Option, None, Some, ◌≡◌, sym, ap, ◌∙◌, subst, List, ℕ, ◌+◌, ◌-◌, ◌*◌, ◌/◌, ◌%◌, ◌^◌, ◌≤◌, ◌<◌, div-one, mul_assoc, add-mul, mul-le-mul_right, mod-lt, arith, bit_and, pow_pos, pow_mono, pow-add, shr_lt, shr-shr}
+use Rattle.std.proofs.lemmas.Nat.{and_mask}
+use Rattle.std.proofs.Math.Nat.{div-eq_of_lt, add-mod_right, mul-mod_left}
+use Rattle.std.proofs.Math.Pow.{split}
 use Rattle.bits.specs.Bits.{digit}
 use Rattle.rows.specs.Covers.{IrredundantCover, Node}
 use Rattle.lister_narrowing.specs.Narrowing.{NoneBetween}
@@ -49,22 +44,20 @@ module _ (at i : ℕ) where
 
 -- where the climb from at stands: nothing is found below the top
 pub record Climbed (rows : List ℕ) (n at i : ℕ) : Type 0 where
-  pub within : i ≤ n
   pub below : at < 2 ^ n
-  pub none : LeastIn rows at (top at i) Nothing
+  pub none : LeastIn rows at (top at i) None
 
-pub out_of_range : (rows : List ℕ) (n at all : ℕ) → all ≡ 2 ^ n - 1 → all < at → LeastIn rows at (2 ^ n) Nothing
+pub out_of_range : (rows : List ℕ) (n at all : ℕ) → all ≡ 2 ^ n - 1 → all < at → LeastIn rows at (2 ^ n) None
 unfolding LeastIn Among
 out_of_range rows n at all e lt y a = omega (arith, a.0, a.1)
 
-pub at_once : (rows : List ℕ) (n at all : ℕ) → all ≡ 2 ^ n - 1 → at ≤ all → IrredundantCover rows at → LeastIn rows at (2 ^ n) (At at)
+pub at_once : (rows : List ℕ) (n at all : ℕ) → all ≡ 2 ^ n - 1 → at ≤ all → IrredundantCover rows at → LeastIn rows at (2 ^ n) (Some at)
 unfolding LeastIn Among
 at_once rows n at all e le f = ((omega arith, omega (arith, pow_pos n), f), λ y a. a.0)
 
 pub climbed_none : (rows : List ℕ) (n at all : ℕ) → all ≡ 2 ^ n - 1 → at ≤ all → (IrredundantCover rows at → ⊥) → Climbed rows n at 0
 unfolding LeastIn Among top
 climbed_none rows n at all e le f = record {
-  within = omega arith;
   below = omega (arith, pow_pos n);
   none = λ y a.
       let q : y ≡ at = omega (arith, a.0, a.1, div-one at) in
@@ -73,7 +66,7 @@ climbed_none rows n at all e le f = record {
 
 module _ (rows : List ℕ) (n at i : ℕ) (c : Climbed rows n at i) (lt : i < n) (m : ℕ) (e : m ≡ 2 ^ i) where
   -- the range that the bit starts begins at the top
-  pub starts : (s : ℕ) → s ≡ at - bit_and at (m - 1) + m → s ≡ top at i
+  starts : (s : ℕ) → s ≡ at - bit_and at (m - 1) + m → s ≡ top at i
   unfolding top
   starts s f =
       let b : bit_and at (m - 1) ≡ at % 2 ^ i = ap (λ (k : ℕ). bit_and at (k - 1)) e ∙ and_mask at i in
@@ -81,9 +74,8 @@ module _ (rows : List ℕ) (n at i : ℕ) (c : Climbed rows n at i) (lt : i < n)
 
   pub climbed_one : (bit_and at m ≡ 0 → ⊥) → Climbed rows n at (i + 1)
   climbed_one d = record {
-    within = omega arith;
     below = c.below;
-    none = subst (λ (k : ℕ). LeastIn rows at k Nothing) (sym (top_one at i (has_bit i m e at d))) c.none;
+    none = subst (λ (k : ℕ). LeastIn rows at k None) (sym (top_one at i (has_bit i m e at d))) c.none;
   }
 
   module _ (z : bit_and at m ≡ 0) where
@@ -94,40 +86,39 @@ module _ (rows : List ℕ) (n at i : ℕ) (c : Climbed rows n at i) (lt : i < n)
     unfolding top
     from_at = omega (arith, split at i, mod-lt at (pow_pos i))
 
-    pub climb_node : (s : ℕ) → n ≤ 64 → s ≡ top at i → Node i s
+    pub climb_node : (s : ℕ) → n ≤ 64 → s ≡ at - bit_and at (m - 1) + m → Node i s
     unfolding top
     climb_node s l f = record {
       small = omega arith;
-      aligned = ap (λ (k : ℕ). k % 2 ^ i) f ∙ add-mod_right (at / 2 ^ i * 2 ^ i) (2 ^ i) ∙ mul-mod_left (at / 2 ^ i) (2 ^ i);
-      room = omega (arith, after, pow_mono l);
+      aligned = ap (λ (k : ℕ). k % 2 ^ i) (starts s f) ∙ add-mod_right (at / 2 ^ i * 2 ^ i) (2 ^ i) ∙ mul-mod_left (at / 2 ^ i) (2 ^ i);
+      room = omega (arith, starts s f, after, pow_mono l);
     }
 
     -- a range without possible
-    pub impossible_level : (possible s : ℕ) → PossibleLevels rows at possible → s ≡ top at i → bit_and possible m ≡ 0 → NoneBetween rows s (m - 1)
+    pub impossible_level : (possible s : ℕ) → PossibleLevels rows at possible → s ≡ at - bit_and at (m - 1) + m → bit_and possible m ≡ 0
+        → NoneBetween rows s (m - 1)
     unfolding PossibleLevels
     impossible_level possible s h f w =
         let r : NoneBetween rows (top at i) (2 ^ i - 1) = h i (lacks_bit i m e at z) (lacks_bit i m e possible w) in
-        subst (λ (k : ℕ). NoneBetween rows k (m - 1)) (sym f) (subst (λ (k : ℕ). NoneBetween rows (top at i) (k - 1)) (sym e) r)
+        subst (λ (k : ℕ). NoneBetween rows k (m - 1)) (sym (starts s f)) (subst (λ (k : ℕ). NoneBetween rows (top at i) (k - 1)) (sym e) r)
 
-    module _ (s : ℕ) (f : s ≡ top at i) (r : FoundSet) (h : LeastIn rows s (s + 2 ^ i) r) where
-      here : LeastIn rows at (top at i + 2 ^ i) r
-      here = in_second rows at (top at i) (top at i + 2 ^ i) r from_at c.none (subst (λ (k : ℕ). LeastIn rows k (k + 2 ^ i) r) f h)
+    module _ (s : ℕ) (f : s ≡ at - bit_and at (m - 1) + m) where
+      here : (r : Option ℕ) → LeastIn rows s (s + 2 ^ i) r → LeastIn rows at (top at i + 2 ^ i) r
+      here r h = in_second rows at (top at i) (top at i + 2 ^ i) r from_at c.none (subst (λ (k : ℕ). LeastIn rows k (k + 2 ^ i) r) (starts s f) h)
 
-      pub climbed_zero : r ≡ Nothing → Climbed rows n at (i + 1)
-      climbed_zero g = record {
-        within = omega arith;
+      pub climbed_zero : LeastIn rows s (s + 2 ^ i) None → Climbed rows n at (i + 1)
+      climbed_zero h = record {
         below = c.below;
-        none = subst (λ (k : ℕ). LeastIn rows at k Nothing) (sym (top_zero at i (lacks_bit i m e at z))) (subst (LeastIn rows at (top at i + 2 ^ i)) g here);
+        none = subst (λ (k : ℕ). LeastIn rows at k None) (sym (top_zero at i (lacks_bit i m e at z))) (here None h);
       }
 
-      pub climbed_found : (x : ℕ) → r ≡ At x → LeastIn rows at (2 ^ n) (At x)
-      climbed_found x g = in_first rows at (top at i + 2 ^ i) (2 ^ n) r x g after here
+      pub climbed_found : (x : ℕ) → LeastIn rows s (s + 2 ^ i) (Some x) → LeastIn rows at (2 ^ n) (Some x)
+      climbed_found x h = in_first rows at (top at i + 2 ^ i) (2 ^ n) x after (here (Some x) h)
 
-pub climbed_all : (rows : List ℕ) (n at i : ℕ) → Climbed rows n at i → n ≤ i → LeastIn rows at (2 ^ n) Nothing
+pub climbed_all : (rows : List ℕ) (n at i : ℕ) → Climbed rows n at i → i ≡ n → LeastIn rows at (2 ^ n) None
 unfolding top
-climbed_all rows n at i c le =
-    let e : i ≡ n = omega (arith, c.within) in
+climbed_all rows n at i c e =
     let z : at / 2 ^ n ≡ 0 = div-eq_of_lt c.below in
-    let h : LeastIn rows at (at / 2 ^ n * 2 ^ n + 2 ^ n) Nothing = subst (λ (k : ℕ). LeastIn rows at (at / 2 ^ k * 2 ^ k + 2 ^ k) Nothing) e c.none in
+    let h : LeastIn rows at (at / 2 ^ n * 2 ^ n + 2 ^ n) None = subst (λ (k : ℕ). LeastIn rows at (at / 2 ^ k * 2 ^ k + 2 ^ k) None) e c.none in
     let f : at / 2 ^ n * 2 ^ n + 2 ^ n ≡ 2 ^ n = omega (arith, ap (λ (k : ℕ). k * 2 ^ n) z) in
-    subst (λ (k : ℕ). LeastIn rows at k Nothing) f h
+    subst (λ (k : ℕ). LeastIn rows at k None) f h

@@ -1,24 +1,14 @@
 -- The levels above a number: where some member would have no row of its own, no irredundant cover is.
-use mathlib.Core.Path.{◌≡◌, refl, sym, ap, ◌∙◌, subst}
-use mathlib.Core.Bool.{true}
-use mathlib.Core.Logic.{⊎_elim}
-use mathlib.Core.List.{List}
-use Prim.Native.Nat.{ℕ, ◌+◌, ◌-◌, ◌*◌, ◌/◌, ◌%◌, ◌^◌, ◌≤◌, ◌<◌}
-use native.Mathlib.Nat.{add-mul}
-use native.Mathlib.Decide.{dec_lt}
-use native.Mathlib.Omega.{arith}
-use lib.ListN.{length, get_or, set, length-set}
-use lib.Seq.{get_or-set_same, get_or-set_other}
-use lib.Bits.{bit_and, bit_or}
-use lib.Pow.{pow_pos, high, shr-shr}
+use Rattle.std.proofs.Common.{◌≡◌, refl, sym, ap, ◌∙◌, subst, ⊎_elim, List, ℕ, ◌+◌, ◌-◌, ◌*◌, ◌/◌, ◌%◌, ◌^◌, ◌≤◌, ◌<◌, length, get_or, set, get_or-set_same, get_or-set_other, bit_and, bit_or, arith, below_more, add-mul, length-set, pow_pos, shr-shr}
+use Rattle.std.proofs.Math.Decide.{dec_lt}
+use Rattle.std.proofs.Math.Pow.{high}
 use Rattle.bits.specs.Bits.{digit, Part, Minus, Member, Highest}
 use Rattle.rows.specs.Covers.{Own, Between}
-use Rattle.lister_narrowing.specs.Narrowing.{IrredundantBetween, NoneBetween, Tightened}
+use Rattle.lister_narrowing.specs.Narrowing.{IrredundantBetween, NoneBetween}
 use Rattle.lister.specs.Levels.{top, OwnAt, NewAt, OwnLevels, KeptLevels, PossibleLevels}
 use Rattle.bits.proofs.Digits.{eq?, digit_lt, pow_here, pow_only}
 use Rattle.bits.proofs.Members.{and_left, and_right, and_both, or_left, or_right, not_zero}
 use Rattle.bits.proofs.Parts.{members, the_member}
-use borrow.Author.Count.{below_more}
 use Rattle.bits.proofs.Tops.{digit_in, mask_below, mask_above, highest_is}
 use Rattle.rows.proofs.Sets.{own_has, own_only}
 use Rattle.lister_narrowing.proofs.Tightening.{between_own}
@@ -50,8 +40,8 @@ module _ (at i : ℕ) (z : digit i at ≡ 0) where
 
 -- ---- the levels of one row
 
-pub highest_pos : (own m : ℕ) → Highest own m → 0 < m
-highest_pos own m h = let w = the_member own m h.member in omega (arith, w.1, pow_pos w.0)
+pub member_pos : (own m : ℕ) → Member own m → 0 < m
+member_pos own m h = let w = the_member own m h in omega (arith, w.1, pow_pos w.0)
 
 module _ (row own m : ℕ) (h : Highest own m) where
   -- the member whose own the row can be is the highest
@@ -131,9 +121,6 @@ pub record LevelsPassed (rows : List ℕ) (at n : ℕ) (alone : List ℕ) (fresh
   pub size : length alone ≡ 64
   pub owns : (k : ℕ) → k < n → Owns at alone (get_or rows k 0)
   pub news : (k : ℕ) → k < n → News at fresh (get_or rows k 0)
-
-pub levels_none : (rows : List ℕ) (at : ℕ) (alone : List ℕ) → length alone ≡ 64 → LevelsPassed rows at 0 alone 0
-levels_none rows at alone l = record { size = l; owns = λ k lt. absurd (omega arith); news = λ k lt. absurd (omega arith) }
 
 module _ (rows : List ℕ) (at n : ℕ) (alone : List ℕ) (fresh : ℕ) (h : LevelsPassed rows at n alone fresh) where
   abbrev row : ℕ
@@ -250,9 +237,3 @@ levels_all rows at n alone fresh r h ge le k i z out t w =
     let g : LevelsPassed rows at (length rows) alone fresh = subst (λ (j : ℕ). LevelsPassed rows at j alone fresh) e h in
     let found : digit i r ≡ 1 = k i (level_found rows at i t z w alone fresh g) (members_found rows at i t z w alone fresh g) in
     omega arith
-
--- ---- a level without possible
-
-pub tightened_none : (rows : List ℕ) (s free : ℕ) → NoneBetween rows s free → Tightened rows s free (record { dead = true; s = s; free = free })
-unfolding NoneBetween
-tightened_none rows s free f = record { less = omega arith; keeps = λ t w. absurd (f t w) }

@@ -1,25 +1,16 @@
 -- The irredundant covers of rows as crate model's list, the cursor on that list, and the row as it is filled.
-use mathlib.Core.Path.{◌≡◌, refl, sym, ap, ◌∙◌, subst}
-use mathlib.Core.Logic.{◌↔◌}
-use mathlib.Core.Bool.{Bool, true, false, not, cond}
-use mathlib.Core.List.{List, [], ◌∷◌, ◌++◌, append_assoc, append-nil, Memᴰ}
-use Prim.Native.Nat.{ℕ, suc, ◌+◌, ◌^◌, ◌≤◌, ◌<◌}
-use native.Mathlib.Decide.{dec_lt}
-use native.Mathlib.Omega.{arith}
-use native.Mathlib.Numerals.{add-one}
-use lib.Dec.{leb, ltb, leb→le}
-use lib.ListN.{length, take, drop, set, replicate, length-replicate, length-set, length-append, take-append-drop}
-use lib.Pow.{pow_mono}
-use lib.Seq.{length-take-le, take_all, take-suc-set, drop-set-lt, drop-drop, take_at, drop-length}
-use borrow.Author.Tests.{lt-ltb, le-ltb, le-leb, lt-leb}
+use Rattle.std.proofs.Common.{None, Some, ◌≡◌, refl, sym, ap, ◌∙◌, subst, ◌↔◌, Bool, true, false, not, cond, List, [], ◌∷◌, ◌++◌, append_assoc, append-nil, ℕ, suc, ◌+◌, ◌^◌, ◌≤◌, ◌<◌, arith, add-one, leb, ltb, leb→le, length, take, drop, set, replicate, length-append, take-append-drop, pow_mono, length-take-le, take_all, take-suc-set, drop-set-lt, drop-drop, take_at, lt-ltb, le-ltb, le-leb}
+use Rattle.std.proofs.lemmas.List.{length-replicate}
+use mathlib.Core.List.{Memᴰ}
+use Rattle.std.proofs.Math.Decide.{dec_lt}
+use Rattle.std.proofs.Math.Seq.{drop-length}
+use Rattle.std.proofs.lemmas.Bool.{lt-leb}
 use Rattle.model.specs.Base.{filter}
 use Rattle.model.specs.Pages.{Rising, at_or_above, page, more}
 use Rattle.model.specs.Sets.{of_rows}
 use Rattle.model.proofs.Lists.{filter_e}
 use Rattle.model.proofs.Pages.{rising, rising_ge, keep, at_or_above_cons, at_or_above_nil}
 use Rattle.model.proofs.Sets.{listed}
-use Rattle.lister.specs.declared.cursor.FoundSet.{FoundSet}
-use Rattle.lister.specs.declared.cursor.FoundSet.TheVariants.{At, Nothing}
 use Rattle.lister.specs.declared.cursor.Cursor.{Cursor}
 use Rattle.rows.specs.Covers.{IrredundantCover, row_covers}
 use Rattle.lister.specs.Lister.{Among, LeastIn, coming_to, at_first, coming, sought, advanced, Paged}
@@ -47,13 +38,13 @@ module _ (n : ℕ) (rows : List ℕ) where
   row_covers_small l s m = omega (arith, ((row_covers_lem s).0 m).0, pow_mono l)
 
   -- the least set of the search is the first of the list
-  found_first : (at x : ℕ) → LeastIn rows at (2 ^ n) (At x) → at_or_above (row_covers n rows) at ≡ x ∷ at_or_above (row_covers n rows) (suc x)
+  found_first : (at x : ℕ) → LeastIn rows at (2 ^ n) (Some x) → at_or_above (row_covers n rows) at ≡ x ∷ at_or_above (row_covers n rows) (suc x)
   unfolding LeastIn Among at_or_above
   found_first at x l =
       at_or_above_cons 0 at x (row_covers n rows) row_covers_rising ((row_covers_lem x).1 (l.0.1, l.0.2)) l.0.0
       (λ r m h. l.1 r (h, ((row_covers_lem r).0 m).0, ((row_covers_lem r).0 m).1))
 
-  found_none : (at : ℕ) → LeastIn rows at (2 ^ n) Nothing → at_or_above (row_covers n rows) at ≡ []
+  found_none : (at : ℕ) → LeastIn rows at (2 ^ n) None → at_or_above (row_covers n rows) at ≡ []
   unfolding LeastIn Among at_or_above
   found_none at l =
       at_or_above_nil at (row_covers n rows)
@@ -70,13 +61,13 @@ sought_over all c e = go c.at c.over e
     go at false e = absurd (true_is_not_false (sym e))
 
 module _ (n : ℕ) (rows : List ℕ) (c : Cursor) (f : c.over ≡ false) where
-  pub sought_found : (r : FoundSet) (x : ℕ) → r ≡ At x → LeastIn rows c.at (2 ^ n) r → record { at = x; over = false } ≡ sought (row_covers n rows) c
+  pub sought_found : (x : ℕ) → LeastIn rows c.at (2 ^ n) (Some x) → record { at = x; over = false } ≡ sought (row_covers n rows) c
   unfolding sought coming
-  sought_found r x e l = rw (f, found_first n rows c.at x (subst (LeastIn rows c.at (2 ^ n)) e l))
+  sought_found x l = rw (f, found_first n rows c.at x l)
 
-  pub sought_none : (r : FoundSet) → r ≡ Nothing → LeastIn rows c.at (2 ^ n) r → record { at = c.at; over = true } ≡ sought (row_covers n rows) c
+  pub sought_none : LeastIn rows c.at (2 ^ n) None → record { at = c.at; over = true } ≡ sought (row_covers n rows) c
   unfolding sought coming
-  sought_none r e l = rw (f, found_none n rows c.at (subst (LeastIn rows c.at (2 ^ n)) e l))
+  sought_none l = rw (f, found_none n rows c.at l)
 
 -- what stands at or above the first that stands at or above a, and above it
 first_of : (b a : ℕ) (all : List ℕ) (x : ℕ) (xs : List ℕ) → Rising b all → filter (leb a) all ≡ x ∷ xs
@@ -96,7 +87,7 @@ first_of b a (y ∷ ys) x xs u e = go (leb a y) refl e (first_of (suc y) a ys x 
         let ku : filter (leb (suc x)) ys ≡ ys = keep (suc y) (suc x) ys u.1 (omega arith) in
         (rw (le-leb x y (omega arith), kx, same, rest), rw (lt-leb (suc x) y (omega arith), ku) rest)
     go false q f r =
-        let m : Memᴰ x ys = (filter_e (leb a) ys (subst (λ (l : List ℕ). Memᴰ x l) (sym f) (mathlib.Core.List.Memᴰ.head refl))).0 in
+        let m : Memᴰ x ys = (filter_e (leb a) ys (subst (λ (l : List ℕ). Memᴰ x l) (sym f) (Memᴰ.head refl))).0 in
         let lt : y < x = rising_ge (suc y) ys u.1 m in
         (rw (lt-leb x y lt) (r f).0, rw (lt-leb (suc x) y (omega arith)) (r f).1)
 
@@ -106,8 +97,6 @@ Standing all c = c.over ≡ false → coming all c ≡ c.at ∷ at_or_above all 
 
 -- the first i of out are those from start on that the cursor is past, and the rest is as it was
 pub record Filling (all : List ℕ) (start : ℕ) (old out : List ℕ) (c : Cursor) (i : ℕ) : Type 0 where
-  pub within : i ≤ length out
-  pub same : length out ≡ length old
   pub got : at_or_above all start ≡ take i out ++ coming all c
   pub rest : drop i out ≡ drop i old
   pub stands : Standing all c
@@ -150,8 +139,6 @@ module _ (all : List ℕ) (up : Rising 0 all) where
       pub filling_none : (c d : Cursor) → d ≡ record { at = start; over = false } → c ≡ sought all d → Filling all start old old c 0
       unfolding coming
       filling_none c d e f = record {
-        within = omega arith;
-        same = refl;
         got = sym (ap (coming all) f ∙ sought_keeps d ∙ ap (coming all) e);
         rest = refl;
         stands = subst (Standing all) (sym f) (sought_stands d);
@@ -165,20 +152,18 @@ module _ (all : List ℕ) (up : Rising 0 all) where
             let went : coming all e ≡ at_or_above all (suc c.at) = ap (coming all) q ∙ sought_keeps d ∙ ap (coming all) p ∙ advanced_comes c o in
             let put : take (i + 1) (set out i c.at) ≡ take i out ++ (c.at ∷ []) = rw add-one (take-suc-set out i c.at lt) in
             record {
-              within = simp length-set (omega arith);
-              same = simp length-set h.same;
               got = h.got ∙ ap (λ (l : List ℕ). take i out ++ l) (h.stands o) ∙ rw (put, went, append_assoc);
               rest = drop-set-lt (i + 1) out i c.at (omega arith) ∙ sym (drop-drop 1 i out) ∙ ap (drop 1) h.rest ∙ drop-drop 1 i old;
               stands = subst (Standing all) (sym q) (sought_stands d);
             }
 
         -- nothing is left
-        pub filled_over : c.over ≡ true → Paged all start old out (record { count = i; more = false })
+        pub filled_over : i ≤ length out → length out ≡ length old → c.over ≡ true → Paged all start old out (record { count = i; more = false })
         unfolding coming page more
-        filled_over o =
+        filled_over within same o =
             let all_got : at_or_above all start ≡ take i out = h.got ∙ rw (o, append-nil) in
-            let many : length (take i out) ≡ i = length-take-le i out h.within in
-            let le : i ≤ length old = omega (arith, h.within, h.same) in
+            let many : length (take i out) ≡ i = length-take-le i out within in
+            let le : i ≤ length old = omega arith in
             let fits : take (length old) (take i out) ≡ take i out = take_all (length old) (take i out) (omega arith) in
             record {
               count = rw (all_got, fits, many);
@@ -187,17 +172,16 @@ module _ (all : List ℕ) (up : Rising 0 all) where
             }
 
         -- the row is full
-        pub filled_full : length out ≤ i → Paged all start old out (record { count = i; more = not c.over })
+        pub filled_full : length out ≤ i → length out ≡ length old → Paged all start old out (record { count = length out; more = not c.over })
         unfolding coming page more Standing
-        filled_full full =
-            let e : i ≡ length old = omega (arith, h.within, h.same) in
+        filled_full full same =
             let whole : take i out ≡ out = take_all i out full in
             let all_got : at_or_above all start ≡ out ++ coming_to all c.at c.over = h.got ∙ rw whole in
-            let fits : take (length old) (out ++ coming_to all c.at c.over) ≡ out = take_at out (coming_to all c.at c.over) (length old) h.same in
+            let fits : take (length old) (out ++ coming_to all c.at c.over) ≡ out = take_at out (coming_to all c.at c.over) (length old) same in
             record {
-              count = rw (all_got, fits) (omega (arith, h.same));
-              more = rw (all_got, length-append, h.same) (left c.over refl);
-              row = rw (all_got, fits, h.same, drop-length old, append-nil);
+              count = rw (all_got, fits);
+              more = rw (all_got, length-append, same) (left c.over refl);
+              row = rw (all_got, fits, same, drop-length old, append-nil);
             }
           where
             left : (b : Bool) → c.over ≡ b → not b ≡ ltb (length old) (length old + length (coming_to all c.at b))

@@ -1,26 +1,21 @@
 -- The search tree: ranges of numbers, and what a node answers, from its two halves.
-use mathlib.Core.Path.{◌≡◌, refl, sym, ap, ◌∙◌, subst}
-use mathlib.Core.Bool.{true}
-use mathlib.Core.Logic.{⊎_elim}
-use mathlib.Core.List.{List}
-use Prim.Native.Nat.{ℕ, ◌+◌, ◌-◌, ◌*◌, ◌/◌, ◌%◌, ◌^◌, ◌≤◌, ◌<◌}
-use native.Mathlib.Nat.{mul_assoc, add-mul}
-use native.Mathlib.Decide.{dec_lt}
-use native.Mathlib.Omega.{arith}
-use lib.Bits.{bit_and, bit_or}
-use lib.Pow.{split}
-use Rattle.lister.specs.declared.cursor.FoundSet.{FoundSet}
-use Rattle.lister.specs.declared.cursor.FoundSet.TheVariants.{At, Nothing}
+use Rattle.std.proofs.Common.{◌≡◌, refl, sym, ap, ◌∙◌, subst, ⊎_elim, Bool, true, false, Option, None, Some, List, ℕ, ◌+◌, ◌-◌, ◌*◌, ◌/◌, ◌%◌, ◌^◌, ◌≤◌, ◌<◌, arith, mul_assoc, add-mul, bit_and, bit_or}
+use Rattle.std.specs.Bool.{then_some}
+use Rattle.std.proofs.Math.Decide.{dec_lt}
+use Rattle.std.proofs.Math.Pow.{split}
 use Rattle.lister_narrowing.specs.declared.Tight.{Tight}
-use Rattle.bits.specs.Bits.{digit, Minus}
+use Rattle.bits.specs.Bits.{digit, Minus, Decides}
 use Rattle.rows.specs.Covers.{IrredundantCover, Between, Node}
 use Rattle.lister.specs.Lister.{Among, LeastIn, RangeKept}
-use Rattle.lister_narrowing.specs.Narrowing.{IrredundantBetween, Tightened}
+use Rattle.lister_narrowing.specs.Narrowing.{IrredundantBetween, NoneBetween, Narrowed}
 use Rattle.bits.proofs.Digits.{eq?, digit_lt, digit_or}
-use Rattle.bits.proofs.Decide.{true_is_not_false}
+use Rattle.bits.proofs.Decide.{decides_true, decides_false}
 use Rattle.bits.proofs.Members.{has_bit, bit_here, lacks_bit, bit_elsewhere, above, within}
 use Rattle.bits.proofs.Tops.{digit_in}
 use Rattle.rows.proofs.Nodes.{halves}
+
+pub found_none : (rows : List ℕ) (lo hi : ℕ) (r : Option ℕ) → r ≡ None → LeastIn rows lo hi r → LeastIn rows lo hi None
+found_none rows lo hi r e l = subst (LeastIn rows lo hi) e l
 
 pub not_zero_pos : {n : ℕ} → (n ≡ 0 → ⊥) → 0 < n
 not_zero_pos h = omega arith
@@ -49,59 +44,66 @@ module _ (i s : ℕ) (n : Node i s) (p : 0 < i) where
 
 module _ (rows : List ℕ) (lo mid hi : ℕ) where
   -- what is found in the first range
-  pub in_first : (r : FoundSet) (x : ℕ) → r ≡ At x → mid ≤ hi → LeastIn rows lo mid r → LeastIn rows lo hi (At x)
+  pub in_first : (x : ℕ) → mid ≤ hi → LeastIn rows lo mid (Some x) → LeastIn rows lo hi (Some x)
   unfolding LeastIn Among
-  in_first r x e p l₀ =
-      let l : LeastIn rows lo mid (At x) = subst (LeastIn rows lo mid) e l₀ in (
-        (l.0.0, omega (arith, l.0.1), l.0.2),
-        λ y a. elim (dec_lt y mid) [ yes lt ↦ l.1 y (a.0, lt, a.2) | no ge ↦ omega (arith, l.0.1) ],
-      )
+  in_first x p l = (
+    (l.0.0, omega (arith, l.0.1), l.0.2),
+    λ y a. elim (dec_lt y mid) [ yes lt ↦ l.1 y (a.0, lt, a.2) | no ge ↦ omega (arith, l.0.1) ],
+  )
 
   -- what is found in the second, where the first has none
-  pub in_second : (r : FoundSet) → lo ≤ mid → LeastIn rows lo mid Nothing → LeastIn rows mid hi r → LeastIn rows lo hi r
+  pub in_second : (r : Option ℕ) → lo ≤ mid → LeastIn rows lo mid None → LeastIn rows mid hi r → LeastIn rows lo hi r
   unfolding LeastIn Among
-  in_second (At x) p l u = (
+  in_second (Some x) p l u = (
     (omega (arith, u.0.0), u.0.1, u.0.2),
     λ y a. elim (dec_lt y mid) [ yes lt ↦ absurd (l y (a.0, lt, a.2)) | no ge ↦ u.1 y (omega arith, a.1, a.2) ],
   )
-  in_second Nothing p l u =
+  in_second None p l u =
       λ y a. elim (dec_lt y mid) [ yes lt ↦ l y (a.0, lt, a.2) | no ge ↦ u y (omega arith, a.1, a.2) ]
 
   -- what is found in the first, where the second has none
-  pub only_first : (r : FoundSet) → mid ≤ hi → LeastIn rows mid hi Nothing → LeastIn rows lo mid r → LeastIn rows lo hi r
+  pub only_first : (r : Option ℕ) → mid ≤ hi → LeastIn rows mid hi None → LeastIn rows lo mid r → LeastIn rows lo hi r
   unfolding LeastIn Among
-  only_first (At x) p u l = in_first (At x) x refl p l
-  only_first Nothing p u l =
+  only_first (Some x) p u l = in_first x p l
+  only_first None p u l =
       λ y a. elim (dec_lt y mid) [ yes lt ↦ l y (a.0, lt, a.2) | no ge ↦ u y (omega arith, a.1, a.2) ]
 
 -- ---- a node
 
 module _ (rows : List ℕ) (i s : ℕ) where
-  pub leaf : i ≡ 0 → IrredundantCover rows s → LeastIn rows s (s + 2 ^ i) (At s)
+  leaf : i ≡ 0 → IrredundantCover rows s → LeastIn rows s (s + 2 ^ i) (Some s)
   unfolding LeastIn Among
   leaf z f = let p : 2 ^ i ≡ 1 = ap (λ (k : ℕ). 2 ^ k) z in ((omega arith, omega arith, f), λ y a. a.0)
 
-  pub no_leaf : i ≡ 0 → (IrredundantCover rows s → ⊥) → LeastIn rows s (s + 2 ^ i) Nothing
+  no_leaf : i ≡ 0 → (IrredundantCover rows s → ⊥) → LeastIn rows s (s + 2 ^ i) None
   unfolding LeastIn Among
   no_leaf z f y a =
       let p : 2 ^ i ≡ 1 = ap (λ (k : ℕ). 2 ^ k) z in
       let e : y ≡ s = omega (arith, a.0, a.1) in
       f (subst (IrredundantCover rows) e a.2)
 
-  -- narrowed from the bits of s and all the free ones
-  pub range_node : (free : ℕ) (t : Tight) → free ≡ 2 ^ i - 1 → Node i s → Tightened rows s free t → RangeKept rows i s t
-  unfolding RangeKept Among IrredundantBetween Between
-  range_node free t e n h y a =
-      let w : (b : ℕ) → digit b y ≡ 1 → digit b (bit_or s free) ≡ 1
-      = subst (λ (f : ℕ). (b : ℕ) → digit b y ≡ 1 → digit b (bit_or s f) ≡ 1) (sym e) (within i s y n.aligned a.0 a.1) in
-      let k = h.keeps y (a.2, (above i s y n.aligned a.0 a.1, w)) in
-      (k.0, k.1.1)
+  pub at_leaf : i ≡ 0 → (b : Bool) → Decides (IrredundantCover rows s) b → LeastIn rows s (s + 2 ^ i) (then_some b s)
+  at_leaf z true d = leaf z (decides_true (IrredundantCover rows s) true d refl)
+  at_leaf z false d = no_leaf z (decides_false (IrredundantCover rows s) false d refl)
+
+  -- the bits of s and all the free ones
+  module _ (free : ℕ) (e : free ≡ 2 ^ i - 1) (n : Node i s) where
+    between_node : (y : ℕ) → Among rows s (s + 2 ^ i) y → IrredundantBetween rows s free y
+    unfolding Among IrredundantBetween Between
+    between_node y a =
+        let w : (b : ℕ) → digit b y ≡ 1 → digit b (bit_or s free) ≡ 1
+        = subst (λ (f : ℕ). (b : ℕ) → digit b y ≡ 1 → digit b (bit_or s f) ≡ 1) (sym e) (within i s y n.aligned a.0 a.1) in
+        (a.2, (above i s y n.aligned a.0 a.1, w))
+
+    pub range_node : (t : Tight) → Narrowed rows s free t → RangeKept rows i s t
+    unfolding RangeKept IrredundantBetween
+    range_node t h y a = (h.keeps y (between_node y a)).1
+
+    pub no_node : NoneBetween rows s free → LeastIn rows s (s + 2 ^ i) None
+    unfolding LeastIn NoneBetween
+    no_node f y a = f y (between_node y a)
 
   module _ (t : Tight) (h : RangeKept rows i s t) where
-    pub gone : t.dead ≡ true → LeastIn rows s (s + 2 ^ i) Nothing
-    unfolding LeastIn RangeKept
-    gone e y a = true_is_not_false (sym e ∙ (h y a).0)
-
     module _ (m : ℕ) (e : m ≡ 2 ^ (i - 1)) (n : Node i s) (p : 0 < i) where
       low : (y : ℕ) → Among rows s (s + 2 ^ (i - 1)) y → Among rows s (s + 2 ^ i) y
       unfolding Among
@@ -123,34 +125,33 @@ module _ (rows : List ℕ) (i s : ℕ) where
       high_range y a = h y (up y a)
 
       -- t has the candidate: the low half has nothing
-      pub with_bit : (r : FoundSet) → (bit_and t.s m ≡ 0 → ⊥) → LeastIn rows (s + m) (s + m + 2 ^ (i - 1)) r → LeastIn rows s (s + 2 ^ i) r
+      pub with_bit : (r : Option ℕ) → (bit_and t.s m ≡ 0 → ⊥) → LeastIn rows (s + m) (s + m + 2 ^ (i - 1)) r → LeastIn rows s (s + 2 ^ i) r
       unfolding LeastIn Among RangeKept Between
       with_bit r d u =
           in_second rows s (s + m) (s + 2 ^ i) r (omega arith)
           (λ y a.
           let in_low : Among rows s (s + 2 ^ (i - 1)) y = (a.0, omega (arith, a.1), a.2) in
-          absurd (omega (arith, (h y (low y in_low)).1.0 (i - 1) (has_bit (i - 1) m e t.s d), low_digit i s n p y a.0 (omega (arith, a.1)))))
+          absurd (omega (arith, (h y (low y in_low)).0 (i - 1) (has_bit (i - 1) m e t.s d), low_digit i s n p y a.0 (omega (arith, a.1)))))
           (subst (λ (x : ℕ). LeastIn rows (s + m) x r) whole u)
 
       -- t lacks it: the high half has nothing
-      pub without_bit : (r : FoundSet) → bit_and t.s m ≡ 0 → bit_and t.free m ≡ 0 → LeastIn rows s (s + 2 ^ (i - 1)) r → LeastIn rows s (s + 2 ^ i) r
+      pub without_bit : (r : Option ℕ) → bit_and t.s m ≡ 0 → bit_and t.free m ≡ 0 → LeastIn rows s (s + 2 ^ (i - 1)) r → LeastIn rows s (s + 2 ^ i) r
       unfolding LeastIn Among RangeKept Between
       without_bit r z w l =
           only_first rows s (s + 2 ^ (i - 1)) (s + 2 ^ i) r (omega (arith, halves i p))
           (λ y a.
           let one : digit (i - 1) y ≡ 1 = high_digit i s n p y a.0 a.1 in
-          let either : digit (i - 1) (bit_or t.s t.free) ≡ 1 = (h y (omega (arith, a.0), a.1, a.2)).1.1 (i - 1) one in
+          let either : digit (i - 1) (bit_or t.s t.free) ≡ 1 = (h y (omega (arith, a.0), a.1, a.2)).1 (i - 1) one in
           absurd (omega (arith, digit_or (i - 1) t.s t.free, lacks_bit (i - 1) m e t.s z, lacks_bit (i - 1) m e t.free w)))
           l
 
-      module _ (rest : ℕ) (d : Minus t.free m rest) (r : Tight) where
+      module _ (rest : ℕ) (d : Minus t.free m rest) where
         -- t is open: without the candidate
-        pub low_open : Tightened rows t.s rest r → RangeKept rows (i - 1) s r
+        low_between : (y : ℕ) → Among rows s (s + 2 ^ (i - 1)) y → IrredundantBetween rows t.s rest y
         unfolding RangeKept Among IrredundantBetween Between Minus
-        low_open g y a =
-            let w : Between t.s t.free y = (h y (low y a)).1 in
-            let zero : digit (i - 1) y ≡ 0 = low_digit i s n p y a.0 a.1 in
-            let k = g.keeps y (
+        low_between y a =
+            let w : Between t.s t.free y = h y (low y a) in
+            let zero : digit (i - 1) y ≡ 0 = low_digit i s n p y a.0 a.1 in (
               a.2,
               (
                 w.0,
@@ -159,16 +160,22 @@ module _ (rows : List ℕ) (i s : ℕ) where
                     (λ (f : b ≡ i - 1 → ⊥). omega (arith, w.1 b q, d b, bit_elsewhere (i - 1) m e b f, digit_or b t.s t.free, digit_or b t.s rest))
                     (eq? b (i - 1)),
               ),
-            ) in
-            (k.0, k.1.1)
+            )
+
+        pub low_open : (r : Tight) → Narrowed rows t.s rest r → RangeKept rows (i - 1) s r
+        unfolding RangeKept IrredundantBetween
+        low_open r g y a = (g.keeps y (low_between y a)).1
+
+        pub low_none : NoneBetween rows t.s rest → LeastIn rows s (s + 2 ^ (i - 1)) None
+        unfolding LeastIn NoneBetween
+        low_none f y a = f y (low_between y a)
 
         -- and with it
-        pub high_open : Tightened rows (bit_or t.s m) rest r → RangeKept rows (i - 1) (s + m) r
+        high_between : (y : ℕ) → Among rows (s + m) (s + m + 2 ^ (i - 1)) y → IrredundantBetween rows (bit_or t.s m) rest y
         unfolding RangeKept Among IrredundantBetween Between Minus
-        high_open g y a =
-            let w : Between t.s t.free y = (h y (up y a)).1 in
-            let one : digit (i - 1) y ≡ 1 = high_digit i s n p y (omega (arith, a.0)) (omega (arith, a.1, whole)) in
-            let k = g.keeps y (
+        high_between y a =
+            let w : Between t.s t.free y = h y (up y a) in
+            let one : digit (i - 1) y ≡ 1 = high_digit i s n p y (omega (arith, a.0)) (omega (arith, a.1, whole)) in (
               a.2,
               (
                 λ b q. ⊎_elim
@@ -182,14 +189,21 @@ module _ (rows : List ℕ) (i s : ℕ) where
                     (λ (f : b ≡ i - 1 → ⊥). omega (arith, w.1 b q, d b, bit_elsewhere (i - 1) m e b f, digit_or b t.s t.free, digit_or b t.s m, digit_or b (bit_or t.s m) rest))
                     (eq? b (i - 1)),
               ),
-            ) in
-            (k.0, k.1.1)
+            )
 
-      pub from_low : (r : FoundSet) (x : ℕ) → r ≡ At x → LeastIn rows s (s + 2 ^ (i - 1)) r → LeastIn rows s (s + 2 ^ i) (At x)
-      from_low r x f l = in_first rows s (s + 2 ^ (i - 1)) (s + 2 ^ i) r x f (omega (arith, halves i p)) l
+        pub high_open : (r : Tight) → Narrowed rows (bit_or t.s m) rest r → RangeKept rows (i - 1) (s + m) r
+        unfolding RangeKept IrredundantBetween
+        high_open r g y a = (g.keeps y (high_between y a)).1
 
-      pub from_both : (l r : FoundSet) → l ≡ Nothing → LeastIn rows s (s + 2 ^ (i - 1)) l → LeastIn rows (s + m) (s + m + 2 ^ (i - 1)) r → LeastIn rows s (s + 2 ^ i) r
-      from_both l r z f g =
+        pub high_none : NoneBetween rows (bit_or t.s m) rest → LeastIn rows (s + m) (s + m + 2 ^ (i - 1)) None
+        unfolding LeastIn NoneBetween
+        high_none f y a = f y (high_between y a)
+
+      pub from_low : (x : ℕ) → LeastIn rows s (s + 2 ^ (i - 1)) (Some x) → LeastIn rows s (s + 2 ^ i) (Some x)
+      from_low x l = in_first rows s (s + 2 ^ (i - 1)) (s + 2 ^ i) x (omega (arith, halves i p)) l
+
+      pub from_high : (r : Option ℕ) → LeastIn rows s (s + 2 ^ (i - 1)) None → LeastIn rows (s + m) (s + m + 2 ^ (i - 1)) r → LeastIn rows s (s + 2 ^ i) r
+      from_high r f g =
           in_second rows s (s + m) (s + 2 ^ i) r (omega arith)
-          (subst (λ (x : ℕ). LeastIn rows s (s + x) Nothing) (sym e) (subst (LeastIn rows s (s + 2 ^ (i - 1))) z f))
+          (subst (λ (x : ℕ). LeastIn rows s (s + x) None) (sym e) f)
           (subst (λ (x : ℕ). LeastIn rows (s + m) x r) whole g)

@@ -1,8 +1,7 @@
 -- The lister: the least irredundant cover of a range, the cursor, and a page as crate model has it.
-use Rattle.std.specs.Prelude.{◌≡◌, Bool, true, false, cond, List, [], ◌∷◌, ◌++◌, ℕ, ◌+◌, ◌^◌, ◌≤◌, ◌<◌, ltb, length, drop}
-use Rattle.model.specs.Pages.{at_or_above, page, more}
-use Rattle.lister.specs.declared.cursor.FoundSet.{FoundSet}
-use Rattle.lister.specs.declared.cursor.FoundSet.TheVariants.{At, Nothing}
+use mathlib.Core.List.{Memᴰ}
+use Rattle.std.specs.Prelude.{◌≡◌, Bool, true, false, cond, Option, None, Some, List, [], ◌∷◌, ◌++◌, ℕ, ◌+◌, ◌^◌, ◌≤◌, ◌<◌, ltb, length, drop}
+use Rattle.model.specs.Pages.{Rising, at_or_above, page, more}
 use Rattle.lister.specs.declared.cursor.Cursor.{Cursor}
 use Rattle.lister.specs.declared.cursor.PageFill.{PageFill}
 use Rattle.lister_narrowing.specs.declared.Tight.{Tight}
@@ -15,13 +14,13 @@ unfoldable pub Among : List ℕ → ℕ → ℕ → ℕ → Type 0
 Among rows lo hi y = (lo ≤ y) × (y < hi) × IrredundantCover rows y
 
 -- the least of these, or that there is none
-unfoldable pub LeastIn : List ℕ → ℕ → ℕ → FoundSet → Type 0
-LeastIn rows lo hi (At x) = Among rows lo hi x × ((y : ℕ) → Among rows lo hi y → x ≤ y)
-LeastIn rows lo hi Nothing = (y : ℕ) → Among rows lo hi y → ⊥
+unfoldable pub LeastIn : List ℕ → ℕ → ℕ → Option ℕ → Type 0
+LeastIn rows lo hi (Some x) = Among rows lo hi x × ((y : ℕ) → Among rows lo hi y → x ≤ y)
+LeastIn rows lo hi None = (y : ℕ) → Among rows lo hi y → ⊥
 
--- each irredundant cover in [s, s + 2^i) lies between t's set and what this can grow to; where t is dead there is none
+-- each irredundant cover in [s, s + 2^i) lies between t's set and what this can grow to
 unfoldable pub RangeKept : List ℕ → ℕ → ℕ → Tight → Type 0
-RangeKept rows i s t = (y : ℕ) → Among rows s (s + 2 ^ i) y → (t.dead ≡ false) × Between t.s t.free y
+RangeKept rows i s t = (y : ℕ) → Among rows s (s + 2 ^ i) y → Between t.s t.free y
 
 -- ---- the cursor
 
@@ -46,6 +45,11 @@ unfoldable pub advanced : Cursor → Cursor
 advanced c = cond c.over c (cond (ltb c.at 18446744073709551615) (record { at = c.at + 1; over = false }) (record { at = c.at; over = true }))
 
 -- ---- a page
+
+-- a list of 64-bit sets, rising
+pub record RisingSets (all : List ℕ) : Type 0 where
+  pub rises : Rising 0 all
+  pub small : (s : ℕ) → Memᴰ s all → s < 2 ^ 64
 
 -- what was put into the row old, as r counts it: the page for a row of that length, and the rest of the row as it was
 pub record Paged (all : List ℕ) (start : ℕ) (old new : List ℕ) (r : PageFill) : Type 0 where

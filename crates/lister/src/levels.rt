@@ -26,16 +26,12 @@ fn own_levels(row: u64, own: u64, b: u64) -> u64
 
 // The levels of fresh at which each member of at above has a row of its own. alone[b] are the levels at which b has one.
 // The contract says only that none is missing.
-fn kept_levels(alone: [u64; 64], fresh: u64, at: u64) -> u64
-    ensures { KeptLevels alone fresh at result }
+fn kept_levels(alone: &[u64; 64], fresh: u64, at: u64) -> u64
+    ensures { KeptLevels alone.now fresh at result }
 {
     let mut good = fresh;
-    let mut rest = at;
-    while rest != 0 {
-        let m = set::lowest(rest);
-        let k = set::index(m);
-        good = set::minus(good, set::minus(m - 1, alone[k]));
-        rest = set::minus(rest, m);
+    for m in set::members(at) {
+        good = set::minus(good, set::minus(m - 1, alone[set::index(m)]));
     }
     good
 }
@@ -47,34 +43,27 @@ pub fn possible_levels(rows: &[u64], at: u64) -> u64
 {
     let mut alone = [0u64; 64];
     let mut fresh: u64 = 0;
-    let mut i = 0;
-    while i < rows.len() {
-        let row = rows[i];
+    for row in rows {
         let own = row & at;
         if own == 0 {
-            fresh = fresh | row;
+            fresh |= row;
         } else {
             let b = set::highest(own);
-            let k = set::index(b);
-            alone[k] = alone[k] | own_levels(row, own, b);
-            fresh = fresh | set::minus(row, b - 1);
+            alone[set::index(b)] |= own_levels(*row, own, b);
+            fresh |= set::minus(*row, b - 1);
         }
-        i += 1;
     }
-    kept_levels(alone, fresh, at)
+    kept_levels(&alone, fresh, at)
 }
 
-// Narrows s and free of a level, which holds no irredundant cover where possible is 0. The contract says only that none is lost.
-pub fn narrow_level(rows: &[u64], possible: u64, s: u64, free: u64) -> Tight
+// Narrows s and free of a level, which holds no irredundant cover where possible is 0; None where none is left. The contract says only that
+// none is lost. s and free come apart, as in `lister_narrowing::narrow`.
+pub fn narrow_level(rows: &[u64], possible: u64, s: u64, free: u64) -> Option<Tight>
     requires { possible ≡ 0 → NoneBetween rows.now s free }
     ensures { Tightened rows.now s free result }
 {
     if possible == 0 {
-        return Tight {
-            dead: true,
-            s,
-            free,
-        };
+        return None;
     }
     lister_narrowing::narrow(rows, s, free)
 }

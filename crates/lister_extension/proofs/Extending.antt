@@ -1,24 +1,16 @@
 -- A member that can keep no row leaves no irredundant cover.
-use mathlib.Core.Path.{◌≡◌, refl, sym, ap, ◌∙◌}
-use mathlib.Core.Bool.{Bool, true, false, not}
-use mathlib.Core.Logic.{⊎_elim}
-use mathlib.Core.List.{List}
-use Prim.Native.Nat.{ℕ, ◌+◌, ◌^◌, ◌≤◌, ◌<◌}
-use native.Mathlib.Omega.{arith}
-use lib.ListN.{length, get_or}
-use lib.Bits.{bit_and, and_le_l}
+use Rattle.std.specs.Bool.{then_some}
+use Rattle.std.proofs.Common.{◌≡◌, refl, sym, ap, ◌∙◌, ⊎_elim, Bool, true, false, List, ℕ, ◌+◌, ◌^◌, ◌≤◌, ◌<◌, arith, length, get_or, bit_and, below_more}
+use Rattle.std.proofs.lemmas.Nat.{and_le_l}
 use Rattle.lister_narrowing.specs.declared.Tight.{Tight}
 use Rattle.bits.specs.Bits.{digit, Part, Minus, Member}
 use Rattle.rows.specs.Covers.{Own, Between}
-use Rattle.lister_narrowing.specs.Narrowing.{IrredundantBetween, NoneBetween, Tightened}
-use Rattle.lister_extension.specs.Extension.{NoneLeft}
+use Rattle.lister_narrowing.specs.Narrowing.{IrredundantBetween, NoneBetween, Narrowed, Tightened}
 use Rattle.bits.proofs.Digits.{eq?, digit_lt, digit_or}
-use Rattle.bits.proofs.Decide.{true_is_not_false}
 use Rattle.bits.proofs.Members.{and_both}
 use Rattle.bits.proofs.Parts.{part_le, members, part_trans, minus_part, the_member, member_of_more, minus_member_less, part_and_less}
-use borrow.Author.Count.{below_more}
 use Rattle.rows.proofs.Sets.{own_row_fewer}
-use Rattle.lister_narrowing.proofs.Tightening.{between_own}
+use Rattle.lister_narrowing.proofs.Tightening.{between_own, narrowed_none}
 
 -- ---- one row
 
@@ -52,9 +44,9 @@ module _ (rows : List ℕ) (s free b row : ℕ) (m : Member s b) where
       n (own_row_fewer row s t j.0 w.1.0 j.2 (e ∙ j.1) ∙ sym j.1)
 
   -- nothing is left where it is kept
-  pub barred_kept : (rest : ℕ) (x : Tight) → Minus free row rest → Tightened rows s rest x → NoneLeft rows x → Barred rows s free b row
-  unfolding Barred NoneLeft NoneBetween
-  barred_kept rest x d h f t w e = let k = h.keeps t (without t rest d w e) in f k.0 t k.1
+  pub barred_kept : (rest : ℕ) → Minus free row rest → NoneBetween rows s rest → Barred rows s free b row
+  unfolding Barred NoneBetween
+  barred_kept rest d f t w e = f t (without t rest d w e)
 
 -- ---- one row after the other
 
@@ -81,22 +73,10 @@ module _ (rows : List ℕ) (s free b : ℕ) where
 
 -- ---- narrowed, and tested
 
-pub dead_left : (rows : List ℕ) (t : Tight) → t.dead ≡ true → NoneLeft rows t
-unfolding NoneLeft
-dead_left rows t e d = absurd (true_is_not_false (sym e ∙ d))
-
-pub none_left : (rows : List ℕ) (t : Tight) → NoneBetween rows t.s t.free → NoneLeft rows t
-unfolding NoneLeft
-none_left rows t h d = h
-
-pub tightened_tested : (rows : List ℕ) (s free : ℕ) (t : Tight) (d : Bool) → Tightened rows s free t → (d ≡ false → NoneLeft rows t)
-    → Tightened rows s free (record { dead = not d; s = t.s; free = t.free })
-unfolding NoneLeft NoneBetween
-tightened_tested rows s free t d h f = record { less = h.less; keeps = λ x w. (go d refl x (h.keeps x w), (h.keeps x w).1) }
-  where
-    go : (e : Bool) → d ≡ e → (x : ℕ) → (t.dead ≡ false) × IrredundantBetween rows t.s t.free x → not e ≡ false
-    go true e x w = refl
-    go false e x w = absurd (f e w.0 x w.1)
+pub tightened_tested : (rows : List ℕ) (s free : ℕ) (t : Tight) (alive : Bool) → Narrowed rows s free t → (alive ≡ false → NoneBetween rows t.s t.free)
+    → Tightened rows s free (then_some alive t)
+tightened_tested rows s free t true n f = n
+tightened_tested rows s free t false n f = narrowed_none n (f refl)
 
 -- ---- fewer and fewer members are asked
 

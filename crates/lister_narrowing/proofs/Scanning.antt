@@ -1,23 +1,11 @@
 -- The one pass over the rows that the narrowing makes: what it knows after the first n rows.
-use mathlib.Core.Path.{◌≡◌, refl, sym, ap, ◌∙◌, subst}
-use mathlib.Core.Bool.{true, false}
-use mathlib.Core.Logic.{⊎_elim}
-use mathlib.Core.List.{List}
-use Prim.Native.Nat.{ℕ, ◌+◌, ◌^◌, ◌≤◌, ◌<◌}
-use native.Mathlib.Omega.{arith}
-use lib.ListN.{length, get_or, set, length-set}
-use lib.Pow.{pow_pos}
-use lib.Seq.{get_or-set_same, get_or-set_other}
-use lib.Bits.{bit_and, bit_or}
-use Rattle.lister_narrowing.specs.declared.Scan.{Scan}
+use Rattle.std.proofs.Common.{◌≡◌, refl, sym, ap, ◌∙◌, subst, ⊎_elim, List, ℕ, ◌+◌, ◌^◌, ◌≤◌, ◌<◌, arith, length, get_or, set, length-set, pow_pos, get_or-set_same, get_or-set_other, bit_and, bit_or, below_more}
 use Rattle.bits.specs.Bits.{digit, Single, Part, Member}
 use Rattle.rows.specs.Covers.{PrivatesOf, Unmet}
-use Rattle.lister_narrowing.specs.Narrowing.{NoneBetween, Forced, Taken, Only, United, Scanned}
+use Rattle.lister_narrowing.specs.Narrowing.{Forced, Taken, Only, United, Found}
 use Rattle.bits.proofs.Digits.{eq?, digit_lt, digit_or, pow_here, pow_only}
-use Rattle.bits.proofs.Decide.{true_is_not_false}
 use Rattle.bits.proofs.Members.{and_left, and_right, not_zero}
 use Rattle.bits.proofs.Parts.{members}
-use borrow.Author.Count.{below_more}
 use Rattle.rows.proofs.Sets.{privates_none, privates_skip, privates_take, privates_done}
 use Rattle.rows.proofs.Unmet.{unmet_none, unmet_met, unmet_more, unmet_all}
 use Rattle.lister_narrowing.proofs.Tightening.{row_forces}
@@ -136,16 +124,15 @@ module _ (rows : List ℕ) (s free n : ℕ) (common : List ℕ) (owners unmet fo
 
   -- all rows are passed
   pub passed_all : length rows ≤ n → n ≤ length rows → (x : ℕ) → United common s x
-      → Scanned rows s free (record { dead = false; owners = owners; unmet = unmet; forced = forced; taken = x })
+      → Found rows s free (record { owners = owners; unmet = unmet; forced = forced; taken = x })
   unfolding Taken United Common
   passed_all ge le x u =
       let e : n ≡ length rows = omega arith in
       record {
-        none = λ f. absurd (true_is_not_false (sym f));
-        owners = λ f. privates_done rows n s owners e h.private_rows;
-        unmet = λ f. unmet_all rows n s unmet e h.unmet_rows;
-        forced = λ f. h.must;
-        taken = λ f c m.
+        owners = privates_done rows n s owners e h.private_rows;
+        unmet = unmet_all rows n s unmet e h.unmet_rows;
+        forced = h.must;
+        taken = λ c m.
             let q : (b : ℕ) × (digit b s ≡ 1) × (digit c (get_or common b 0) ≡ 1) = u c m in
             (q.0, q.1, λ k lt z. h.shared q.0 k (omega arith) z c q.2);
       }
@@ -154,12 +141,3 @@ pub passed_as : {rows : List ℕ} {s free n : ℕ} {common common' : List ℕ} {
     → common ≡ common' → owners ≡ owners' → unmet ≡ unmet' → forced ≡ forced'
     → Passed rows s free n common' owners' unmet' forced' → Passed rows s free n common owners unmet forced
 passed_as {rows} {s} {free} {n} a b c d h = rw (a, b, c, d) h
-
-pub scanned_dead : (rows : List ℕ) (s free : ℕ) (g : Scan) → g.dead ≡ true → NoneBetween rows s free → Scanned rows s free g
-scanned_dead rows s free g d h = record {
-  none = λ e. h;
-  owners = λ e. absurd (true_is_not_false (sym d ∙ e));
-  unmet = λ e. absurd (true_is_not_false (sym d ∙ e));
-  forced = λ e. absurd (true_is_not_false (sym d ∙ e));
-  taken = λ e. absurd (true_is_not_false (sym d ∙ e));
-}

@@ -1,19 +1,12 @@
 -- The narrowing of a set and what it can grow by: each step loses no irredundant cover.
-use mathlib.Core.Path.{◌≡◌, refl, sym, ap, ◌∙◌, subst}
-use mathlib.Core.Bool.{Bool, true, false}
-use mathlib.Core.Logic.{inl, inr, ⊎_elim}
-use mathlib.Core.List.{List}
-use Prim.Native.Nat.{ℕ, ◌^◌, ◌<◌}
-use native.Mathlib.Omega.{arith}
-use lib.ListN.{length, get_or}
-use lib.Bits.{bit_and, bit_or, and_le_l}
+use Rattle.std.proofs.Common.{◌≡◌, sym, ap, ◌∙◌, subst, Option, None, Some, inl, inr, ⊎_elim, List, ℕ, ◌^◌, ◌<◌, arith, length, get_or, bit_and, bit_or}
+use Rattle.std.proofs.lemmas.Nat.{and_le_l}
 use Rattle.lister_narrowing.specs.declared.Tight.{Tight}
 use Rattle.lister_narrowing.specs.declared.Scan.{Scan}
 use Rattle.bits.specs.Bits.{digit, Single, Minus}
 use Rattle.rows.specs.Covers.{IrredundantCover, Own, Unmet, Between}
-use Rattle.lister_narrowing.specs.Narrowing.{IrredundantBetween, NoneBetween, Forced, Taken, Scanned, Infeasible, Tightened}
+use Rattle.lister_narrowing.specs.Narrowing.{IrredundantBetween, NoneBetween, Forced, Taken, Found, Infeasible, Narrowed, Tightened}
 use Rattle.bits.proofs.Digits.{eq?, digit_lt, digit_or, pow_only}
-use Rattle.bits.proofs.Decide.{true_is_not_false}
 use Rattle.bits.proofs.Members.{and_left, and_both, not_zero}
 use Rattle.rows.proofs.Sets.{own_rows, own_has, own_only, own_row_fewer, own_fewer, all_privates, meets}
 use Rattle.bits.proofs.Parts.{part_le, members, minus_part, apart_by}
@@ -86,21 +79,12 @@ module _ (rows : List ℕ) (s free t : ℕ) (w : IrredundantBetween rows s free 
   free_of x b h m n =
       ⊎_elim (λ (q : digit b x ≡ 1). absurd (harmless x b h m n q)) (λ (q : digit b x ≡ 1 → ⊥). omega (arith, digit_lt b x)) (eq? (digit b x) 1)
 
-  module _ (g : Scan) (h : Scanned rows s free g) where
-    goes_on : g.dead ≡ false
-    unfolding NoneBetween
-    goes_on = go g.dead refl
-      where
-        go : (d : Bool) → g.dead ≡ d → g.dead ≡ false
-        go true e = absurd (h.none e t w)
-        go false e = e
-
+  module _ (g : Scan) (h : Found rows s free g) where
     not_infeasible : Infeasible g s → ⊥
     unfolding Infeasible Forced
-    not_infeasible (inl e) = true_is_not_false (sym e ∙ goes_on)
-    not_infeasible (inr (inl d)) = d (all_privates rows s g.owners (h.owners goes_on) (λ b m. own_fewer rows (length rows) s t b up m (own b (up b m))))
-    not_infeasible (inr (inr d)) = d (apart_by g.forced g.taken (λ b p q.
-        let f = h.forced goes_on b p in harmless g.taken b (h.taken goes_on) (f.1 t w) f.0 q))
+    not_infeasible (inl d) = d (all_privates rows s g.owners h.owners (λ b m. own_fewer rows (length rows) s t b up m (own b (up b m))))
+    not_infeasible (inr d) = d (apart_by g.forced g.taken (λ b p q.
+        let f = h.forced b p in harmless g.taken b h.taken (f.1 t w) f.0 q))
 
     -- the cover is between s with what is forced and the free ones that are left
     narrower : (left rest : ℕ) → Minus (bit_and free g.unmet) g.taken left → Minus left g.forced rest → IrredundantBetween rows (bit_or s g.forced) rest t
@@ -109,50 +93,47 @@ module _ (rows : List ℕ) (s free t : ℕ) (w : IrredundantBetween rows s free 
       w.0,
       (
         λ b m. ⊎_elim (λ (e : digit b s ≡ 1). up b e)
-            (λ (e : digit b s ≡ 1 → ⊥). (h.forced goes_on b (omega (arith, digit_or b s g.forced, digit_lt b s, digit_lt b g.forced))).1 t w)
+            (λ (e : digit b s ≡ 1 → ⊥). (h.forced b (omega (arith, digit_or b s g.forced, digit_lt b s, digit_lt b g.forced))).1 t w)
             (eq? (digit b s) 1),
         λ b m. ⊎_elim
             (λ (e : digit b s ≡ 1). omega (arith, digit_or b s g.forced, digit_or b (bit_or s g.forced) rest, digit_lt b g.forced, digit_lt b rest))
             (λ (e : digit b s ≡ 1 → ⊥).
             let fr : digit b free ≡ 1 = omega (arith, w.1.1 b m, digit_or b s free, digit_lt b s, digit_lt b free) in
-            let us : digit b g.unmet ≡ 1 = useful g.unmet b (h.unmet goes_on) m e in
-            let ok : digit b g.taken ≡ 0 = free_of g.taken b (h.taken goes_on) m e in
+            let us : digit b g.unmet ≡ 1 = useful g.unmet b h.unmet m e in
+            let ok : digit b g.taken ≡ 0 = free_of g.taken b h.taken m e in
             let l : digit b left ≡ 1 = omega (arith, dl b, and_both b free g.unmet fr us) in
             omega (arith, dr b, digit_or b s g.forced, digit_or b (bit_or s g.forced) rest, digit_lt b g.forced, digit_lt b s))
             (eq? (digit b s) 1),
       ),
     )
 
-pub tightened_once : (rows : List ℕ) (s free : ℕ) (g : Scan) → Scanned rows s free g → (left rest : ℕ) (d : Bool) → Minus (bit_and free g.unmet) g.taken left
-    → Minus left g.forced rest → (d ≡ true → Infeasible g s) → Tightened rows s free (record { dead = d; s = bit_or s g.forced; free = rest })
-tightened_once rows s free g h left rest d dl dr f = record {
-  less = omega (
-    arith,
-    part_le rest left (minus_part left g.forced rest dr),
-    part_le left (bit_and free g.unmet) (minus_part (bit_and free g.unmet) g.taken left dl),
-    and_le_l free g.unmet,
-  );
-  keeps = λ t w. (alive d refl t w, narrower rows s free t w g h left rest dl dr);
-}
-  where
-    alive : (b : Bool) → d ≡ b → (t : ℕ) → IrredundantBetween rows s free t → b ≡ false
-    alive true e t w = absurd (not_infeasible rows s free t w g h (f e))
-    alive false e t w = refl
+module _ (rows : List ℕ) (s free : ℕ) (g : Scan) (h : Found rows s free g) where
+  pub tightened_never : Infeasible g s → NoneBetween rows s free
+  unfolding NoneBetween
+  tightened_never i t w = not_infeasible rows s free t w g h i
+
+  pub tightened_once : (left rest : ℕ) → Minus (bit_and free g.unmet) g.taken left → Minus left g.forced rest
+      → Narrowed rows s free (record { s = bit_or s g.forced; free = rest })
+  tightened_once left rest dl dr = record {
+    less = omega (
+      arith,
+      part_le rest left (minus_part left g.forced rest dr),
+      part_le left (bit_and free g.unmet) (minus_part (bit_and free g.unmet) g.taken left dl),
+      and_le_l free g.unmet,
+    );
+    keeps = λ t w. narrower rows s free t w g h left rest dl dr;
+  }
 
 -- ---- pass after pass
 
--- s and free as they are
-abbrev pub untouched : ℕ → ℕ → Tight
-untouched s free = record { dead = false; s = s; free = free }
+pub nothing_left : (rows : List ℕ) (s free : ℕ) (r : Option Tight) → r ≡ None → Tightened rows s free r → NoneBetween rows s free
+nothing_left rows s free None e h = h
+nothing_left rows s free (Some t) e h = cc
 
-pub tightened_self : (rows : List ℕ) (s free : ℕ) → Tightened rows s free (untouched s free)
-tightened_self rows s free = record { less = omega arith; keeps = λ t w. (refl, w) }
+pub narrowed_self : (rows : List ℕ) (s free : ℕ) → Narrowed rows s free (record { s = s; free = free })
+narrowed_self rows s free = record { less = omega arith; keeps = λ t w. w }
 
-pub tightened_more : (rows : List ℕ) (s free base rest : ℕ) (r : Tight) → Tightened rows s free (untouched base rest) → Tightened rows base rest r
-    → Tightened rows s free r
-tightened_more rows s free base rest r n h = record { less = omega (arith, n.less, h.less); keeps = λ t w. h.keeps t (n.keeps t w).1 }
-
-pub tightened_on : (rows : List ℕ) (s free base rest : ℕ) (r : Tight) → Tightened rows s free (untouched base rest) → Tightened rows base rest r
-    → Tightened rows s free (untouched r.s r.free)
-tightened_on rows s free base rest r n h =
-    record { less = omega (arith, n.less, h.less); keeps = λ t w. (refl, (h.keeps t (n.keeps t w).1).1) }
+module _ {rows : List ℕ} {s free : ℕ} {now : Tight} (n : Narrowed rows s free now) where
+  pub narrowed_none : NoneBetween rows now.s now.free → NoneBetween rows s free
+  unfolding NoneBetween
+  narrowed_none f t w = f t (n.keeps t w)

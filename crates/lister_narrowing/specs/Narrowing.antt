@@ -1,5 +1,5 @@
 -- What lies between a set and what it can grow to, and what a step that narrows the two must keep.
-use Rattle.std.specs.Prelude.{◌≡◌, true, false, List, ◌⊎◌, ℕ, ◌^◌, ◌≤◌, ◌<◌, length, get_or}
+use Rattle.std.specs.Prelude.{◌≡◌, List, Option, Some, None, ◌⊎◌, ℕ, ◌^◌, ◌≤◌, ◌<◌, length, get_or}
 use Rattle.std.specs.Int.Bits.{bit_and}
 use Rattle.lister_narrowing.specs.declared.Tight.{Tight}
 use Rattle.lister_narrowing.specs.declared.Scan.{Scan}
@@ -30,19 +30,28 @@ Only x r = ((r ≡ 0) × (Single x → ⊥)) ⊎ ((r ≡ x) × Single x)
 unfoldable pub United : List ℕ → ℕ → ℕ → Type 0
 United common s r = (c : ℕ) → digit c r ≡ 1 → (b : ℕ) × (digit b s ≡ 1) × (digit c (get_or common b 0) ≡ 1)
 
--- what a pass over all rows tells
-pub record Scanned (rows : List ℕ) (s free : ℕ) (r : Scan) : Type 0 where
-  pub none : r.dead ≡ true → NoneBetween rows s free
-  pub owners : r.dead ≡ false → Privates rows s r.owners
-  pub unmet : r.dead ≡ false → Unmet rows (length rows) s r.unmet
-  pub forced : r.dead ≡ false → Forced rows s free r.forced
-  pub taken : r.dead ≡ false → Taken rows s r.taken
+-- what a pass over all rows finds
+pub record Found (rows : List ℕ) (s free : ℕ) (r : Scan) : Type 0 where
+  pub owners : Privates rows s r.owners
+  pub unmet : Unmet rows (length rows) s r.unmet
+  pub forced : Forced rows s free r.forced
+  pub taken : Taken rows s r.taken
+
+-- and that there is no irredundant cover where it finds nothing
+abbrev pub Scanned : List ℕ → ℕ → ℕ → Option Scan → Type 0
+Scanned rows s free None = NoneBetween rows s free
+Scanned rows s free (Some r) = Found rows s free r
 
 -- why a pass leaves no irredundant cover
 unfoldable pub Infeasible : Scan → ℕ → Type 0
-Infeasible g s = (g.dead ≡ true) ⊎ (g.owners ≡ s → ⊥) ⊎ (bit_and g.forced g.taken ≡ 0 → ⊥)
+Infeasible g s = (g.owners ≡ s → ⊥) ⊎ (bit_and g.forced g.taken ≡ 0 → ⊥)
 
--- r narrows s and free, and loses no irredundant cover; where r is dead there is none
-pub record Tightened (rows : List ℕ) (s free : ℕ) (r : Tight) : Type 0 where
+-- r narrows s and free, and loses no irredundant cover
+pub record Narrowed (rows : List ℕ) (s free : ℕ) (r : Tight) : Type 0 where
   pub less : r.free ≤ free
-  pub keeps : (t : ℕ) → IrredundantBetween rows s free t → (r.dead ≡ false) × IrredundantBetween rows r.s r.free t
+  pub keeps : (t : ℕ) → IrredundantBetween rows s free t → IrredundantBetween rows r.s r.free t
+
+-- the same of what is left; where nothing is, there is no irredundant cover
+abbrev pub Tightened : List ℕ → ℕ → ℕ → Option Tight → Type 0
+Tightened rows s free None = NoneBetween rows s free
+Tightened rows s free (Some r) = Narrowed rows s free r

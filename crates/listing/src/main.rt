@@ -1,12 +1,10 @@
 // Runs the library calls on the paper's cases and on odd parity of 7 inputs, and prints what they find.
 #![tactic(auto)]
 
-ghost use Rattle.std.specs.Prelude.{◌≤◌};
+ghost use Rattle.std.specs.Prelude.{◌≤◌, length};
 
 use cheapest::search;
-use cheapest::search::Optimum;
 use incidence::rows;
-use library::Listed;
 use model::Term;
 use primes::prime_list;
 use std::io;
@@ -14,19 +12,10 @@ use table::cells;
 
 mod products;
 
-// A number and a space.
-fn print_number(rt: &impl Print, x: u64) -> io::Result<()> {
-    print!(rt; "{x} ")
-}
-
 // The first count of the sets.
 fn print_first(rt: &impl Print, sets: &[u64], count: usize) -> io::Result<()> {
-    let mut i: usize = 0;
-    while i < sets.len() {
-        if i < count {
-            print_number(rt, sets[i])?;
-        }
-        i += 1;
+    for set in sets.iter().take(count) {
+        print!(rt; "{set} ")?;
     }
     Ok(())
 }
@@ -54,55 +43,49 @@ fn show(
     rt.write_all(name)?;
     let mut sets = [0u64; 8];
     match library::list_covers(n, m, on, dc, terms, start, &mut sets) {
-        Listed::Filled(count, more) => print_sets(rt, &sets, count, more),
-        Listed::Refused(number) => println!(rt; "refused {number} "),
+        Ok(page) => print_sets(rt, &sets, page.count, page.more),
+        Err(reason) => {
+            let number = reason.number();
+            println!(rt; "refused {number} ")
+        }
     }
 }
 
 // The on bytes of odd parity of 7 inputs.
 fn odd_parity() -> [u8; 256] {
-    let mut on = [0u8; 256];
-    let mut v: usize = 0;
-    while v < 128 {
+    let mut on = [0; 256];
+    for v in 0..128 {
         on[v] = (usize::count_ones(v) % 2) as u8;
-        v += 1;
     }
     on
 }
 
-// A term as a word.
+// A term as a word. (No `From<Term>`: crate `model`, where it would stand, knows no words.)
 fn word(t: Term) -> u32 {
-    wide(t.care) + 256 * wide(t.value) + 65536 * wide(t.outputs)
-}
-
-fn wide(x: u8) -> u32
-    ensures { result ≤ 255 }
-{
-    x as u32
+    u32::from_le_bytes([t.care, t.value, t.outputs, 0])
 }
 
 // The terms as words.
 fn words(terms: [Term; 64]) -> [u32; 64] {
-    let mut all = [0u32; 64];
-    let mut i: usize = 0;
-    while i < 64 {
-        let t = terms[i];
-        all[i] = word(t);
-        i += 1;
+    let mut all = [0; 64];
+    for i in 0..64 {
+        all[i] = word(terms[i]);
     }
     all
 }
 
-// The cheapest cover of the first count terms, and its cost. None is a block.
-fn show_cheapest(rt: &impl Print, on: &[u8; 256], terms: [Term; 64], count: usize) -> io::Result<()>
-    requires { count ≤ 64 }
+// The cheapest cover of the terms, and its cost. None is a block.
+fn show_cheapest(rt: &impl Print, on: &[u8; 256], terms: &[Term]) -> io::Result<()>
+    requires { length terms.now ≤ 64 }
 {
     let held = [0u64; 256];
     let mut all = [0u64; 2048];
-    let k = rows::rows(on, terms, count, 0, &held, 7, 1, &mut all);
-    let weights = problem::weights::weights(problem::usual_prices(), terms, count);
+    let k = rows::rows(on, terms, 0, &held, 7, 1, &mut all);
+    let weights = problem::weights::weights(problem::usual_prices(), terms);
     if k <= 2048 {
-        if let Optimum::Cover(set, cost) = search::cheapest(&all[..k], &weights[..count]) {
+        if let Some(best) = search::cheapest(&all[..k], &weights[..terms.len()]) {
+            let set = best.set;
+            let cost = best.cost;
             println!(rt; "parity of 7 inputs, cheapest and cost: {set} {cost} ")?;
         }
     }
@@ -130,7 +113,7 @@ fn show_parity(rt: &impl Print) -> io::Result<()> {
             &all[..count],
             0,
         )?;
-        show_cheapest(rt, &on, terms, count)?;
+        show_cheapest(rt, &on, &terms[..count])?;
     }
     Ok(())
 }

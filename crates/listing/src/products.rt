@@ -2,6 +2,7 @@
 ghost use Rattle.std.specs.Prelude.{◌≤◌};
 
 use crate::print_first;
+use model::reason::Reason;
 use std::io;
 
 // What no set of these cases is.
@@ -11,13 +12,14 @@ fn mark() -> u64 {
 
 // Marks a row, so that its owner sees which one it is.
 fn mark_row(row: &mut [u64]) {
-    if 0 < row.len() {
-        row[0] = mark();
+    if let Some(entry) = row.first_mut() {
+        *entry = mark();
     }
 }
 
-// How many sets, and which, where they are few.
-fn print_front(rt: &impl Print, sets: &[u64], count: usize) -> io::Result<()> {
+// How many sets, and which, where they are few: none after a refusal.
+fn print_front(rt: &impl Print, sets: &[u64], told: Result<usize, Reason>) -> io::Result<()> {
+    let count = told.unwrap_or(0);
     print!(rt; "{count} sets ")?;
     if count <= 8 {
         print_first(rt, sets, count)?;
@@ -26,8 +28,9 @@ fn print_front(rt: &impl Print, sets: &[u64], count: usize) -> io::Result<()> {
 }
 
 // The refusal, if there is one, and which row was handed back.
-fn print_told(rt: &impl Print, number: u8, is_first: bool) -> io::Result<()> {
-    if number != 0 {
+fn print_told(rt: &impl Print, told: Result<usize, Reason>, is_first: bool) -> io::Result<()> {
+    if let Err(reason) = told {
+        let number = reason.number();
         print!(rt; "refused {number} ")?;
     }
     if is_first {
@@ -50,22 +53,10 @@ fn show(
     rt.write_all(name)?;
     let mut first = [0u64; 1024];
     let mut second = [0u64; 1024];
-    let mut number: u8 = 0;
-    let mut count: usize = 0;
-    let row = library::multiply_covers(
-        n,
-        m,
-        on,
-        dc,
-        terms,
-        &mut first,
-        &mut second,
-        &mut number,
-        &mut count,
-    );
-    print_front(rt, row, count)?;
+    let (row, told) = library::multiply_covers(n, m, on, dc, terms, &mut first, &mut second);
+    print_front(rt, row, told)?;
     mark_row(row);
-    print_told(rt, number, first[0] == mark())
+    print_told(rt, told, first[0] == mark())
 }
 
 // By the terms of the paper's job.
@@ -95,13 +86,11 @@ fn show_pairs(rt: &impl Print, name: &[u8], vertices: usize) -> io::Result<()>
     let mut on = [0u8; 16];
     let dc = [0u8; 16];
     let mut terms = [0u32; 22];
-    let mut v: usize = 0;
-    while v < vertices {
+    for v in 0..vertices {
         let word = 0x01000f + 256 * (v as u32);
         on[v] = 1;
         terms[2 * v] = word;
         terms[2 * v + 1] = word;
-        v += 1;
     }
     show(rt, name, 4, 1, &on, &dc, &terms[..2 * vertices])
 }
@@ -113,22 +102,14 @@ fn show_lengths(
     first: &mut [u64],
     second: &mut [u64],
 ) -> io::Result<()> {
-    let mut number: u8 = 0;
-    let mut count: usize = 0;
-    let row = library::multiply_covers(
-        1,
-        1,
-        &[0u8, 0],
-        &[0u8, 0],
-        &[],
-        first,
-        second,
-        &mut number,
-        &mut count,
-    );
+    let (row, told) = library::multiply_covers(1, 1, &[0u8, 0], &[0u8, 0], &[], first, second);
     rt.write_all(name)?;
-    print_front(rt, row, count)?;
-    println!(rt; "refused {number} ")
+    print_front(rt, row, told)?;
+    if let Err(reason) = told {
+        let number = reason.number();
+        print!(rt; "refused {number} ")?;
+    }
+    println!(rt; "")
 }
 
 // Each row too short, and too long.

@@ -62,6 +62,8 @@ pub mod Accepted
 pub mod Orders
 pub mod OrdersBack
 pub mod Outlines
+pub mod Reasons
+pub mod Places
 pub mod Reordered
 pub mod ReorderedCall
 pub mod Numbers

@@ -13,6 +13,8 @@ pub mod Ranges
 pub mod Commands
 pub mod Answers
 pub mod Refusals
+pub mod Reasons
+pub mod Places
 pub mod Rules
 pub mod Job
 pub mod Calls

@@ -2,7 +2,6 @@
 use Prim.Native.Nat.{ℕ, zero, suc, ◌+◌, ◌-◌, ◌*◌, ◌/◌, ◌%◌, ◌^◌, ◌≤◌, ◌<◌}
 use native.Mathlib.Omega.{arith}
 use native.Mathlib.Nat.{pow-suc}
-use native.Mathlib.Decide.{ℕ_discrete}
 use mathlib.Core.Path.{◌≡◌, refl, sym, ap, ap₂, ◌∙◌, subst, subst⁻¹}
 use mathlib.Core.Bool.{Bool, not}
 use mathlib.Core.List.{List}
@@ -23,7 +22,7 @@ use Rattle.bits.proofs.Shifts.{set_is_or}
 use Rattle.table.specs.Cubes.{Allowed, Cube, Free, DrivesFree}
 use Rattle.model.specs.Numbers.{cube_number, spread}
 use Rattle.primes.specs.Numbers.{CubesOf}
-use Rattle.primes.specs.Blocks.{ClearBelow, Block, JoinedTo, Joined, FilledBlock}
+use Rattle.primes.specs.Blocks.{ClearBelow, Block, Joined, FilledBlock}
 use Rattle.table.proofs.Halves.{set_adds, drives_vertex, both_halves}
 use Rattle.primes.proofs.BaseThree.{Top, at_free, at_low, at_high, top, number_zero, number_lt, spread_power}
 
@@ -132,47 +131,6 @@ one_entry may t i value at e l = subst⁻¹ (λ (x : ℕ). FilledBlock may x val
         ap (λ (x : ℕ). get_or (set t at (get_or may value 0)) x 0) n ∙ get_or-set_same t at (get_or may value 0) 0 in_table in
         subst⁻¹ (λ (x : ℕ). DrivesFree may frees x (get_or (set t at (get_or may value 0)) (at + cube_number c v) 0)) w
         (subst⁻¹ (λ (r : ℕ). DrivesFree may frees value r) g (subst⁻¹ (λ (x : ℕ). DrivesFree may x value (get_or may value 0)) none (drives_vertex may value)))
-
--- ---- entry by entry
-
-module _ (old : List ℕ) (at s low high : ℕ) (e : low ≡ at + s) (g : high ≡ low + s) where
-  pub joined_none : JoinedTo old at s 0 old
-  joined_none = record { beside = record { size = refl; low = λ k b. refl; high = λ k b. refl }; both = λ x l. absurd (omega arith) }
-
-  module _ (j : ℕ) (t : List ℕ) (fits : at + 3 * s ≤ length old) (l : j < s) (h : JoinedTo old at s j t) where
-    entry : ℕ
-    entry = bit_and (get_or t (low + j) 0) (get_or t (high + j) 0)
-
-    here : get_or (set t (at + j) entry) (at + j) 0 ≡ bit_and (get_or old (at + s + j) 0) (get_or old (at + 2 * s + j) 0)
-    unfolding entry
-    here =
-        let a : low + j ≡ at + s + j = omega arith in
-        let b : high + j ≡ at + 2 * s + j = omega arith in
-        get_or-set_same t (at + j) entry 0 (omega (arith, h.beside.size))
-        ∙ ap₂ bit_and (h.beside.high (low + j) (omega arith) ∙ ap (λ (x : ℕ). get_or old x 0) a) (h.beside.high (high + j) (omega arith) ∙ ap (λ (x : ℕ). get_or old x 0) b)
-
-    elsewhere : (k : ℕ) → (k ≡ at + j → ⊥) → get_or (set t (at + j) entry) k 0 ≡ get_or t k 0
-    elsewhere k d = get_or-set_other t (at + j) k entry 0 d
-
-    pub joined_next : JoinedTo old at s (j + 1) (set t (at + j) (bit_and (get_or t (low + j) 0) (get_or t (high + j) 0)))
-    unfolding entry
-    joined_next = record {
-      beside = record {
-        size = length-set t (at + j) entry ∙ h.beside.size;
-        low = λ k b. elsewhere k (λ q. omega arith) ∙ h.beside.low k b;
-        high = λ k b. elsewhere k (λ q. omega arith) ∙ h.beside.high k (omega arith);
-      };
-      both = λ x b. go x b (ℕ_discrete x j);
-    }
-      where
-        go : (x : ℕ) → x < j + 1 → Dec (x ≡ j) → get_or (set t (at + j) entry) (at + x) 0 ≡ bit_and (get_or old (at + s + x) 0) (get_or old (at + 2 * s + x) 0)
-        go x b (yes q) = subst⁻¹ (λ (y : ℕ). get_or (set t (at + j) entry) (at + y) 0 ≡ bit_and (get_or old (at + s + y) 0) (get_or old (at + 2 * s + y) 0)) q here
-        go x b (no d) = elsewhere (at + x) (λ q. d (omega arith)) ∙ h.both x (omega arith)
-
-  pub joined_all : (j : ℕ) (t : List ℕ) → s ≤ j → j ≤ s → JoinedTo old at s j t → Joined old at s t
-  joined_all j t a b h =
-      let q : j ≡ s = omega arith in
-      subst (λ (x : ℕ). JoinedTo old at s x t) q h
 
 -- ---- block by block
 

@@ -8,8 +8,9 @@ use mathlib.Core.Bool.{Bool, true, false, not, ◌&&◌}
 use mathlib.Core.List.{List}
 use borrow.Author.Count.{below_more}
 use lib.Bits.{bit_and}
-use lib.Dec.{T, eqb, ltb, eqb→eq, eqb_refl, T_not, not_T, lt→ltb}
+use lib.Dec.{T, eqb, eqb→eq, eqb_refl, T_not, not_T}
 use lib.ListN.{get_or}
+use Rattle.std.specs.Prelude.{Some, None}
 use Rattle.model.specs.Base.{bit}
 use Rattle.model.specs.Table.{Table, term}
 use Rattle.model.specs.Primes.{drives, prime}
@@ -49,15 +50,15 @@ module _ (care value w : ℕ) where
   no_literal : (i : ℕ) → w ≡ 2 ^ i → bit_and care w ≡ 0 → bit i care ≡ false
   no_literal i e z = T_false {b = bit i care} (not_T (bit i care) (λ t. omega (arith, (digit_bit i care).0 t, lacks_bit i w e care z)))
 
-  pub droppable_literal : (t : List ℕ) (m outputs : ℕ) (r : Bool) → (bit_and care w ≡ 0 → ⊥) → m ≡ cube_number (care - w) (bit_and value (care - w)) → r ≡ eqb (bit_and outputs (get_or t m 0)) outputs
+  pub droppable_literal : (t : List ℕ) (d outputs : ℕ) (r : Bool) → (bit_and care w ≡ 0 → ⊥) → d ≡ get_or t (cube_number (care - w) (bit_and value (care - w))) 0 → r ≡ eqb (bit_and outputs d) outputs
       → TellsDroppable t care value outputs w r
   unfolding droppable
-  droppable_literal t m outputs r y g f p i a e =
-      let d : get_or t m 0 ≡ drives p (care - 2 ^ i) (bit_and value (care - 2 ^ i)) =
-      ap (λ (x : ℕ). get_or t x 0) g
+  droppable_literal t d outputs r y g f p i a e =
+      let h : d ≡ drives p (care - 2 ^ i) (bit_and value (care - 2 ^ i)) =
+      g
       ∙ a.numbered.entries (care - w) (bit_and value (care - w)) (without_cube p.n care value w a.cube)
       ∙ ap (λ (x : ℕ). drives p (care - x) (bit_and value (care - x))) e in
-      f ∙ rw (d, T_true {b = bit i care} (literal i e y))
+      f ∙ rw (h, T_true {b = bit i care} (literal i e y))
 
   pub droppable_free : (t : List ℕ) (outputs : ℕ) → bit_and care w ≡ 0 → TellsDroppable t care value outputs w false
   unfolding droppable
@@ -122,16 +123,16 @@ module _ (table : List ℕ) (n care value d : ℕ) (k : Cube n care value) (is :
     numbered = subst⁻¹ (λ (x : ℕ). Numbered p x table) a.inputs a;
   }
 
-  never : (p : Table) (o : ℕ) → (T (prime p (term care value o)) → ⊥) → prime p (term care value o) ≡ (eqb o 0 && false)
-  never p o f = bool_ext (prime p (term care value o)) (eqb o 0 && false) (λ t. absurd (f t)) (λ t. absurd (and_r (eqb o 0) false t))
+  never : (p : Table) (o : ℕ) → (T (prime p (term care value o)) → ⊥) → prime p (term care value o) ≡ false
+  never p o f = T_false {b = prime p (term care value o)} (not_T (prime p (term care value o)) f)
 
   outs : (p : Table) → Numbered p n table → (o : ℕ) → T (prime p (term care value o)) → o ≡ d
   outs p a o t = (prime_local p (term care value o) t).outs ∙ sym (h p a)
 
-  pub prime_nothing : d ≡ 0 → PrimeOutputs table n care value 0
+  pub prime_nothing : d ≡ 0 → PrimeOutputs table n care value None
   prime_nothing z p a o = never p o (λ t. omega (arith, outs p a o t, (prime_local p (term care value o) t).formed.outputs_pos))
 
-  pub prime_droppable : (r : Bool) → SomeDroppable table care value d r → r ≡ true → PrimeOutputs table n care value 0
+  pub prime_droppable : (r : Bool) → SomeDroppable table care value d r → r ≡ true → PrimeOutputs table n care value None
   unfolding droppable
   prime_droppable r s e p a o = never p o (λ t.
       let q = subst (SomeDroppable table care value d) e s p (in_table p a) in
@@ -140,15 +141,15 @@ module _ (table : List ℕ) (n care value d : ℕ) (k : Cube n care value) (is :
       let y = and_r (bit q.0 care) (eqb (bit_and d w) d) q.1 in
       (prime_local p (term care value o) t).tight q.0 x (subst⁻¹ (λ (z : ℕ). Within z w) (outs p a o t) (test_within d w y)))
 
-  pub prime_all : (r : Bool) → (d ≡ 0 → ⊥) → SomeDroppable table care value d r → r ≡ false → PrimeOutputs table n care value d
+  pub prime_all : (r : Bool) → (d ≡ 0 → ⊥) → SomeDroppable table care value d r → r ≡ false → PrimeOutputs table n care value (Some d)
   unfolding droppable
-  prime_all r z s e p a o = bool_ext (prime p (term care value o)) (eqb o d && ltb 0 d) to back
+  prime_all r z s e p a o = bool_ext (prime p (term care value o)) (eqb o d) to back
     where
       pos : 0 < d
       pos = omega arith
 
-      to : T (prime p (term care value o)) → T (eqb o d && ltb 0 d)
-      to t = and_i (eqb o d) (ltb 0 d) (subst (λ (x : ℕ). T (eqb o x)) (outs p a o t) (eqb_refl o)) (lt→ltb 0 d pos)
+      to : T (prime p (term care value o)) → T (eqb o d)
+      to t = subst (λ (x : ℕ). T (eqb o x)) (outs p a o t) (eqb_refl o)
 
       locally : Locally p (term care value d)
       locally = record {
@@ -164,10 +165,9 @@ module _ (table : List ℕ) (n care value d : ℕ) (k : Cube n care value) (is :
             T_not (bit i care && eqb (bit_and d v) d) (subst (SomeDroppable table care value d) e s p (in_table p a) i) (and_i (bit i care) (eqb (bit_and d v) d) b (within_test d v w));
       }
 
-      back : T (eqb o d && ltb 0 d) → T (prime p (term care value o))
-      back t = subst⁻¹ (λ (x : ℕ). T (prime p (term care value x))) (eqb→eq o d (and_l (eqb o d) (ltb 0 d) t)) (local_prime p (term care value d) locally)
+      back : T (eqb o d) → T (prime p (term care value o))
+      back t = subst⁻¹ (λ (x : ℕ). T (prime p (term care value x))) (eqb→eq o d t) (local_prime p (term care value d) locally)
 
-pub prime_outside : (t : List ℕ) (n care value : ℕ) → (Within value care → ⊥) → PrimeOutputs t n care value 0
-prime_outside t n care value f p a o = bool_ext (prime p (term care value o)) (eqb o 0 && false)
-    (λ y. absurd (f (prime_local p (term care value o) y).formed.value_in))
-    (λ y. absurd (and_r (eqb o 0) false y))
+pub prime_outside : (t : List ℕ) (n care value : ℕ) → (Within value care → ⊥) → PrimeOutputs t n care value None
+prime_outside t n care value f p a o = T_false {b = prime p (term care value o)}
+    (not_T (prime p (term care value o)) (λ y. f (prime_local p (term care value o) y).formed.value_in))

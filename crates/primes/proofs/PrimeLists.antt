@@ -1,11 +1,12 @@
 -- The primes in the paper's order, cube by cube: what an array has of them. Walk has the loops.
 use Prim.Native.Nat.{ℕ, zero, suc, ◌+◌, ◌^◌, ◌≤◌, ◌<◌, min}
 use native.Mathlib.Omega.{arith}
-use mathlib.Core.Path.{◌≡◌, refl, sym, ap, ◌∙◌, subst, subst⁻¹}
-use mathlib.Core.Bool.{Bool, true, false, and-true, and-false}
+use mathlib.Core.Path.{◌≡◌, sym, ap, ◌∙◌, subst, subst⁻¹}
+use mathlib.Core.Bool.{Bool, true, false}
 use mathlib.Core.List.{List, [], ◌∷◌, ◌++◌, map, append-nil, append_assoc}
 use borrow.Author.Tests.{lt-ltb, le-ltb}
-use lib.Dec.{T, eqb, ltb, eqb_refl}
+use lib.Dec.{T, ltb, eqb_refl}
+use Rattle.std.specs.Prelude.{Some, None}
 use lib.ListN.{length, set, take, length-append, length-take}
 use lib.Seq.{take_all, take-append-le}
 use Rattle.model.specs.declared.Term.{Term}
@@ -34,18 +35,15 @@ primes_before p care value = up_to (prime p) (of_care p) care ++ up_to (prime p)
 
 -- ---- one cube: it has no prime, or one
 
-module _ (t : List ℕ) (n care value r : ℕ) (k : PrimeOutputs t n care value r) (p : Table) (h : Numbered p n t) where
-  cube_none : r ≡ 0 → filter (prime p) (of_cube p care value) ≡ []
-  cube_none e = passes_none (prime p) (term care value) (below (2 ^ p.m)) (λ o. k p h o ∙ rw (le-ltb 0 r (omega arith)) (and-false (eqb o r)))
+module _ (t : List ℕ) (n care value : ℕ) (p : Table) (h : Numbered p n t) where
+  cube_none : PrimeOutputs t n care value None → filter (prime p) (of_cube p care value) ≡ []
+  cube_none k = passes_none (prime p) (term care value) (below (2 ^ p.m)) (k p h)
 
-  cube_one : (r ≡ 0 → ⊥) → filter (prime p) (of_cube p care value) ≡ term care value r ∷ []
-  cube_one d = passes_one (prime p) (term care value) r only (2 ^ p.m) small
+  cube_one : (r : ℕ) → PrimeOutputs t n care value (Some r) → filter (prime p) (of_cube p care value) ≡ term care value r ∷ []
+  cube_one r k = passes_one (prime p) (term care value) r (k p h) (2 ^ p.m) small
     where
-      only : (o : ℕ) → prime p (term care value o) ≡ eqb o r
-      only o = k p h o ∙ rw (lt-ltb 0 r (omega arith)) (and-true (eqb o r))
-
       formed : Formed p (term care value r)
-      formed = legal_formed p (term care value r) (prime_e p (term care value r) (subst⁻¹ (λ (b : Bool). T b) (only r) (eqb_refl r))).0
+      formed = legal_formed p (term care value r) (prime_e p (term care value r) (subst⁻¹ (λ (b : Bool). T b) (k p h r) (eqb_refl r))).0
 
       small : r < 2 ^ p.m
       small = formed.outputs_lt
@@ -90,27 +88,27 @@ pub held_first : (t : List ℕ) (n : ℕ) (ts : List Term) (count : ℕ) → Fil
 held_first t n ts count f p h = f
 
 module _ (t : List ℕ) (n care : ℕ) (ts : List Term) (count : ℕ) where
-  held_none : (value r : ℕ) → Held t n care value ts count → PrimeOutputs t n care value r → r ≡ 0 → Held t n care (value + 1) ts count
-  held_none value r f k e p h =
+  held_none : (value : ℕ) → Held t n care value ts count → PrimeOutputs t n care value None → Held t n care (value + 1) ts count
+  held_none value f k p h =
       let same : primes_before p care (value + 1) ≡ primes_before p care value =
-      before_next p care value ∙ ap (λ (l : List Term). primes_before p care value ++ l) (cube_none t n care value r k p h e) ∙ append-nil (primes_before p care value) in
+      before_next p care value ∙ ap (λ (l : List Term). primes_before p care value ++ l) (cube_none t n care value p h k) ∙ append-nil (primes_before p care value) in
       subst⁻¹ (λ (l : List Term). Filled 64 l ts count) same (f p h)
 
-  pub held_one : (value r : ℕ) → Held t n care value ts count → PrimeOutputs t n care value r → (r ≡ 0 → ⊥) → count < 64 → Held t n care (value + 1) (set ts count (term care value r)) (count + 1)
-  held_one value r f k d l p h =
+  pub held_one : (value r : ℕ) → Held t n care value ts count → PrimeOutputs t n care value (Some r) → count < 64 → Held t n care (value + 1) (set ts count (term care value r)) (count + 1)
+  held_one value r f k l p h =
       let same : primes_before p care (value + 1) ≡ primes_before p care value ++ (term care value r ∷ []) =
-      before_next p care value ∙ ap (λ (l : List Term). primes_before p care value ++ l) (cube_one t n care value r k p h d) in
+      before_next p care value ∙ ap (λ (l : List Term). primes_before p care value ++ l) (cube_one t n care value p h r k) in
       subst⁻¹ (λ (l : List Term). Filled 64 l (set ts count (term care value r)) (count + 1)) same (filled_next 64 ts count (primes_before p care value) (term care value r) (f p h) l)
 
   -- values without primes
-  pub held_past : (d value : ℕ) → ((w : ℕ) → value ≤ w → w < value + d → PrimeOutputs t n care w 0) → Held t n care value ts count → Held t n care (value + d) ts count
+  pub held_past : (d value : ℕ) → ((w : ℕ) → value ≤ w → w < value + d → PrimeOutputs t n care w None) → Held t n care value ts count → Held t n care (value + d) ts count
   held_past zero value f x =
       let e : value ≡ value + 0 = omega arith in
       subst (λ (j : ℕ). Held t n care j ts count) e x
   held_past (suc d) value f x =
       let e : value + 1 + d ≡ value + suc d = omega arith in
       subst (λ (j : ℕ). Held t n care j ts count) e
-      (held_past d (value + 1) (λ w l m. f w (omega arith) (omega arith)) (held_none value 0 x (f value (omega arith) (omega arith)) refl))
+      (held_past d (value + 1) (λ w l m. f w (omega arith) (omega arith)) (held_none value x (f value (omega arith) (omega arith))))
 
   pub held_care : Held t n care (2 ^ n) ts count → Held t n (care + 1) 0 ts count
   held_care f p h =
@@ -125,14 +123,14 @@ module _ (t : List ℕ) (n care : ℕ) (ts : List Term) (count : ℕ) where
       let s : length (take count ts) ≡ length xs = ap length f.same in
       (sym f.counted, omega (arith, f.counted, f.size))
 
-  pub held_full : (value r : ℕ) → care < 2 ^ n → value < 2 ^ n → Held t n care value ts count → PrimeOutputs t n care value r → (r ≡ 0 → ⊥)
+  pub held_full : (value r : ℕ) → care < 2 ^ n → value < 2 ^ n → Held t n care value ts count → PrimeOutputs t n care value (Some r)
       → count ≡ 64 → PrimesBy t n (record { terms = ts; count = count; full = true })
-  held_full value r l v f k d e p h =
+  held_full value r l v f k e p h =
       let before : List Term = primes_before p care value in
       let behind : List Term = (term care value r ∷ []) ++ after p care (value + 1) in
       let all : primes p ≡ before ++ behind =
       before_after p care (value + 1) (subst⁻¹ (λ (x : ℕ). care < 2 ^ x) h.inputs l) (omega (arith, subst⁻¹ (λ (x : ℕ). value < 2 ^ x) h.inputs v))
-      ∙ ap (λ (x : List Term). x ++ after p care (value + 1)) (before_next p care value ∙ ap (λ (x : List Term). before ++ x) (cube_one t n care value r k p h d))
+      ∙ ap (λ (x : List Term). x ++ after p care (value + 1)) (before_next p care value ∙ ap (λ (x : List Term). before ++ x) (cube_one t n care value p h r k))
       ∙ append_assoc before (term care value r ∷ []) (after p care (value + 1)) in
       let c = counted (f p h) in
       let m : length (before ++ behind) ≡ length before + length behind = length-append before behind in

@@ -8,6 +8,7 @@ use mathlib.Core.Bool.{Bool, true, false, not}
 use mathlib.Core.List.{List, []}
 use lib.Dec.{T, T_not, not_T}
 use lib.ListN.{set}
+use Rattle.std.specs.Prelude.{Some, None}
 use lib.Pow.{pow_pos, pow_mono}
 use Rattle.model.specs.Base.{bit}
 use Rattle.model.specs.Sets.{Within}
@@ -20,7 +21,7 @@ use Rattle.primes.specs.declared.prime_list.PrimeList.{PrimeList}
 use Rattle.table.specs.Cubes.{Cube}
 use Rattle.primes.specs.Literals.{PrimeOutputs, CubePrime}
 use Rattle.primes.specs.Parts.{PartOrEnd, NotLast, NextPart}
-use Rattle.primes.specs.Primes.{FirstTerms, FirstPrime, PrimesBy}
+use Rattle.primes.specs.Primes.{FirstTerms, FirstFound, FirstPrime, PrimesBy}
 use Rattle.table.proofs.Halves.{set_adds}
 use Rattle.primes.proofs.Literals.{prime_outside}
 use Rattle.primes.proofs.PrimeLists.{Held, held_first, held_one, held_past, held_care, held_all, held_full}
@@ -63,7 +64,7 @@ module _ (n size care : ℕ) (e : size ≡ 2 ^ n) (l : care < 2 ^ n) where
     next_or_end = record { at_most = omega (arith, next_le); part = λ s. from_last r s q.part }
 
     -- between them is none
-    none_between : (t : List ℕ) (w : ℕ) → value + 1 ≤ w → w < r → PrimeOutputs t n care w 0
+    none_between : (t : List ℕ) (w : ℕ) → value + 1 ≤ w → w < r → PrimeOutputs t n care w None
     none_between t w c m = prime_outside t n care w (λ z. omega (arith, q.next w (to_last w z) (omega arith)))
 
 -- ---- the primes of one care
@@ -72,7 +73,7 @@ module _ (n size care : ℕ) (e : size ≡ 2 ^ n) (l : care < 2 ^ n) where
 pub record Passed (t : List ℕ) (n care value next : ℕ) : Type 0 where
   pub place : PartOrEnd n care next
   pub above : value ≤ next
-  pub none : (w : ℕ) → value ≤ w → w < next → PrimeOutputs t n care w 0
+  pub none : (w : ℕ) → value ≤ w → w < next → PrimeOutputs t n care w None
 
 module _ (t : List ℕ) (n care value : ℕ) where
   pub passed_first : PartOrEnd n care value → Passed t n care value value
@@ -86,28 +87,22 @@ module _ (t : List ℕ) (n care value : ℕ) where
       pub passed_eight : Cube 8 care next
       passed_eight = record { inputs = omega arith; care_lt = omega (arith, pow_mono i); value_in = here.value_in }
 
-      module _ (r : ℕ) (o : CubePrime t care next r) where
-        pub passed_found : (r ≡ 0 → ⊥) → FirstPrime t n care value (record { value = next; outputs = r })
-        passed_found d = record { above = h.above; none = h.none; here = o n here; cube = λ z. here; end = λ z. absurd (d z) }
+      pub passed_found : (r : ℕ) → CubePrime t care next (Some r) → FirstPrime t n care value (Some (record { value = next; outputs = r }))
+      passed_found r o = record { above = h.above; none = h.none; here = o n here; cube = here }
 
-        pub passed_next : (next' : ℕ) → r ≡ 0 → NextPart (care + size) next next' → Passed t n care value next'
-        passed_next next' z q = record { place = next_or_end n size care e l next next' s q; above = omega (arith, h.above, q.above); none = λ w a b. go w a b (dec_lt w next) (dec_lt next w) }
+      module _ (o : CubePrime t care next None) where
+        pub passed_next : (next' : ℕ) → NextPart (care + size) next next' → Passed t n care value next'
+        passed_next next' q = record { place = next_or_end n size care e l next next' s q; above = omega (arith, h.above, q.above); none = λ w a b. go w a b (dec_lt w next) (dec_lt next w) }
           where
-            go : (w : ℕ) → value ≤ w → w < next' → Dec (w < next) → Dec (next < w) → PrimeOutputs t n care w 0
+            go : (w : ℕ) → value ≤ w → w < next' → Dec (w < next) → Dec (next < w) → PrimeOutputs t n care w None
             go w a b (yes c) d = h.none w a c
             go w a b (no c) (yes d) = none_between n size care e l next next' s q t w (omega arith) b
             go w a b (no c) (no d) =
                 let f : next ≡ w = omega arith in
-                subst (λ (x : ℕ). PrimeOutputs t n care x 0) f (subst (PrimeOutputs t n care next) z (o n here))
+                subst (λ (x : ℕ). PrimeOutputs t n care x None) f (o n here)
 
-    pub passed_all : size ≤ next → FirstPrime t n care value (record { value = size; outputs = 0 })
-    passed_all s = record {
-      above = omega (arith, h.above, h.place.at_most);
-      none = λ w a b. h.none w a (omega arith);
-      here = prime_outside t n care size (λ w. omega (arith, within_le size care w));
-      cube = λ d. absurd (d refl);
-      end = λ z. e;
-    }
+    pub passed_all : size ≤ next → FirstPrime t n care value None
+    passed_all s w a b = h.none w a (omega arith)
 
 -- ---- all cares
 
@@ -139,7 +134,14 @@ module _ (t : List ℕ) (n size care value : ℕ) (list : PrimeList) (e : size �
       let c : care ≡ 2 ^ n = omega (arith, w.cares) in
       held_all t n list w.not_full (subst (λ (x : ℕ). Held t n x 0 list.terms list.count) c (subst (λ (x : ℕ). Held t n care x list.terms list.count) (w.end l) w.held))
 
-  module _ (l : care < size) (r : Found) (f : FirstPrime t n care value r) where
+  -- values without primes are passed
+  held_to : (k : ℕ) → value ≤ k → ((x : ℕ) → value ≤ x → x < k → PrimeOutputs t n care x None) → Held t n care k list.terms list.count
+  held_to k a f =
+      let d : value + (k - value) ≡ k = omega arith in
+      subst (λ (j : ℕ). Held t n care j list.terms list.count) d
+      (held_past t n care list.terms list.count (k - value) value (λ x b c. f x b (omega arith)) w.held)
+
+  module _ (l : care < size) where
     care_lt : care < 2 ^ n
     care_lt = omega arith
 
@@ -149,36 +151,33 @@ module _ (t : List ℕ) (n size care value : ℕ) (list : PrimeList) (e : size �
         let d : size - care ≡ suc (size - (care + 1)) = omega arith in
         ap (λ (x : ℕ). x * (size + 1)) d ∙ omega arith
 
-    held_there : Held t n care r.value list.terms list.count
-    held_there =
-        let d : value + (r.value - value) ≡ r.value = omega (arith, f.above) in
-        subst (λ (j : ℕ). Held t n care j list.terms list.count) d
-        (held_past t n care list.terms list.count (r.value - value) value (λ x a b. f.none x a (omega arith)) w.held)
-
     -- no prime is left of this care
-    pub walked_care : r.outputs ≡ 0 → Walked t n size (care + 1) 0 list
-    walked_care z = record {
+    pub walked_care : FirstPrime t n care value None → Walked t n size (care + 1) 0 list
+    walked_care f = record {
       cares = omega arith;
       place = none_within n (care + 1);
       end = λ x. refl;
       room = w.room;
       not_full = w.not_full;
-      held = held_care t n care list.terms list.count (subst (λ (x : ℕ). Held t n care x list.terms list.count) (f.end z) held_there);
+      held = held_care t n care list.terms list.count (held_to (2 ^ n) w.place.at_most f);
     }
 
     pub less_care : (size - (care + 1)) * (size + 1) - 0 < (size - care) * (size + 1) - value
     less_care = omega (arith, left, w.place.at_most)
 
-    module _ (d : r.outputs ≡ 0 → ⊥) where
+    module _ (r : Found) (f : FirstFound t n care value r) where
+      held_there : Held t n care r.value list.terms list.count
+      held_there = held_to r.value f.above f.none
+
       pub found_lt : r.value < size
-      found_lt = omega (arith, within_le r.value care (f.cube d).value_in)
+      found_lt = omega (arith, within_le r.value care f.cube.value_in)
 
       -- a 65th
       pub walked_full : list.count ≡ 64 → PrimesBy t n (record { terms = list.terms; count = list.count; full = true })
-      walked_full g = held_full t n care list.terms list.count r.value r.outputs care_lt (omega (arith, found_lt)) held_there f.here d g
+      walked_full g = held_full t n care list.terms list.count r.value r.outputs care_lt (omega (arith, found_lt)) held_there f.here g
 
       pub found_not_last : NotLast (care + size) (size - 1 - care) r.value
-      found_not_last = not_last n size care e care_lt (size - 1 - care) r.value refl found_lt (f.cube d).value_in
+      found_not_last = not_last n size care e care_lt (size - 1 - care) r.value refl found_lt f.cube.value_in
 
       module _ (next : ℕ) (q : NextPart (care + size) r.value next) where
         with_found : PrimeList
@@ -202,7 +201,7 @@ module _ (t : List ℕ) (n size care value : ℕ) (list : PrimeList) (e : size �
             sum = omega (arith, q.above)
 
             one : Held t n care (r.value + 1) (set list.terms list.count (term care r.value r.outputs)) (list.count + 1)
-            one = held_one t n care list.terms list.count r.value r.outputs held_there f.here d (omega (arith, w.room))
+            one = held_one t n care list.terms list.count r.value r.outputs held_there f.here (omega (arith, w.room))
 
         pub less_next : (size - care) * (size + 1) - next < (size - care) * (size + 1) - value
         less_next = omega (arith, f.above, q.above, next_le n size care e care_lt r.value next found_lt q, left)

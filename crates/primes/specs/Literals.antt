@@ -1,5 +1,5 @@
 -- What the contracts on a cube's prime cite.
-use Rattle.std.specs.Prelude.{ℕ, ◌-◌, ◌^◌, ◌≡◌, Bool, true, false, not, ◌&&◌, List, T, eqb, ltb}
+use Rattle.std.specs.Prelude.{ℕ, ◌-◌, ◌^◌, ◌≡◌, Bool, true, false, not, ◌&&◌, List, T, eqb, Option, Some, None}
 use Rattle.std.specs.Int.Bits.{bit_and}
 use Rattle.model.specs.Base.{bit}
 use Rattle.model.specs.Table.{Table, term}
@@ -27,10 +27,11 @@ abbrev pub SomeDroppable : List ℕ → ℕ → ℕ → ℕ → Bool → Type 0
 SomeDroppable t care value outputs true = (p : Table) → InTable p t care value → (i : ℕ) × T (droppable p care value outputs i)
 SomeDroppable t care value outputs false = (p : Table) → InTable p t care value → (i : ℕ) → T (not (droppable p care value outputs i))
 
--- the cube's prime is the one with outputs r; where r is 0 it has none
-abbrev pub PrimeOutputs : List ℕ → ℕ → ℕ → ℕ → ℕ → Type 0
-PrimeOutputs t n care value r = (p : Table) → Numbered p n t → (o : ℕ) → prime p (term care value o) ≡ (eqb o r && ltb 0 r)
+-- the cube's prime is the one with these outputs, or it has none
+abbrev pub PrimeOutputs : List ℕ → ℕ → ℕ → ℕ → Option ℕ → Type 0
+PrimeOutputs t n care value (Some r) = (p : Table) → Numbered p n t → (o : ℕ) → prime p (term care value o) ≡ eqb o r
+PrimeOutputs t n care value None = (p : Table) → Numbered p n t → (o : ℕ) → prime p (term care value o) ≡ false
 
 -- the same for each number of inputs that a table of such a cube has
-abbrev pub CubePrime : List ℕ → ℕ → ℕ → ℕ → Type 0
+abbrev pub CubePrime : List ℕ → ℕ → ℕ → Option ℕ → Type 0
 CubePrime t care value r = (n : ℕ) → Cube n care value → PrimeOutputs t n care value r

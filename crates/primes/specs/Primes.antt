@@ -1,5 +1,5 @@
 -- What the contracts on the list of primes cite.
-use Rattle.std.specs.Prelude.{ℕ, ◌^◌, ◌≤◌, ◌<◌, ◌≡◌, List, ltb, length, take}
+use Rattle.std.specs.Prelude.{ℕ, ◌^◌, ◌≤◌, ◌<◌, ◌≡◌, List, ltb, length, take, Option, Some, None}
 use Rattle.model.specs.declared.Term.{Term}
 use Rattle.model.specs.Table.{Table}
 use Rattle.model.specs.Primes.{primes}
@@ -10,13 +10,17 @@ use Rattle.table.specs.Cubes.{Allowed, Cube}
 use Rattle.primes.specs.Numbers.{Numbered}
 use Rattle.primes.specs.Literals.{PrimeOutputs}
 
--- r is the first prime of care whose value is not below the given one; where it has no outputs, there is none, and its value is 2^n
-pub record FirstPrime (t : List ℕ) (n care value : ℕ) (r : Found) : Type 0 where
+-- r is the first prime of care whose value is not below the given one
+pub record FirstFound (t : List ℕ) (n care value : ℕ) (r : Found) : Type 0 where
   pub above : value ≤ r.value
-  pub none : (w : ℕ) → value ≤ w → w < r.value → PrimeOutputs t n care w 0
-  pub here : PrimeOutputs t n care r.value r.outputs
-  pub cube : (r.outputs ≡ 0 → ⊥) → Cube n care r.value
-  pub end : r.outputs ≡ 0 → r.value ≡ 2 ^ n
+  pub none : (w : ℕ) → value ≤ w → w < r.value → PrimeOutputs t n care w None
+  pub here : PrimeOutputs t n care r.value (Some r.outputs)
+  pub cube : Cube n care r.value
+
+-- the same, or there is none
+abbrev pub FirstPrime : List ℕ → ℕ → ℕ → ℕ → Option Found → Type 0
+FirstPrime t n care value (Some r) = FirstFound t n care value r
+FirstPrime t n care value None = (w : ℕ) → value ≤ w → w < 2 ^ n → PrimeOutputs t n care w None
 
 -- r has the first 64 of the terms ts, and tells whether there are more
 pub record FirstTerms (ts : List Term) (r : PrimeList) : Type 0 where

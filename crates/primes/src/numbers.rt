@@ -4,26 +4,29 @@ ghost use Rattle.table.specs.Cubes.{Cube};
 ghost use Rattle.model.specs.Numbers.{cube_number, spread};
 ghost use Rattle.primes.specs.Numbers.{Spreads};
 
+// For each byte the sum of 3^i over its ones.
+#[derive(Drop)]
+pub struct SpreadTable {
+    pub entries: [u16; 256],
+    pub ghost right: { Spreads entries },
+}
+
 // The constant table. It is copied here once and lent from then on: each use of a constant array copies it whole.
-pub fn spreads() -> [u16; 256]
-    ensures { Spreads result }
-{
-    SPREAD
+pub fn spreads() -> SpreadTable {
+    SpreadTable { entries: SPREAD }
 }
 
 // The sum of 3^i over the ones of a byte.
-pub fn spread(spreads: &[u16; 256], b: usize) -> usize
-    requires spreads { Spreads spreads.now }
-    requires b_bound { b < 256 }
+pub fn spread(spreads: &SpreadTable, b: usize) -> usize
+    requires { b < 256 }
     ensures { result ≡ spread b }
 {
-    spreads[b] as usize
+    usize::from(spreads.entries[b])
 }
 
 // The number of a cube: care counts each fixed input once, value once more where it is fixed at 1.
-pub fn number(spreads: &[u16; 256], care: usize, value: usize) -> usize
-    requires spreads { Spreads spreads.now }
-    requires cube { Cube 8 care value }
+pub fn number(spreads: &SpreadTable, care: usize, value: usize) -> usize
+    requires { Cube 8 care value }
     ensures { result ≡ cube_number care value }
 {
     spread(spreads, care) + spread(spreads, value)

@@ -20,7 +20,9 @@ use Rattle.model.proofs.Presence.{presence_all}
 use Rattle.model.proofs.Pricing.{presence_untouched}
 use Rattle.model.specs.Products.{products, has_too_many}
 use Rattle.model.proofs.ProductsSame.{rows_products, rows_too_many}
+use Rattle.product.specs.declared.TooMany.{TooMany}
 use Rattle.product.specs.Outcome.{RowsBelow, MultipliedTo, MultipliedRows}
+use Rattle.std.proofs.Common.{Result, MatchResult, IfOk, true, false}
 use Rattle.rows.specs.Reduction.{Reduced}
 use Rattle.rows.proofs.Same.{reduced_irredundants, reduced_cheapest, reduced_coverable}
 use Rattle.rows.specs.Covers.{row_covers}
@@ -130,15 +132,15 @@ pub stocked : (p : Problem) (held : List ℕ) (q : model.Problem) → Holds p q 
 stocked p held q h b = record { cands = q.cands; stored = held_cands p held q h b }
 
 -- of the rows of the cells, as of the problem itself
-pub multiplied : {p : Problem} {held out : List ℕ} {k : ℕ} → CellRows p held out k → (n : ℕ) → n ≡ p.candidates.count → (first second row : MutBor (List ℕ)) (number count : ℕ)
-    → MultipliedRows n (take k out) first second row number count → Multiplies p held first second row number count
-multiplied {p} {out = out} {k} c n e first second row number count m q h b = record {
-  told = o.told ∙ rw many;
+pub multiplied : {p : Problem} {held out : List ℕ} {k : ℕ} → CellRows p held out k → (n : ℕ) → n ≡ p.candidates.count → (first second row : MutBor (List ℕ)) (outcome : Result ℕ TooMany)
+    → MultipliedRows n (take k out) first second row outcome → Multiplies p held first second row outcome
+multiplied {p} {out = out} {k} c n e first second row outcome m q h b = record {
+  told = subst (λ (t : Bool). MatchResult outcome (λ i. t ≡ false) (λ f. t ≡ true)) many o.told;
   which = o.which ∙ rw (many, length-map (on_cells (table_of q)) (row_of candidate_holds q.cands));
   size = o.size;
   within = o.within;
-  counted = o.counted ∙ rw (many, last);
-  sets = o.sets ∙ rw (many, last);
+  counted = subst (λ (ps : List ℕ). IfOk outcome (λ i. i ≡ length ps)) last o.counted;
+  sets = subst (λ (ps : List ℕ). IfOk outcome (λ i. take i row.now ≡ ps)) last o.sets;
 }
   where
     zeros : List ℕ
@@ -150,8 +152,8 @@ multiplied {p} {out = out} {k} c n e first second row number count m q h b = rec
     cells : List ℕ
     cells = map (row_of candidate_holds q.cands) (on_cells (table_of q))
 
-    o : MultipliedTo (of_rows zeros cells) first second row number count
-    o = subst (λ (rows : List ℕ). MultipliedTo (of_rows zeros rows) first second row number count) (c.rows q h b) m
+    o : MultipliedTo (of_rows zeros cells) first second row outcome
+    o = subst (λ (rows : List ℕ). MultipliedTo (of_rows zeros rows) first second row outcome) (c.rows q h b) m
 
     many : has_too_many (of_rows zeros cells) ≡ has_too_many (covering (basis_of q))
     many = rows_too_many (covering (basis_of q)) zeros long

@@ -3,19 +3,16 @@ use Prim.Native.Nat.{ℕ, ◌^◌, ◌≤◌, ◌<◌}
 use native.Mathlib.Omega.{arith}
 use native.Mathlib.Decide.{dec_lt}
 use mathlib.Core.Path.{◌≡◌, refl, sym, ap, ◌∙◌, subst, subst⁻¹}
-use mathlib.Core.Bool.{Bool, true, false, not, ◌&&◌, ◌||◌}
+use mathlib.Core.Bool.{Bool, true, false, not, ◌||◌}
 use mathlib.Core.List.{List, [], ◌∷◌}
-use borrow.Author.Tests.{lt-ltb, le-ltb, le-leb, lt-leb, leb-false}
-use lib.Bits.{bit_and}
+use borrow.Author.Tests.{le-leb, leb-false}
 use lib.Dec.{T, leb, ltb}
 use lib.ListN.{get_or}
 use lib.Pow.{pow_mono}
 use Rattle.model.specs.declared.Term.{Term}
 use Rattle.model.specs.declared.Block.{Block}
-use Rattle.model.specs.declared.Prices.{Prices}
 use Rattle.model.specs.Table.{Table, formed, holds_no_off}
 use Rattle.model.specs.Blocks.{block_formed, block_holds_no_off}
-use Rattle.model.specs.Ranges.{between}
 use Rattle.model.specs.Commands as model
 use Rattle.model.specs.Commands.{Context, Row, table_of}
 use Rattle.model.specs.Refusals as model·refusals
@@ -30,83 +27,7 @@ use Rattle.problem.specs.declared.Problem.{Problem}
 use Rattle.problem.specs.Problems.{Sized, Holds}
 use Rattle.problem.specs.Refusing.{is_taken, row_refusals, term_refusals, TermRefusal, block_refusals, BlockRefusal}
 
--- ---- sizes
-
-pub size_yes : (k : ℕ) → 1 ≤ k → leb k 8 ≡ size k
-size_yes k l = rw (le-leb 1 k l)
-
-pub size_no : (k : ℕ) → k < 1 → false ≡ size k
-size_no k l = rw (lt-leb 1 k l)
-
-pub init_passed : (n m : ℕ) (a b : Bool) → a ≡ size n → b ≡ size m → a ≡ true → b ≡ true → 0 ≡ first_of (refuse 6 (not (size n && size m)) ∷ [])
-init_passed n m a b e f p q = rw (← e, ← f, p, q)
-
-pub init_outputs : (n m : ℕ) (a b : Bool) → a ≡ size n → b ≡ size m → a ≡ true → b ≡ false → 6 ≡ first_of (refuse 6 (not (size n && size m)) ∷ [])
-init_outputs n m a b e f p q = rw (← e, ← f, p, q)
-
-pub init_inputs : (n m : ℕ) (a : Bool) → a ≡ size n → a ≡ false → 6 ≡ first_of (refuse 6 (not (size n && size m)) ∷ [])
-init_inputs n m a e p = rw (← e, p)
-
--- ---- prices
-
-module _ (w : Prices) where
-  pub dear_term : 50 < w.term → 16 ≡ first_of (refuse 16 (dear w) ∷ [])
-  dear_term l = rw (lt-ltb 50 w.term l)
-
-  pub dear_literal : w.term ≤ 50 → 50 < w.literal → 16 ≡ first_of (refuse 16 (dear w) ∷ [])
-  dear_literal k l = rw (le-ltb 50 w.term k, lt-ltb 50 w.literal l)
-
-  pub dear_connection : w.term ≤ 50 → w.literal ≤ 50 → 50 < w.connection → 16 ≡ first_of (refuse 16 (dear w) ∷ [])
-  dear_connection k h l = rw (le-ltb 50 w.term k, le-ltb 50 w.literal h, lt-ltb 50 w.connection l)
-
-  pub dear_none : w.term ≤ 50 → w.literal ≤ 50 → w.connection ≤ 50 → 0 ≡ first_of (refuse 16 (dear w) ∷ [])
-  dear_none k h l = rw (le-ltb 50 w.term k, le-ltb 50 w.literal h, le-ltb 50 w.connection l)
-
--- ---- ranges
-
-module _ (low high : ℕ) where
-  pub range_crossed : high < low → 19 ≡ first_of (refuse 19 (bad_range (between low high)) ∷ [])
-  range_crossed l = rw (lt-ltb high low l)
-
-  pub range_high : low ≤ high → 850 < high → 19 ≡ first_of (refuse 19 (bad_range (between low high)) ∷ [])
-  range_high k l = rw (le-ltb high low k, lt-ltb 850 high l)
-
-  pub range_good : low ≤ high → high ≤ 850 → 0 ≡ first_of (refuse 19 (bad_range (between low high)) ∷ [])
-  range_good k l = rw (le-ltb high low k, le-ltb 850 high l)
-
 -- ---- rows
-
-pub bad_shared : (m on dc : ℕ) → 0 < bit_and on dc → true ≡ bad_row m on dc
-bad_shared m on dc l = rw (lt-ltb 0 (bit_and on dc) l)
-
-or_true : (a : Bool) → (a || true) ≡ true
-or_true true = refl
-or_true false = refl
-
-pub bad_on : (m on dc top w : ℕ) → top ≡ 2 ^ m → w ≡ on → top ≤ w → true ≡ bad_row m on dc
-bad_on m on dc top w e f l = rw (← e, ← f, le-leb top w l) (sym (or_true (ltb 0 (bit_and w dc))))
-
-pub bad_dc : (m on dc top w u : ℕ) → bit_and on dc ≤ 0 → top ≡ 2 ^ m → w ≡ on → w < top → u ≡ dc → leb top u ≡ bad_row m on dc
-bad_dc m on dc top w u n e f l g = rw (le-ltb 0 (bit_and on dc) n, ← e, ← f, lt-leb top w l, g)
-
-pub taken_past : (n : ℕ) (given : List ℕ) (v top i : ℕ) → top ≡ 2 ^ n → i ≡ v → top ≤ i → true ≡ is_taken n given v
-unfolding is_taken
-taken_past n given v top i e f l = rw (le-leb (2 ^ n) v (omega (arith, e)))
-
-pub taken_row : (n : ℕ) (given : List ℕ) (v top i : ℕ) → top ≡ 2 ^ n → i ≡ v → i < top → ltb 0 (get_or given i 0) ≡ is_taken n given v
-unfolding is_taken
-taken_row n given v top i e f l = rw (lt-leb (2 ^ n) v (omega (arith, e)), f)
-
-module _ (n m : ℕ) (given : List ℕ) (v on dc : ℕ) (t : Bool) (taken : t ≡ is_taken n given v) where
-  pub row_taken : t ≡ true → 7 ≡ first_of (row_refusals n m given v on dc)
-  row_taken e = rw (← taken, e)
-
-  module _ (e : t ≡ false) (b : Bool) (bad : b ≡ bad_row m on dc) where
-    pub row_bad : b ≡ true → 8 ≡ first_of (row_refusals n m given v on dc)
-    row_bad f = rw (← taken, e, ← bad, f)
-
-    pub row_good : b ≡ false → 0 ≡ first_of (row_refusals n m given v on dc)
-    row_good f = rw (← taken, e, ← bad, f)
 
 -- where neither applies the vertex is below 2^n, and so a byte
 pub row_vertex : (n m : ℕ) (given : List ℕ) (v on dc : ℕ) → n ≤ 8 → 0 ≡ first_of (row_refusals n m given v on dc) → v < 256
@@ -160,18 +81,12 @@ module _ (no : ℕ) (well none_off : Table → Bool) (may : List ℕ) (n m : ℕ
   abbrev Here : (Table → Bool) → Bool → Type 0
   Here g f = (p : Table) → Allowed p n may → p.m ≡ m → f ≡ g p
 
-  not_formed : (f : Bool) → Here well f → f ≡ false → Told no
-  not_formed f w k p a o = rw (← w p a o, k)
-
   off_or_not : (f : Bool) → Here well f → f ≡ true → (g : Bool) → Here none_off g → (g ≡ false → Told 10) × (g ≡ true → Told 0)
   off_or_not f w k g h = (λ i p a o. rw (← w p a o, k, ← h p a o, i), λ i p a o. rw (← w p a o, k, ← h p a o, i))
 
 module _ (may : List ℕ) (n m : ℕ) (t : Term) (f : Bool) (formed_is : TellsFormed n m t f) where
   formed_here : (p : Table) → Allowed p n may → p.m ≡ m → f ≡ formed p t
   formed_here p a o = formed_is p a.inputs o
-
-  pub term_malformed : f ≡ false → TermRefusal may n m t 9
-  term_malformed = not_formed 9 (λ p. formed p t) (λ p. holds_no_off p t) may n m f formed_here
 
   module _ (g : Bool) (no_off : TellsNoOff may n t g) (k : f ≡ true) where
     term_told : (g ≡ false → TermRefusal may n m t 10) × (g ≡ true → TermRefusal may n m t 0)
@@ -187,9 +102,6 @@ module _ (may : List ℕ) (n m : ℕ) (t : Term) (f : Bool) (formed_is : TellsFo
 module _ (may : List ℕ) (n m : ℕ) (b : Block) (f : Bool) (formed_is : TellsBlockFormed n m b f) where
   block_formed_here : (p : Table) → Allowed p n may → p.m ≡ m → f ≡ block_formed p b
   block_formed_here p a o = formed_is p a.inputs o
-
-  pub block_malformed : f ≡ false → BlockRefusal may n m b 18
-  block_malformed = not_formed 18 (λ p. block_formed p b) (λ p. block_holds_no_off p b) may n m f block_formed_here
 
   module _ (g : Bool) (no_off : TellsBlockNoOff may n b g) (k : f ≡ true) where
     block_told : (g ≡ false → BlockRefusal may n m b 10) × (g ≡ true → BlockRefusal may n m b 0)

@@ -1,5 +1,5 @@
 -- What the contracts on the covering matrix cite.
-use Rattle.std.specs.Prelude.{ℕ, ◌≤◌, ◌≡◌, Bool, List, map, length, take, replicate}
+use Rattle.std.specs.Prelude.{ℕ, ◌≤◌, ◌≡◌, Bool, List, Result, map, length, take, replicate}
 use denote.Ref.{MutBor}
 use Rattle.model.specs.Table.{on_cells}
 use Rattle.model.specs.Sets.{coverable, irredundants, cheapest, row_of, of_rows}
@@ -8,6 +8,7 @@ use Rattle.model.specs.Candidates.{candidate_holds, Basis, weigh, covering}
 use Rattle.model.specs.Commands as model
 use Rattle.model.specs.Commands.{table_of, basis_of}
 use Rattle.incidence.specs.Stored.{BlocksAt}
+use Rattle.product.specs.declared.TooMany.{TooMany}
 use Rattle.product.specs.Outcome.{RowsBelow, MultipliedTo}
 use Rattle.problem.specs.declared.Problem.{Problem}
 use Rattle.problem.specs.declared.matrix.Matrix.{Matrix}
@@ -48,5 +49,5 @@ pub record Prepares (p : Problem) (held out : List ℕ) (m : Matrix) : Type 0 wh
   pub matrix : (q : model.Problem) → Holds p q → BlocksAt q.cands held → MatrixOf (basis_of q) (take m.count out) m.covered
 
 -- what the multiplication of the problem that p and held hold tells and hands back
-abbrev pub Multiplies : Problem → List ℕ → MutBor (List ℕ) → MutBor (List ℕ) → MutBor (List ℕ) → ℕ → ℕ → Type 0
-Multiplies p held first second row number count = (q : model.Problem) → Holds p q → BlocksAt q.cands held → MultipliedTo (covering (basis_of q)) first second row number count
+abbrev pub Multiplies : Problem → List ℕ → MutBor (List ℕ) → MutBor (List ℕ) → MutBor (List ℕ) → Result ℕ TooMany → Type 0
+Multiplies p held first second row outcome = (q : model.Problem) → Holds p q → BlocksAt q.cands held → MultipliedTo (covering (basis_of q)) first second row outcome

@@ -11,12 +11,9 @@ pub fn put_rows(p: Problem, held: &[u64; 256], out: &mut [u64]) -> usize
     requires out_len { length out.old ≡ 2048 }
     ensures { CellRows p held.now out.new result }
 {
-    let on = p.rows.on;
-    let terms = p.candidates.terms;
     incidence::rows::rows(
-        &on,
-        terms,
-        p.candidates.count,
+        &p.rows.on,
+        &p.candidates.terms[..p.candidates.count],
         p.candidates.blocks,
         held,
         p.settings.n,

@@ -6,12 +6,14 @@
 // proofs/Keeping says that the record goes on holding the problem of the definitions.
 #![tactic(auto)]
 
-ghost use Rattle.std.specs.Prelude.{◌≡◌, ◌≤◌, ◌<◌, max};
+ghost use Rattle.std.specs.Prelude.{◌≡◌, ◌≤◌, ◌<◌, length};
 ghost use Rattle.model.specs.Candidates.{usual};
-ghost use Rattle.model.specs.Commands as model;
-ghost use Rattle.problem.specs.Problems.{no_problem, started_with, at_place, with_prices, with_rows, with_candidates, term_put, block_put, range_put, entries_without, candidate_taken, WithPrimes};
+ghost use Rattle.model.specs.Places.{later};
+ghost use Rattle.model.specs.declared.place.Place.TheVariants.{InPrices, AmongRows, InCandidates, Queried};
+ghost use Rattle.problem.specs.Problems.{no_problem, started_with, at_place, with_prices, with_rows, with_candidates, entry_put, term_put, block_put, range_put, entries_without, candidate_taken, WithPrimes};
 
 use bits::set;
+use model::place::Place;
 use model::{Block, Prices, Term};
 use primes::prime_list::PrimeList;
 
@@ -38,7 +40,8 @@ pub struct TableRows {
 }
 
 // The candidates: the first `count` terms, beside each its weight and the ends of the weight's range, and the set of those that are blocks. The
-// term of a block has its outputs alone.
+// term of a block has its outputs alone. (Fixed arrays, since no heap is used here, and one for each field: the weights, and the ends of the
+// ranges, are lent to a search as slices of their own.)
 #[derive(Clone, Copy)]
 pub struct Candidates {
     pub terms: [Term; 64],
@@ -52,7 +55,7 @@ pub struct Candidates {
 // The record, with its place in the job.
 #[derive(Clone, Copy)]
 pub struct Problem {
-    pub place: u8,
+    pub place: Place,
     pub settings: Settings,
     pub rows: TableRows,
     pub candidates: Candidates,
@@ -62,7 +65,7 @@ pub struct Problem {
 pub fn empty() -> Problem
     ensures { result ≡ no_problem }
 {
-    started(0, 0, 0)
+    started(0, 0, Place::Start)
 }
 
 // The prices without a W.
@@ -77,14 +80,14 @@ pub fn usual_prices() -> Prices
 }
 
 // n inputs and m outputs, with no row and no candidate.
-pub fn started(n: u8, m: u8, place: u8) -> Problem
+pub fn started(n: u8, m: u8, place: Place) -> Problem
     ensures { result ≡ started_with n m place }
 {
     Problem {
-        place: place,
+        place,
         settings: Settings {
-            n: n,
-            m: m,
+            n,
+            m,
             prices: usual_prices(),
         },
         rows: TableRows {
@@ -93,11 +96,7 @@ pub fn started(n: u8, m: u8, place: u8) -> Problem
             given: [0; 256],
         },
         candidates: Candidates {
-            terms: [Term {
-                care: 0,
-                value: 0,
-                outputs: 0,
-            }; 64],
+            terms: [Term::default(); 64],
             weights: [0; 64],
             lows: [0; 64],
             highs: [0; 64],
@@ -108,159 +107,106 @@ pub fn started(n: u8, m: u8, place: u8) -> Problem
 }
 
 // With these prices: what W leaves.
-pub fn with_prices(p: Problem, w: Prices) -> Problem
-    ensures { result ≡ at_place model.in_prices (with_prices w p) }
+pub fn with_prices(mut p: Problem, w: Prices) -> Problem
+    ensures { result ≡ at_place InPrices (with_prices w p) }
 {
-    let settings = Settings {
-        n: p.settings.n,
-        m: p.settings.m,
-        prices: w,
-    };
-    let mut q = p;
-    q.settings = settings;
-    q.place = 2;
-    q
+    p.settings.prices = w;
+    p.place = Place::InPrices;
+    p
 }
 
-// With these rows: what a row of R or B leaves.
+// With these rows: what a row of R or B leaves. (So the rows of p are not copied.)
 pub fn with_rows(p: Problem, rows: TableRows) -> Problem
-    ensures { result ≡ at_place model.among_rows (with_rows rows p) }
+    ensures { result ≡ at_place AmongRows (with_rows rows p) }
 {
-    let settings = p.settings;
-    let candidates = p.candidates;
     Problem {
-        place: 3,
-        settings: settings,
-        rows: rows,
-        candidates: candidates,
+        place: Place::AmongRows,
+        rows,
+        ..p
     }
 }
 
 // The place of a candidate, or the later one that the job is at.
-fn candidate_place(place: u8) -> u8
-    ensures { result ≡ max place model.in_candidates }
+fn candidate_place(place: Place) -> Place
+    ensures { result ≡ later place InCandidates }
 {
-    if place < 4 {
-        return 4;
-    }
-    place
+    place.max(Place::InCandidates)
 }
 
-// With one candidate more, a term and what it costs, which both ends of its range equal: what T and A leave. (The same lines as in
-// `with_block`: a function for both copies the candidates once more.)
-pub fn with_term(p: Problem, t: Term) -> Problem
+impl Candidates {
+    // Puts an entry behind the others, with its weight, which both ends of its range equal.
+    #[tactic(auto, unfolding(crate::specs::Problems::entry_put))]
+    fn put(&mut self, t: Term, weight: u16)
+        requires { self.old.count < 64 }
+        ensures { self.new ≡ entry_put self.old t weight self.old.blocks }
+    {
+        let i = self.count;
+        self.terms[i] = t;
+        self.weights[i] = weight;
+        self.lows[i] = weight;
+        self.highs[i] = weight;
+        self.count = i + 1;
+    }
+}
+
+// With one candidate more, a term and what it costs: what T and A leave.
+pub fn with_term(mut p: Problem, t: Term) -> Problem
     requires { p.candidates.count < 64 }
-    ensures { result ≡ at_place (max p.place model.in_candidates) (with_candidates (term_put p.settings.prices p.candidates t) p) }
+    ensures { result ≡ at_place (later p.place InCandidates) (with_candidates (term_put p.settings.prices p.candidates t) p) }
 {
-    let prices = p.settings.prices;
-    let mut candidates = p.candidates;
-    let i = candidates.count;
-    candidates.terms[i] = t;
-    let w = weights::weight(prices, t);
-    candidates.weights[i] = w;
-    candidates.lows[i] = w;
-    candidates.highs[i] = w;
-    candidates.count = i + 1;
-    let place = candidate_place(p.place);
-    let mut q = p;
-    q.candidates = candidates;
-    q.place = place;
-    q
+    let weight = weights::weight(p.settings.prices, t);
+    p.candidates.put(t, weight);
+    p.place = candidate_place(p.place);
+    p
 }
 
 // With one candidate more, a block and its own weight: what F leaves.
-pub fn with_block(p: Problem, b: Block) -> Problem
+pub fn with_block(mut p: Problem, b: Block) -> Problem
     requires { p.candidates.count < 64 }
-    ensures { result ≡ at_place (max p.place model.in_candidates) (with_candidates (block_put p.candidates b) p) }
+    ensures { result ≡ at_place (later p.place InCandidates) (with_candidates (block_put p.candidates b) p) }
 {
     let entry = Term {
-        care: 0,
-        value: 0,
         outputs: b.outputs,
+        ..Term::default()
     };
-    let mut candidates = p.candidates;
-    let i = candidates.count;
-    candidates.terms[i] = entry;
-    candidates.weights[i] = b.weight;
-    candidates.lows[i] = b.weight;
-    candidates.highs[i] = b.weight;
-    candidates.blocks = candidates.blocks | set::power(i as u64);
-    candidates.count = i + 1;
-    let place = candidate_place(p.place);
-    let mut q = p;
-    q.candidates = candidates;
-    q.place = place;
-    q
+    p.candidates.blocks |= set::power(p.candidates.count as u64);
+    p.candidates.put(entry, b.weight);
+    p.place = candidate_place(p.place);
+    p
 }
 
-// The first `count` terms without term k: those above it move down by one.
-fn terms_without(terms: [Term; 64], count: usize, k: usize) -> [Term; 64]
-    requires { (k < count) × (count ≤ 64) }
-    ensures { result ≡ entries_without k count terms }
+// Takes entry k out of the first `count`: those above it move down by one.
+fn take_out<T: Copy>(entries: &mut [T], count: usize, k: usize)
+    requires { (k < count) × (count ≤ length entries.old) }
+    ensures { entries.new ≡ entries_without k count entries.old }
 {
-    let mut ts = terms;
-    let mut i = k;
-    while i + 1 < count {
-        ts[i] = ts[i + 1];
-        i += 1;
-    }
-    ts
-}
-
-// The same of weights, or of one end of their ranges.
-fn weights_without(weights: [u16; 64], count: usize, k: usize) -> [u16; 64]
-    requires { (k < count) × (count ≤ 64) }
-    ensures { result ≡ entries_without k count weights }
-{
-    let mut ws = weights;
-    let mut i = k;
-    while i + 1 < count {
-        ws[i] = ws[i + 1];
-        i += 1;
-    }
-    ws
+    entries.copy_within(k + 1..count, k);
 }
 
 // Without candidate k: those above move down by one, each with its weight and its range. What D leaves.
-pub fn without_candidate(p: Problem, k: usize) -> Problem
+pub fn without_candidate(mut p: Problem, k: usize) -> Problem
     requires { (k < p.candidates.count) × (p.candidates.count ≤ 64) }
     ensures { result ≡ with_candidates (candidate_taken p.candidates k) p }
 {
     let count = p.candidates.count;
-    let blocks = set::removed(p.candidates.blocks, k as u64);
-    let terms = p.candidates.terms;
-    let weights = p.candidates.weights;
-    let lows = p.candidates.lows;
-    let highs = p.candidates.highs;
-    let ts = terms_without(terms, count, k);
-    let ws = weights_without(weights, count, k);
-    let ls = weights_without(lows, count, k);
-    let hs = weights_without(highs, count, k);
-    let candidates = Candidates {
-        terms: ts,
-        weights: ws,
-        lows: ls,
-        highs: hs,
-        blocks: blocks,
-        count: count - 1,
-    };
-    let mut q = p;
-    q.candidates = candidates;
-    q
+    take_out(&mut p.candidates.terms, count, k);
+    take_out(&mut p.candidates.weights, count, k);
+    take_out(&mut p.candidates.lows, count, k);
+    take_out(&mut p.candidates.highs, count, k);
+    p.candidates.blocks = set::removed(p.candidates.blocks, k as u64);
+    p.candidates.count = count - 1;
+    p
 }
 
 // With another range for candidate k: what G leaves.
-pub fn with_range(p: Problem, k: usize, low: u16, high: u16) -> Problem
+pub fn with_range(mut p: Problem, k: usize, low: u16, high: u16) -> Problem
     requires { k < 64 }
-    ensures { result ≡ at_place model.queried (with_candidates (range_put p.candidates k low high) p) }
+    ensures { result ≡ at_place Queried (with_candidates (range_put p.candidates k low high) p) }
 {
-    let mut candidates = p.candidates;
-    candidates.lows[k] = low;
-    candidates.highs[k] = high;
-    let mut q = p;
-    q.candidates = candidates;
-    q.place = 5;
-    q
+    p.candidates.lows[k] = low;
+    p.candidates.highs[k] = high;
+    p.place = Place::Queried;
+    p
 }
 
 // With the primes as its candidates, and their weights, which both ends of each range equal: what P leaves.
@@ -268,31 +214,25 @@ pub fn with_primes(p: Problem, primes: PrimeList) -> Problem
     requires { primes.count ≤ 64 }
     ensures { WithPrimes p primes result }
 {
-    let terms = primes.terms;
-    let count = primes.count;
-    let settings = p.settings;
-    let weights = weights::weights(settings.prices, terms, count);
-    let rows = p.rows;
+    let weights = weights::weights(p.settings.prices, &primes.terms[..primes.count]);
     Problem {
-        place: 5,
-        settings: settings,
-        rows: rows,
+        place: Place::Queried,
         candidates: Candidates {
-            terms: terms,
-            weights: weights,
+            terms: primes.terms,
+            weights,
             lows: weights,
             highs: weights,
             blocks: 0,
-            count: count,
+            count: primes.count,
         },
+        ..p
     }
 }
 
 // Behind an L, a V, a C or an N.
-pub fn after_query(p: Problem) -> Problem
-    ensures { result ≡ at_place model.queried p }
+pub fn after_query(mut p: Problem) -> Problem
+    ensures { result ≡ at_place Queried p }
 {
-    let mut q = p;
-    q.place = 5;
-    q
+    p.place = Place::Queried;
+    p
 }

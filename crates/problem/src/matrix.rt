@@ -8,7 +8,8 @@ use bits::set;
 use incidence::presence;
 use rows::reduction;
 
-// How many rows stand in front of the array that they were put into, and whether each on cell is held by a candidate: 12 does not apply.
+// How many rows stand in front of the array that they were put into, and whether each on cell is held by a candidate: 12 does not apply. The rows
+// stand there either way, so `covered` is no None.
 #[derive(Clone, Copy)]
 pub struct Matrix {
     pub count: usize,
@@ -20,13 +21,10 @@ pub fn is_covered(p: Problem, held: &[u64; 256]) -> bool
     requires { Sized p }
     ensures { PresenceOfAll p held.now result }
 {
-    let on = p.rows.on;
-    let terms = p.candidates.terms;
     let all = set::low_mask(p.candidates.count as u64);
     presence::presence(
-        &on,
-        terms,
-        p.candidates.count,
+        &p.rows.on,
+        &p.candidates.terms[..p.candidates.count],
         p.candidates.blocks,
         held,
         p.settings.n,

@@ -5,6 +5,7 @@ ghost use Rattle.problem.specs.Problems.{Sized, Stocked};
 ghost use Rattle.problem.specs.Matrix.{Multiplies};
 
 use crate::{Problem, cells};
+use product::TooMany;
 
 // Puts all irredundant covers first in one of the lent rows, rising, and hands it back, with their count; or tells 17.
 pub fn multiply<'a>(
@@ -12,16 +13,14 @@ pub fn multiply<'a>(
     held: &[u64; 256],
     first: &'a mut [u64],
     second: &'a mut [u64],
-    number: &mut u8,
-    count: &mut usize,
-) -> &'a mut [u64]
+) -> (&'a mut [u64], Result<usize, TooMany>)
     requires sized { Sized p }
     requires stocked { Stocked p held.now }
     requires first_len { (length first.old ≡ 1024) × (length second.old ≡ 1024) }
-    ensures { Multiplies p held.now first.entry second.entry result number.new count.new }
+    ensures { Multiplies p held.now first.entry second.entry result.0 result.1 }
 {
     let mut rows = [0u64; 2048];
     let k = cells::put_rows(p, held, &mut rows);
     let n = p.candidates.count as u64;
-    product::multiply_rows(&rows[..k], n, first, second, number, count)
+    product::multiply_rows(&rows[..k], n, first, second)
 }

@@ -1,11 +1,13 @@
-// The refusals that a command's operands can meet, each tested in the paper's order. 0 is none. A test takes what it reads of the record.
+// The refusals that a command's operands can meet, each tested in the paper's order. A test takes what it reads of the record.
 ghost use Rattle.std.specs.Prelude.{◌≡◌, ◌≤◌, not, ◌&&◌, [], ◌∷◌};
 ghost use Rattle.model.specs.Ranges.{between};
+ghost use Rattle.model.specs.Reasons.{told};
 ghost use Rattle.model.specs.Refusals.{bad_row, bad_range, dear, first_of, refuse, size};
 ghost use Rattle.problem.specs.Refusing.{is_taken, row_refusals, TermRefusal, BlockRefusal};
 
 use crate::Settings;
 use bits::byte;
+use model::reason::Reason;
 use model::{Block, Prices, Term};
 use table::{blocks, terms};
 
@@ -13,52 +15,37 @@ use table::{blocks, terms};
 pub fn is_size(k: u8) -> bool
     ensures { result ≡ size k }
 {
-    if 1 <= k {
-        return k <= 8;
-    }
-    false
+    1 <= k && k <= 8
 }
 
 // I: 6.
-pub fn init_refusal(n: u8, m: u8) -> u8
-    ensures { result ≡ first_of (refuse 6 (not (size n && size m)) ∷ []) }
+pub fn init_refusal(n: u8, m: u8) -> Result<(), Reason>
+    ensures { told result ≡ first_of (refuse 6 (not (size n && size m)) ∷ []) }
 {
-    if is_size(n) {
-        if is_size(m) {
-            return 0;
-        }
-        return 6;
+    if is_size(n) && is_size(m) {
+        return Ok(());
     }
-    6
+    Err(Reason::WrongSizes)
 }
 
 // W: 16.
-pub fn prices_refusal(w: Prices) -> u8
-    ensures { result ≡ first_of (refuse 16 (dear w) ∷ []) }
+pub fn prices_refusal(w: Prices) -> Result<(), Reason>
+    ensures { told result ≡ first_of (refuse 16 (dear w) ∷ []) }
 {
-    if 50 < w.term {
-        return 16;
+    if 50 < w.term || 50 < w.literal || 50 < w.connection {
+        return Err(Reason::WrongPrices);
     }
-    if 50 < w.literal {
-        return 16;
-    }
-    if 50 < w.connection {
-        return 16;
-    }
-    0
+    Ok(())
 }
 
 // A range of G: 19.
-pub fn range_refusal(low: u16, high: u16) -> u8
-    ensures { result ≡ first_of (refuse 19 (bad_range (between low high)) ∷ []) }
+pub fn range_refusal(low: u16, high: u16) -> Result<(), Reason>
+    ensures { told result ≡ first_of (refuse 19 (bad_range (between low high)) ∷ []) }
 {
-    if high < low {
-        return 19;
+    if high < low || 850 < high {
+        return Err(Reason::MalformedRange);
     }
-    if 850 < high {
-        return 19;
-    }
-    0
+    Ok(())
 }
 
 // Whether on and dc share a bit, or one has bit m or above.
@@ -66,65 +53,57 @@ pub fn bad_row(m: u8, on: u8, dc: u8) -> bool
     requires { m ≤ 8 }
     ensures { result ≡ bad_row m on dc }
 {
-    if 0 < on & dc {
-        return true;
-    }
     let top = byte::bound(m);
-    if top <= byte::wide(on) {
-        return true;
-    }
-    top <= byte::wide(dc)
+    0 < on & dc || top <= usize::from(on) || top <= usize::from(dc)
 }
 
 // Whether v is no vertex of n inputs, or one that has a row.
+#[tactic(auto, unfolding(crate::specs::Refusing::is_taken))]
 fn is_taken(n: u8, given: &[u8; 256], v: usize) -> bool
     requires { n ≤ 8 }
     ensures { result ≡ is_taken n given.now v }
 {
-    if byte::bound(n) <= v {
-        return true;
-    }
-    0 < given[v]
+    byte::bound(n) <= v || 0 < given[v]
 }
 
 // A row of R or B: 7, 8. The vertex is a number, for that of a B may be above 255.
-pub fn row_refusal(s: Settings, given: &[u8; 256], v: usize, on: u8, dc: u8) -> u8
+pub fn row_refusal(s: Settings, given: &[u8; 256], v: usize, on: u8, dc: u8) -> Result<(), Reason>
     requires { (s.n ≤ 8) × (s.m ≤ 8) }
-    ensures { result ≡ first_of (row_refusals s.n s.m given.now v on dc) }
+    ensures { told result ≡ first_of (row_refusals s.n s.m given.now v on dc) }
 {
     if is_taken(s.n, given, v) {
-        return 7;
+        return Err(Reason::WrongVertex);
     }
     if bad_row(s.m, on, dc) {
-        return 8;
+        return Err(Reason::WrongRow);
     }
-    0
+    Ok(())
 }
 
 // A term of T or of the library call: 9, 10. `may` has what each vertex may drive.
-pub fn term_refusal(may: &[u8; 256], n: u8, m: u8, t: Term) -> u8
+pub fn term_refusal(may: &[u8; 256], n: u8, m: u8, t: Term) -> Result<(), Reason>
     requires { (n ≤ 8) × (m ≤ 8) }
-    ensures { TermRefusal may.now n m t result }
+    ensures { TermRefusal may.now n m t (told result) }
 {
-    if terms::formed(n, m, t) {
-        if terms::holds_no_off(may, n, t) {
-            return 0;
-        }
-        return 10;
+    if !terms::formed(n, m, t) {
+        return Err(Reason::MalformedTerm);
     }
-    9
+    if !terms::holds_no_off(may, n, t) {
+        return Err(Reason::OffCell);
+    }
+    Ok(())
 }
 
-// A block of F: 18, 10. `may` has what each vertex may drive.
-pub fn block_refusal(may: &[u8; 256], n: u8, m: u8, b: Block) -> u8
+// A block of F: 18, 10. `may` has what each vertex may drive. (Apart from `term_refusal`: crate `table` tests a term and a block in ways of their own.)
+pub fn block_refusal(may: &[u8; 256], n: u8, m: u8, b: Block) -> Result<(), Reason>
     requires { (n ≤ 8) × (m ≤ 8) }
-    ensures { BlockRefusal may.now n m b result }
+    ensures { BlockRefusal may.now n m b (told result) }
 {
-    if blocks::formed(n, m, b) {
-        if blocks::holds_no_off(may, n, b) {
-            return 0;
-        }
-        return 10;
+    if !blocks::formed(n, m, b) {
+        return Err(Reason::MalformedBlock);
     }
-    18
+    if !blocks::holds_no_off(may, n, b) {
+        return Err(Reason::OffCell);
+    }
+    Ok(())
 }

@@ -20,6 +20,8 @@ use Rattle.bits.proofs.Digits.{digit_lt, digit_bit, digit_of_zero}
 use Rattle.bits.proofs.Parts.{the_member}
 use Rattle.bits.proofs.Steps.{taken_gone, others_stay}
 use Rattle.rows.specs.Covers.{Own, PrivatesOf, Privates}
+use Rattle.std.proofs.Common.{Result, Ok}
+use Rattle.product.specs.declared.TooMany.{TooMany}
 use Rattle.product.specs.Steps.{Held, candidates, with, barred, added, extended}
 use Rattle.product.proofs.Putting.{held_fits}
 
@@ -120,11 +122,11 @@ added_is qs r p s x v d = ap (map (λ i. bit_or p (2 ^ i)))
 
 -- ---- what one product leaves
 
-pub extend_none : (qs : List ℕ) (r p : ℕ) (to : List ℕ) (held : ℕ) → length to ≡ 1024 → held ≤ 1024 → (bit_and r p ≡ 0 → ⊥) → Held (take held to ++ extended qs r p) to held
+pub extend_none : (qs : List ℕ) (r p : ℕ) (to : List ℕ) (held : ℕ) → length to ≡ 1024 → held ≤ 1024 → (bit_and r p ≡ 0 → ⊥) → Held (take held to ++ extended qs r p) to (Ok held)
 unfolding extended
 extend_none qs r p to held l m d = held_fits _ to held l m (rw (ne_eqb (bit_and r p) 0 d) (sym (append-nil (take held to))))
 
-pub extend_put : (qs : List ℕ) (r p s x : ℕ) (front new : List ℕ) (c : ℕ) → bit_and r p ≡ 0 → Privates qs (2 ^ 64 - 1 - p) s → Minus r s x
+pub extend_put : (qs : List ℕ) (r p s x : ℕ) (front new : List ℕ) (c : Result ℕ TooMany) → bit_and r p ≡ 0 → Privates qs (2 ^ 64 - 1 - p) s → Minus r s x
     → Held (front ++ with p x) new c → Held (front ++ extended qs r p) new c
 unfolding extended
 extend_put qs r p s x front new c z v d h = rw (eq-eqb (bit_and r p) 0 z, added_is qs r p s x v d) h

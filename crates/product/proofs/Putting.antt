@@ -8,24 +8,18 @@ use lib.Bits.{bit_and}
 use lib.ListN.{length, take, drop, get_or, set, length-append, length-set, drop_of_length-le}
 use lib.Seq.{length-take-le, drop-cons, take-suc-set, take-take, take-append-le, take-append_seam}
 use borrow.Author.Tests.{eq-eqb, ne_eqb}
+use Rattle.std.proofs.Common.{Ok, Err}
 use Rattle.model.specs.Base.{filter, join}
+use Rattle.product.specs.declared.TooMany.{TooMany}
 use Rattle.product.specs.Steps.{Held, meets, meeting, extended, stepped}
 
 -- ---- what is held
 
-pub held_fits : (xs row : List ℕ) (c : ℕ) → length row ≡ 1024 → c ≤ 1024 → take c row ≡ xs → Held xs row c
-held_fits xs row c l m e =
-    record {
-      size = l;
-      most = omega arith;
-      full = λ z. absurd (omega arith);
-      counted = λ h. sym (length-take-le c row (omega arith)) ∙ ap length e;
-      front = λ h. e;
-    }
+pub held_fits : (xs row : List ℕ) (c : ℕ) → length row ≡ 1024 → c ≤ 1024 → take c row ≡ xs → Held xs row (Ok c)
+held_fits xs row c l m e = record { size = l; held = (m, sym (length-take-le c row (omega arith)) ∙ ap length e, e) }
 
-pub held_full : (xs row : List ℕ) (c : ℕ) → length row ≡ 1024 → c ≡ 1025 → 1024 < length xs → Held xs row c
-held_full xs row c l e m =
-    record { size = l; most = omega arith; full = λ z. m; counted = λ h. absurd (omega arith); front = λ h. absurd (omega arith) }
+pub held_full : (xs row : List ℕ) (e : TooMany) → length row ≡ 1024 → 1024 < length xs → Held xs row (Err e)
+held_full xs row e l m = record { size = l; held = m }
 
 -- ---- the whole list: what stands first in the row, and what is left to put
 
@@ -47,28 +41,27 @@ module _ {whole to : List ℕ} {count : ℕ} where
         so_far = rw (add-one count, take-suc-set to count x (omega (arith, g.size)), append_assoc) (rw e at g.so_far);
       }
 
-  pub going_no_room : {left : List ℕ} (x : ℕ) (rest : List ℕ) → Going whole to count left → left ≡ x ∷ rest → count ≡ 1024 → Held whole to 1025
-  going_no_room x rest g e z =
-      held_full whole to 1025 g.size refl
+  pub going_no_room : {left : List ℕ} (x : ℕ) (rest : List ℕ) (t : TooMany) → Going whole to count left → left ≡ x ∷ rest → count ≡ 1024 → Held whole to (Err t)
+  going_no_room x rest t g e z =
+      held_full whole to t g.size
       (rw (← g.so_far, e, length-append) (omega (arith, length-take-le count to (omega (arith, g.size)))))
 
-  pub going_end : {left : List ℕ} → Going whole to count left → left ≡ [] → Held whole to count
+  pub going_end : {left : List ℕ} → Going whole to count left → left ≡ [] → Held whole to (Ok count)
   going_end g e = held_fits whole to count g.size g.room (sym (append-nil (take count to)) ∙ rw e at g.so_far)
 
   -- a whole part
-  module _ {left : List ℕ} (xs rest new : List ℕ) (c : ℕ) (g : Going whole to count left) (e : left ≡ xs ++ rest) (h : Held (take count to ++ xs) new c) where
+  module _ {left : List ℕ} (xs rest new : List ℕ) (g : Going whole to count left) (e : left ≡ xs ++ rest) where
     parts : (take count to ++ xs) ++ rest ≡ whole
     parts = append_assoc (take count to) xs rest ∙ rw e at g.so_far
 
-    pub going_more : (c ≡ 1025 → ⊥) → Going whole new c rest × (count ≤ c)
-    going_more d =
-        let m : c ≤ 1024 = omega (arith, h.most) in (
-          record { size = h.size; room = m; so_far = rw (h.front m) parts },
-          omega (arith, h.counted m, length-append (take count to) xs, length-take-le count to (omega (arith, g.size, g.room))),
-        )
+    pub going_more : (c : ℕ) → Held (take count to ++ xs) new (Ok c) → Going whole new c rest × (count ≤ c)
+    going_more c h = (
+      record { size = h.size; room = h.held.0; so_far = rw h.held.2 parts },
+      omega (arith, h.held.1, length-append (take count to) xs, length-take-le count to (omega (arith, g.size, g.room))),
+    )
 
-    pub going_full : c ≡ 1025 → Held whole new c
-    going_full z = held_full whole new c h.size z (rw (← parts, length-append) (omega (arith, h.full z)))
+    pub going_full : (t u : TooMany) → Held (take count to ++ xs) new (Err t) → Held whole new (Err u)
+    going_full t u h = held_full whole new u h.size (rw (← parts, length-append) (omega (arith, h.held)))
 
   -- what stands first stays
   pub going_front : {left : List ℕ} (k : ℕ) → Going whole to count left → k ≤ count → take k to ≡ take k whole
@@ -82,27 +75,26 @@ module _ {whole to : List ℕ} {count : ℕ} where
 pub record Keeping (r : ℕ) (ps to : List ℕ) (kept k : ℕ) : Type 0 where
   pub going : Going (meeting r ps) to kept (filter (meets r) (drop k ps))
   pub fewer : kept ≤ k
-  pub within : k ≤ length ps
 
 pub keep_none : (r : ℕ) (ps to : List ℕ) → length to ≡ 1024 → Keeping r ps to 0 0
 unfolding meeting
-keep_none r ps to l = record { going = record { size = l; room = omega arith; so_far = refl }; fewer = omega arith; within = omega arith }
+keep_none r ps to l = record { going = record { size = l; room = omega arith; so_far = refl }; fewer = omega arith }
 
 module _ {r : ℕ} {ps to : List ℕ} {kept k : ℕ} (w : Keeping r ps to kept k) (l : k < length ps) where
   pub keep_put : length ps ≤ 1024 → (bit_and r (get_or ps k 0) ≡ 0 → ⊥) → Keeping r ps (set to kept (get_or ps k 0)) (kept + 1) (k + 1)
   keep_put m d =
       let e : filter (meets r) (drop k ps) ≡ get_or ps k 0 ∷ filter (meets r) (drop (k + 1) ps)
       = rw (drop-cons ps k 0 l, ne_eqb (bit_and r (get_or ps k 0)) 0 d, add-one k) in
-      record { going = going_put _ _ w.going e (omega (arith, w.fewer)); fewer = omega (arith, w.fewer); within = omega arith }
+      record { going = going_put _ _ w.going e (omega (arith, w.fewer)); fewer = omega (arith, w.fewer) }
 
   pub keep_skip : bit_and r (get_or ps k 0) ≡ 0 → Keeping r ps to kept (k + 1)
   keep_skip z =
       let e : filter (meets r) (drop k ps) ≡ filter (meets r) (drop (k + 1) ps)
       = rw (drop-cons ps k 0 l, eq-eqb (bit_and r (get_or ps k 0)) 0 z, add-one k) in
-      record { going = rw e at w.going; fewer = omega (arith, w.fewer); within = omega arith }
+      record { going = rw e at w.going; fewer = omega (arith, w.fewer) }
 
-pub keep_end : {r : ℕ} {ps to : List ℕ} {kept k : ℕ} → Keeping r ps to kept k → length ps ≤ k → (kept ≤ 1024) × Held (meeting r ps) to kept
-keep_end {r} {ps} w l = (w.going.room, going_end w.going (ap (filter (meets r)) (drop_of_length-le ps l)))
+pub keep_end : {r : ℕ} {ps to : List ℕ} {kept k : ℕ} → Keeping r ps to kept k → length ps ≤ k → Held (meeting r ps) to (Ok kept)
+keep_end {r} {ps} w l = going_end w.going (ap (filter (meets r)) (drop_of_length-le ps l))
 
 -- ---- all products at a cell
 
@@ -110,16 +102,14 @@ pub record Stepping (r : ℕ) (ps to : List ℕ) (kept count k : ℕ) : Type 0 w
   pub going : Going (stepped r ps) to count (join (map (extended (meeting r ps) r) (drop k ps)))
   pub front : kept ≡ length (meeting r ps)
   pub more : kept ≤ count
-  pub within : k ≤ length ps
 
-pub step_none : (r : ℕ) (ps to : List ℕ) (kept : ℕ) → (kept ≤ 1024) × Held (meeting r ps) to kept → Stepping r ps to kept kept 0
+pub step_none : (r : ℕ) (ps to : List ℕ) (kept : ℕ) → Held (meeting r ps) to (Ok kept) → Stepping r ps to kept kept 0
 unfolding stepped
 step_none r ps to kept h =
     record {
-      going = record { size = h.1.size; room = h.0; so_far = rw (h.1.front h.0) };
-      front = h.1.counted h.0;
+      going = record { size = h.size; room = h.held.0; so_far = rw h.held.2 };
+      front = h.held.1;
       more = omega arith;
-      within = omega arith;
     }
 
 module _ {r : ℕ} {ps to : List ℕ} {kept count k : ℕ} (w : Stepping r ps to kept count k) (l : k < length ps) where
@@ -133,14 +123,13 @@ module _ {r : ℕ} {ps to : List ℕ} {kept count k : ℕ} (w : Stepping r ps to
   next : join (map (extended (meeting r ps) r) (drop k ps)) ≡ extended (take kept to) r (get_or ps k 0) ++ join (map (extended (meeting r ps) r) (drop (k + 1) ps))
   next = rw (kept_ones, drop-cons ps k 0 l, add-one k)
 
-  module _ (new : List ℕ) (c : ℕ) (h : Held (take count to ++ extended (take kept to) r (get_or ps k 0)) new c) where
-    pub step_on : (c ≡ 1025 → ⊥) → Stepping r ps new kept c (k + 1)
-    step_on d =
-        let g = going_more _ _ new c w.going next h d in
-        record { going = g.0; front = w.front; more = omega (arith, g.1, w.more); within = omega arith }
+  pub step_on : (new : List ℕ) (c : ℕ) → Held (take count to ++ extended (take kept to) r (get_or ps k 0)) new (Ok c) → Stepping r ps new kept c (k + 1)
+  step_on new c h =
+      let g = going_more _ _ new w.going next c h in
+      record { going = g.0; front = w.front; more = omega (arith, g.1, w.more) }
 
-    pub step_full : c ≡ 1025 → Held (stepped r ps) new c
-    step_full z = going_full _ _ new c w.going next h z
+  pub step_full : (new : List ℕ) (t u : TooMany) → Held (take count to ++ extended (take kept to) r (get_or ps k 0)) new (Err t) → Held (stepped r ps) new (Err u)
+  step_full new t u h = going_full _ _ new w.going next t u h
 
-pub step_end : {r : ℕ} {ps to : List ℕ} {kept count k : ℕ} → Stepping r ps to kept count k → length ps ≤ k → Held (stepped r ps) to count
+pub step_end : {r : ℕ} {ps to : List ℕ} {kept count k : ℕ} → Stepping r ps to kept count k → length ps ≤ k → Held (stepped r ps) to (Ok count)
 step_end {r} {ps} w l = going_end w.going (ap (λ (l : List ℕ). join (map (extended (meeting r ps) r) l)) (drop_of_length-le ps l))

@@ -1,15 +1,15 @@
 -- All cells: the rows take turns, and the one whose turn it is holds the products.
-use Prim.Native.Nat.{ℕ, zero, suc, ◌+◌, ◌^◌, ◌≤◌, ◌<◌}
+use Prim.Native.Nat.{ℕ, zero, suc, ◌+◌, ◌%◌, ◌^◌, ◌≤◌, ◌<◌}
 use native.Mathlib.Omega.{arith}
 use native.Mathlib.Numerals.{add-one}
 use mathlib.Core.Path.{◌≡◌, refl, sym, ap, ◌∙◌, subst, subst⁻¹}
-use mathlib.Core.Bool.{Bool, true, false, not, cond}
-use mathlib.Core.List.{List, [], ◌∷◌}
+use mathlib.Core.Bool.{Bool, true, false}
+use mathlib.Core.List.{List, [], ◌∷◌, ◌++◌}
 use mathlib.Core.Logic.{◌⊎◌, inl, inr}
 use lib.Bits.{bit_and}
 use lib.Dec.{T, not_T}
-use lib.ListN.{length, take, get_or, set, replicate, length-set, length-replicate}
-use lib.Seq.{length-take-le}
+use lib.ListN.{length, take, drop, length-append, length-drop, get_or, set, replicate, length-set, length-replicate}
+use lib.Seq.{length-take-le, take_at}
 use denote.Ref.{MutBor, at_last}
 use Rattle.model.specs.Base.{bit, below, some}
 use Rattle.model.specs.Sets.{members, cover, covers}
@@ -24,7 +24,9 @@ use Rattle.rows.specs.Covers.{Cover}
 use Rattle.rows.proofs.Bridge.{cover_to, cover_from, of_rows_size}
 use Rattle.product.specs.Steps.{Held, stepped}
 use Rattle.product.specs.Order.{sorted, Sorted}
-use Rattle.product.specs.Outcome.{of_cells, RowsBelow, MultipliedRows}
+use Rattle.product.specs.Outcome.{of_cells, RowsBelow, TakenTurns, MultipliedRows}
+use Rattle.product.specs.declared.TooMany.{TooMany}
+use Rattle.std.proofs.Common.{Ok, Err}
 use Rattle.model.proofs.Distinct.{Distinct, distinct_rising, as_long}
 use Rattle.product.proofs.Sorted.{sorted_e, sorted_i, sorted_rising}
 use Rattle.product.proofs.Cells.{Wanted, stepped_least, stepped_distinct}
@@ -100,16 +102,15 @@ module _ (n : ℕ) (rows : List ℕ) (fits : n ≤ 64) (all : RowsBelow n rows) 
   next_many : length (stepped (get_or rows i 0) ps) ≡ length (products_up_to (of_cells n rows) (suc i))
   next_many = as_many n rows (suc i) (stepped (get_or rows i 0) ps) next_least next_distinct
 
-  module _ (new : List ℕ) (c : ℕ) (h : Held (stepped (get_or rows i 0) ps) new c) where
-    stands_next : c ≤ 1024 → Stands n rows (i + 1) (take c new)
-    stands_next m = rw (h.front m, add-one i) (record { least = next_least; distinct = next_distinct; few = λ j q. few j (eq? j i) q })
-      where
-        few : (j : ℕ) → (j ≡ i) ⊎ (j ≡ i → ⊥) → j < suc i → length (products_up_to (of_cells n rows) (suc j)) ≤ 1024
-        few j (inl e) q = rw e (omega (arith, next_many, h.counted m))
-        few j (inr d) q = s.few j (omega arith)
+  stands_next : (new : List ℕ) (c : ℕ) → Held (stepped (get_or rows i 0) ps) new (Ok c) → Stands n rows (i + 1) (take c new)
+  stands_next new c h = rw (h.held.2, add-one i) (record { least = next_least; distinct = next_distinct; few = λ j q. few j (eq? j i) q })
+    where
+      few : (j : ℕ) → (j ≡ i) ⊎ (j ≡ i → ⊥) → j < suc i → length (products_up_to (of_cells n rows) (suc j)) ≤ 1024
+      few j (inl e) q = rw e (omega (arith, next_many, h.held.0, h.held.1))
+      few j (inr d) q = s.few j (omega arith)
 
-    too_many : c ≡ 1025 → has_too_many (of_cells n rows) ≡ true
-    too_many e = T_true {b = has_too_many (of_cells n rows)} ((too_many_iff (of_cells n rows)).1 (i, l, omega (arith, next_many, h.full e)))
+  too_many : (new : List ℕ) (e : TooMany) → Held (stepped (get_or rows i 0) ps) new (Err e) → has_too_many (of_cells n rows) ≡ true
+  too_many new e h = T_true {b = has_too_many (of_cells n rows)} ((too_many_iff (of_cells n rows)).1 (i, l, omega (arith, next_many, h.held)))
 
 stands_end : (n : ℕ) (rows : List ℕ) (i : ℕ) (ps : List ℕ) → Stands n rows i ps → i ≡ length rows → (sorted ps ≡ products (of_cells n rows)) × (has_too_many (of_cells n rows) ≡ false)
 unfolding products
@@ -129,118 +130,92 @@ stands_end n rows i ps s e = (rw e at same, T_false {b = has_too_many (of_cells 
 
 -- ---- whose turn it is
 
-turn_not : (k : ℕ) → (turn k true false ≡ not (turn k false true)) × (turn k false true ≡ not (turn k true false))
-turn_not zero = (refl, refl)
-turn_not (suc k) = ((turn_not k).1, (turn_not k).0)
+turns : {R : Type 0} (i : ℕ) (a b : R) → ((i % 2 ≡ 0 → turn i a b ≡ a) × ((i % 2 ≡ 0 → ⊥) → turn i a b ≡ b))
+turns zero a b = (λ e. refl, λ d. absurd (d refl))
+turns (suc i) a b = let r = turns i b a in (λ e. r.1 (λ z. omega (arith, e, z)), λ d. r.0 (omega (arith, d)))
 
-turn_pick : {X : Type 0} (k : ℕ) (a b : X) → turn k a b ≡ cond (turn k false true) b a
-turn_pick zero a b = refl
-turn_pick {X} (suc k) a b = turn_pick k b a ∙ go (turn k false true) (turn k true false) (turn_not k).0
-  where
-    go : (x y : Bool) → y ≡ not x → cond x a b ≡ cond y b a
-    go true y e = rw e
-    go false y e = rw e
-
--- ---- the loop
-
-pub record Turning (n : ℕ) (rows first second : List ℕ) (i held : ℕ) (other : Bool) : Type 0 where
+pub record Turning (n : ℕ) (rows first second : List ℕ) (i held : ℕ) : Type 0 where
   pub first_size : length first ≡ 1024
   pub second_size : length second ≡ 1024
-  pub within : i ≤ length rows
   pub room : held ≤ 1024
-  pub parity : other ≡ turn i false true
-  pub here : Stands n rows i (take held (cond other second first))
+  pub here : Stands n rows i (take held (turn i first second))
 
 front_one : (xs : List ℕ) → 0 < length xs → take 1 (set xs 0 0) ≡ 0 ∷ []
 front_one [] l = absurd (omega arith)
 front_one (x ∷ xs) l = refl
 
-pub turn_none : (n : ℕ) (rows first second : List ℕ) → length first ≡ 1024 → length second ≡ 1024 → Turning n rows (set first 0 0) second 0 1 false
+pub turn_none : (n : ℕ) (rows first second : List ℕ) → length first ≡ 1024 → length second ≡ 1024 → Turning n rows (set first 0 0) second 0 1
 turn_none n rows first second a b =
-    record {
-      first_size = length-set first 0 0 ∙ a;
-      second_size = b;
-      within = omega arith;
-      room = omega arith;
-      parity = refl;
-      here = rw (front_one first (omega arith)) (stands_first n rows);
-    }
+    record { first_size = length-set first 0 0 ∙ a; second_size = b; room = omega arith; here = rw (front_one first (omega arith)) (stands_first n rows) }
 
-next_parity : (i : ℕ) (other : Bool) → other ≡ turn i false true → not other ≡ turn (i + 1) false true
-next_parity i other e = rw add-one (ap not e ∙ sym (turn_not i).0)
+module _ {n : ℕ} {rows f s : List ℕ} {i held : ℕ} (fits : n ≤ 64) (all : RowsBelow n rows) (t : Turning n rows f s i held) (l : i < length rows) where
+  in_first : i % 2 ≡ 0 → Stands n rows i (take held f)
+  in_first e = rw ((turns i f s).0 e) at t.here
 
-module _ {n : ℕ} {rows f s : List ℕ} {i held : ℕ} {other : Bool} {f' s' : List ℕ} {held' : ℕ} {new : List ℕ} {c : ℕ} (fits : n ≤ 64)
-    (all : RowsBelow n rows) (t : Turning n rows f s i held other) (l : i < length rows) where
-  pub to_second : other ≡ false → Held (stepped (get_or rows i 0) (take held f)) new c → s' ≡ new → held' ≡ c → f' ≡ f → (held' ≡ 1025 → ⊥) → Turning n rows f' s' (i + 1) held' (not other)
-  to_second e h a b q d =
-      let m : c ≤ 1024 = omega (arith, h.most, d) in
-      record {
-        first_size = ap length q ∙ t.first_size;
-        second_size = ap length a ∙ h.size;
-        within = omega arith;
-        room = omega (arith, m);
-        parity = next_parity i other t.parity;
-        here = rw (e, a, b) (stands_next n rows fits all i l (take held f) (rw e at t.here) new c h m);
-      }
+  in_second : (i % 2 ≡ 0 → ⊥) → Stands n rows i (take held s)
+  in_second d = rw ((turns i f s).1 d) at t.here
 
-  pub to_first : other ≡ true → Held (stepped (get_or rows i 0) (take held s)) new c → f' ≡ new → held' ≡ c → s' ≡ s → (held' ≡ 1025 → ⊥) → Turning n rows f' s' (i + 1) held' (not other)
-  to_first e h a b q d =
-      let m : c ≤ 1024 = omega (arith, h.most, d) in
-      record {
-        first_size = ap length a ∙ h.size;
-        second_size = ap length q ∙ t.second_size;
-        within = omega arith;
-        room = omega (arith, m);
-        parity = next_parity i other t.parity;
-        here = rw (e, a, b) (stands_next n rows fits all i l (take held s) (rw e at t.here) new c h m);
-      }
+  pub to_second : (new : List ℕ) (c : ℕ) → i % 2 ≡ 0 → Held (stepped (get_or rows i 0) (take held f)) new (Ok c) → Turning n rows f new (i + 1) c
+  to_second new c e h = record {
+    first_size = t.first_size;
+    second_size = h.size;
+    room = h.held.0;
+    here = subst⁻¹ (λ (xs : List ℕ). Stands n rows (i + 1) (take c xs)) (rw add-one ((turns i new f).0 e)) (stands_next n rows fits all i l (take held f) (in_first e) new c h);
+  }
 
--- 17, found on either way
-module _ {n : ℕ} {rows f s : List ℕ} {i held : ℕ} {other : Bool} {f' : List ℕ} {held' : ℕ} {new : List ℕ} {c : ℕ} (fits : n ≤ 64)
-    (all : RowsBelow n rows) (t : Turning n rows f s i held other) (l : i < length rows) where
-  pub second_full : other ≡ false → Held (stepped (get_or rows i 0) (take held f)) new c → held' ≡ c → f' ≡ f → held' ≡ 1025 → (has_too_many (of_cells n rows) ≡ true) × (length f' ≡ 1024)
-  second_full e h b q z = (too_many n rows fits all i l (take held f) (rw e at t.here) new c h (sym b ∙ z), ap length q ∙ t.first_size)
+  pub to_first : (new : List ℕ) (c : ℕ) → (i % 2 ≡ 0 → ⊥) → Held (stepped (get_or rows i 0) (take held s)) new (Ok c) → Turning n rows new s (i + 1) c
+  to_first new c d h = record {
+    first_size = h.size;
+    second_size = t.second_size;
+    room = h.held.0;
+    here = subst⁻¹ (λ (xs : List ℕ). Stands n rows (i + 1) (take c xs)) (rw add-one ((turns i s new).1 d)) (stands_next n rows fits all i l (take held s) (in_second d) new c h);
+  }
 
-  pub first_full : other ≡ true → Held (stepped (get_or rows i 0) (take held s)) new c → f' ≡ new → held' ≡ c → held' ≡ 1025 → (has_too_many (of_cells n rows) ≡ true) × (length f' ≡ 1024)
-  first_full e h a b z = (too_many n rows fits all i l (take held s) (rw e at t.here) new c h (sym b ∙ z), ap length a ∙ h.size)
+  -- 17, found on either way
+  pub second_full : (new : List ℕ) (e u : TooMany) → i % 2 ≡ 0 → Held (stepped (get_or rows i 0) (take held f)) new (Err e) → TakenTurns n rows f new (Err u)
+  second_full new e u p h = record {
+    first_size = t.first_size;
+    second_size = h.size;
+    told = too_many n rows fits all i l (take held f) (in_first p) new e h;
+    within = tt;
+    sets = tt;
+  }
+
+  pub first_full : (new : List ℕ) (e u : TooMany) → (i % 2 ≡ 0 → ⊥) → Held (stepped (get_or rows i 0) (take held s)) new (Err e) → TakenTurns n rows new s (Err u)
+  first_full new e u p h = record {
+    first_size = h.size;
+    second_size = t.second_size;
+    told = too_many n rows fits all i l (take held s) (in_second p) new e h;
+    within = tt;
+    sets = tt;
+  }
+
+pub turned : {n : ℕ} {rows f s : List ℕ} {i held : ℕ} → Turning n rows f s i held → i ≡ length rows → TakenTurns n rows f s (Ok held)
+turned {n} {rows} {f} {s} {i} {held} t e =
+    let p = stands_end n rows i (take held (turn i f s)) t.here e in
+    record { first_size = t.first_size; second_size = t.second_size; told = p.1; within = t.room; sets = rw (← e) p.0 }
 
 -- ---- what is told and handed back
 
-pub refused : (n : ℕ) (rows : List ℕ) (first second : MutBor (List ℕ)) (f : List ℕ) → (has_too_many (of_cells n rows) ≡ true) × (length f ≡ 1024) → MultipliedRows n rows first second (at_last first f) 17 0
-refused n rows first second f e =
+-- `new` stands in the place of the first entries, the ones behind stay
+done : {n : ℕ} {rows f s : List ℕ} {held : ℕ} (first second row : MutBor (List ℕ)) (new : List ℕ) → TakenTurns n rows f s (Ok held) → (last : List ℕ) → turn (length rows) f s ≡ last → length last ≡ 1024
+    → Sorted (take held last) new → turn (length rows) first second ≡ row → MultipliedRows n rows first second (at_last row (new ++ drop held last)) (Ok held)
+done {n} {rows} {held = held} first second row new t last v l q w =
+    let h : length (take held last) ≡ held = length-take-le held last (omega (arith, l, t.within)) in
+    let z : length new ≡ held = q.size ∙ h in
+    let g : new ≡ products (of_cells n rows) = q.rising ∙ rw v at t.sets in
     record {
-      told = rw e.0;
-      which = rw e.0;
-      size = e.1;
-      within = omega arith;
-      counted = rw e.0;
-      sets = rw e.0;
+      told = t.told;
+      which = rw (t.told, w);
+      size = length-append new (drop held last) ∙ omega (arith, z, l, length-drop held last, t.within);
+      within = t.within;
+      counted = sym z ∙ ap length g;
+      sets = take_at new (drop held last) held z ∙ g;
     }
 
-done : (n : ℕ) (rows : List ℕ) (first second : MutBor (List ℕ)) (f s : List ℕ) (i held : ℕ) (other : Bool) (new : List ℕ) → Turning n rows f s i held other → length rows ≤ i
-    → Sorted (cond other s f) held new → MultipliedRows n rows first second (at_last (cond other second first) new) 0 held
-done n rows first second f s i held other new t l q =
-    let e : i ≡ length rows = omega (arith, t.within) in
-    let p = stands_end n rows i (take held (cond other s f)) t.here e in
-    let w : turn (length rows) first second ≡ cond other second first = turn_pick (length rows) first second ∙ rw (← e, ← t.parity) in
-    let z : length new ≡ 1024 = q.size ∙ long other in
-    let g : take held new ≡ products (of_cells n rows) = q.front ∙ p.0 in
-    record {
-      told = rw p.1;
-      which = rw (p.1, w);
-      size = z;
-      within = t.room;
-      counted = rw p.1 (sym (length-take-le held new (omega (arith, z, t.room))) ∙ ap length g);
-      sets = rw p.1 g;
-    }
-  where
-    long : (b : Bool) → length (cond b s f) ≡ 1024
-    long true = t.second_size
-    long false = t.first_size
+module _ {n : ℕ} {rows f s : List ℕ} {held : ℕ} (first second : MutBor (List ℕ)) (new : List ℕ) (t : TakenTurns n rows f s (Ok held)) where
+  pub done_first : length rows % 2 ≡ 0 → Sorted (take held f) new → MultipliedRows n rows first second (at_last first (new ++ drop held f)) (Ok held)
+  done_first e q = done first second first new t f ((turns (length rows) f s).0 e) t.first_size q ((turns (length rows) first second).0 e)
 
-module _ {n : ℕ} {rows f s : List ℕ} {i held : ℕ} {other : Bool} (first second : MutBor (List ℕ)) (new : List ℕ) (t : Turning n rows f s i held other) (l : length rows ≤ i) where
-  pub done_second : other ≡ true → Sorted s held new → MultipliedRows n rows first second (at_last second new) 0 held
-  done_second e q = rw e at (done n rows first second f s i held other new t l (rw e q))
-
-  pub done_first : other ≡ false → Sorted f held new → MultipliedRows n rows first second (at_last first new) 0 held
-  done_first e q = rw e at (done n rows first second f s i held other new t l (rw e q))
+  pub done_second : (length rows % 2 ≡ 0 → ⊥) → Sorted (take held s) new → MultipliedRows n rows first second (at_last second (new ++ drop held s)) (Ok held)
+  done_second d q = done first second second new t s ((turns (length rows) f s).1 d) t.second_size q ((turns (length rows) first second).1 d)

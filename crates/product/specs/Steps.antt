@@ -1,15 +1,13 @@
 -- One cell as the code takes it (law `stepped_least`: what remains are the least sets that meet this row too).
-use Rattle.std.specs.Prelude.{ℕ, ◌-◌, ◌^◌, ◌≤◌, ◌<◌, ◌≡◌, Bool, not, cond, ◌&&◌, List, [], ◌++◌, map, eqb, length, take}
+use Rattle.std.specs.Prelude.{ℕ, ◌-◌, ◌^◌, ◌≤◌, ◌<◌, ◌≡◌, Bool, not, cond, ◌&&◌, List, [], ◌++◌, map, eqb, length, take, Result, MatchResult}
 use Rattle.std.specs.Int.Bits.{bit_and, bit_or}
 use Rattle.model.specs.Base.{bit, below, some, filter, join}
+use Rattle.product.specs.declared.TooMany.{TooMany}
 
--- the list stands first in a row of 1,024, c is its length; where it is too long c is 1,025
-pub record Held (xs row : List ℕ) (c : ℕ) : Type 0 where
+-- the list stands first in a row of 1,024 and its length is told; where it is too long that is told
+pub record Held (xs row : List ℕ) (told : Result ℕ TooMany) : Type 0 where
   pub size : length row ≡ 1024
-  pub most : c ≤ 1025
-  pub full : c ≡ 1025 → 1024 < length xs
-  pub counted : c ≤ 1024 → c ≡ length xs
-  pub front : c ≤ 1024 → take c row ≡ xs
+  pub held : MatchResult told (λ c. (c ≤ 1024) × (c ≡ length xs) × (take c row ≡ xs)) (λ e. 1024 < length xs)
 
 -- p has a member of row r
 abbrev pub meets : ℕ → ℕ → Bool

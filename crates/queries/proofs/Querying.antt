@@ -1,6 +1,7 @@
 -- The laws behind L, V, C and N.
 use Prim.Native.Nat.{ℕ, zero, suc, ◌/◌, ◌≤◌}
 use native.Mathlib.Omega.{arith}
+use Rattle.std.specs.Prelude.{Some, None}
 use mathlib.Core.Path.{◌≡◌, refl, sym, ap, ap₂, ◌∙◌, subst, subst⁻¹}
 use mathlib.Core.Bool.{Bool, true, false, not, cond}
 use mathlib.Core.List.{List, [], ◌∷◌, map, append-nil, Memᴰ}
@@ -16,6 +17,7 @@ use Rattle.model.specs.Ranges.{Range, Ranged, possibles}
 use Rattle.model.specs.declared.Prices.{Prices}
 use Rattle.model.specs.Candidates.{candidate_cost, weigh}
 use Rattle.model.specs.Commands as model
+use Rattle.model.specs.declared.place.Place.TheVariants.{Queried}
 use Rattle.model.specs.Commands.{Context, is_query_kind, basis_of, covering_of, start, count, problem_after}
 use Rattle.model.specs.Answers.{Answer, bytes_of, answer_for}
 use Rattle.model.specs.Refusals.{first_of, refusals_of}
@@ -24,24 +26,22 @@ use Rattle.model.proofs.Sets.{covers_more}
 use Rattle.model.proofs.Cheapest.{best_cheapest}
 use Rattle.model.proofs.Ranges.{possibles_same}
 use Rattle.model.proofs.Matrix.{rows_cost}
-use Rattle.cheapest.specs.declared.search.Optimum.{Optimum}
-use Rattle.cheapest.specs.declared.search.Optimum.TheVariants.{Cover as AtCover, Nothing}
 use Rattle.lister.specs.declared.cursor.PageFill.{PageFill}
 use Rattle.rows.specs.Covers.{row_covers}
 use Rattle.lister.specs.Lister.{Paged}
-use Rattle.cheapest.specs.Optimum.{Optimal}
+use Rattle.cheapest.specs.Optimum.{Incumbent, Optimal}
 use Rattle.ranges.specs.Listed.{ranges, row_possibles}
 use Rattle.incidence.specs.Stored.{BlocksAt}
-use Rattle.answers.specs.declared.writers.Reply.{Reply}
-use Rattle.answers.specs.declared.writers.Reply.TheVariants.{Written, TooLong}
+use Rattle.model.specs.declared.reason.Reason.{Reason}
+use Rattle.model.specs.Reasons.{number_of}
 use Rattle.answers.specs.Writers.{Replied}
 use Rattle.problem.specs.declared.Problem.{Problem}
 use Rattle.problem.specs.Problems.{at_place, Holds, Reached}
 use Rattle.problem.specs.Matrix.{RowsOf, Multiplies}
+use Rattle.std.proofs.Common.{Result, Ok, Err}
 use Rattle.problem.proofs.Keeping.{after_query}
 use Rattle.problem.proofs.Preparing.{rows_listed}
-use Rattle.commands.specs.declared.Effect.{Effect}
-use Rattle.commands.specs.Effects.{refused_as, replied_as, answer_bytes, page_bytes, possible_bytes, Handled, Found, HandlesL, HandlesV, HandlesC, HandlesN}
+use Rattle.commands.specs.Effects.{Outcome, refused_as, replied_as, answer_bytes, page_bytes, possible_bytes, Handled, Found, HandlesL, HandlesV, HandlesC, HandlesN}
 use Rattle.commands.proofs.Handling.{late_own, handled_refused, handled_written, handled_long}
 
 -- ---- covers by all candidates, and costs without rows
@@ -78,23 +78,23 @@ module _ (all : List ℕ) (s : ℕ) (old new : List ℕ) (f : PageFill) (p : Pag
       let a = length-take (length old) (at_or_above all s) in
       (omega (arith, p.count, a), omega (arith, p.count, ap length p.row, length-append (page all s (length old)) (drop (length (page all s (length old))) old)))
 
-  pub page_answer : (free free' : List ℕ) (r : Reply) → Replied (bytes_of (Answer.paged (take f.count new) f.more)) free free' r → Replied (page_bytes all s (length old)) free free' r
+  pub page_answer : (free free' : List ℕ) (r : Result ℕ Reason) → Replied (bytes_of (Answer.paged (take f.count new) f.more)) free free' r → Replied (page_bytes all s (length old)) free free' r
   page_answer free free' r w = subst (λ (a : Answer). Replied (bytes_of a) free free' r) (ap₂ Answer.paged page_front p.more) w
 
-  pub possible_answer : (free free' : List ℕ) (r : Reply) → Replied (bytes_of (Answer.possible_paged (take f.count new) f.more)) free free' r
+  pub possible_answer : (free free' : List ℕ) (r : Result ℕ Reason) → Replied (bytes_of (Answer.possible_paged (take f.count new) f.more)) free free' r
       → Replied (possible_bytes all s (length old)) free free' r
   possible_answer free free' r w = subst (λ (a : Answer). Replied (bytes_of a) free free' r) (ap₂ Answer.possible_paged page_front p.more) w
 
 -- ---- queries by their replies
 
-module _ (x : Context) (k : model.Kind) (p : Problem) (old new : List ℕ) (r : Reply) (w : Replied (answer_bytes x k) old new r)
-    (f : x.free ≡ length old) (o : 0 ≡ first_of (refusals_of x k)) (g : Holds p x.problem) (h : Holds (at_place model.queried p) (problem_after x k)) where
-  pub handled_reply : (e : Effect) → e ≡ replied_as p r → Handled x k old new e
+module _ (x : Context) (k : model.Kind) (p : Problem) (old new : List ℕ) (r : Result ℕ Reason) (w : Replied (answer_bytes x k) old new r)
+    (f : x.free ≡ length old) (o : 0 ≡ first_of (refusals_of x k)) (g : Holds p x.problem) (h : Holds (at_place Queried p) (problem_after x k)) where
+  pub handled_reply : (e : Outcome) → e ≡ replied_as p r → Handled x k old new e
   handled_reply e q = subst⁻¹ (Handled x k old new) q (go r refl)
     where
-      go : (s : Reply) → r ≡ s → Handled x k old new (replied_as p s)
-      go (Written n) i = handled_written x k old new (at_place model.queried p) r n i f w o h
-      go TooLong i = handled_long x k old new p r (refused_as p 14) g i refl f w o
+      go : (s : Result ℕ Reason) → r ≡ s → Handled x k old new (replied_as p s)
+      go (Ok n) i = handled_written x k old new (at_place Queried p) r n i f w o h
+      go (Err y) i = handled_long x k old new p r y (refused_as p (number_of y)) g i refl f w o
 
 -- ---- 12 and 17, of any query
 
@@ -102,7 +102,7 @@ module _ (p : Problem) (b : Bool) (x : Context) (k : model.Kind) (q : T (is_quer
   own_query : first_of (refusals_of x k) ≡ cond (not b) 12 (cond (many_at x k) 17 0)
   own_query = ap first_of (sym (append-nil (refusals_of x k))) ∙ refusals_query x [] k q ∙ rw (← d)
 
-  query_uncovered : (old : List ℕ) (e : Effect) → b ≡ false → e ≡ refused_as p 12 → Handled x k old old e
+  query_uncovered : (old : List ℕ) (e : Outcome) → b ≡ false → e ≡ refused_as p 12 → Handled x k old old e
   query_uncovered old e z w =
       let own : 12 ≡ first_of (refusals_of x k) = rw (own_query, z) in
       handled_refused x k old p 12 e f.holds w (late_own x k 12 own (λ n. omega (arith, n))) (λ n. omega (arith, n))
@@ -110,7 +110,7 @@ module _ (p : Problem) (b : Bool) (x : Context) (k : model.Kind) (q : T (is_quer
   query_covered : b ≡ true → many_at x k ≡ false → 0 ≡ first_of (refusals_of x k)
   query_covered z m = rw (own_query, z, m)
 
-  query_many : (old : List ℕ) (e : Effect) → b ≡ true → many_at x k ≡ true → e ≡ refused_as p 17 → Handled x k old old e
+  query_many : (old : List ℕ) (e : Outcome) → b ≡ true → many_at x k ≡ true → e ≡ refused_as p 17 → Handled x k old old e
   query_many old e z m w =
       let own : 17 ≡ first_of (refusals_of x k) = rw (own_query, z, m) in
       handled_refused x k old p 17 e f.holds w (late_own x k 17 own (λ n. omega (arith, n))) (λ n. omega (arith, n))
@@ -118,10 +118,10 @@ module _ (p : Problem) (b : Bool) (x : Context) (k : model.Kind) (q : T (is_quer
 -- ---- L
 
 module _ (p : Problem) (rows : List ℕ) (b : Bool) (s k : ℕ) where
-  pub list_uncovered : (old : List ℕ) (e : Effect) → b ≡ false → e ≡ refused_as p 12 → HandlesL p rows b s k old old e
+  pub list_uncovered : (old : List ℕ) (e : Outcome) → b ≡ false → e ≡ refused_as p 12 → HandlesL p rows b s k old old e
   list_uncovered old e z q x f d i j l = query_uncovered p b x model.Kind.L tt f d.told old e z q
 
-  pub list_answered : (n c : ℕ) (old new : List ℕ) (r : Reply) (e : Effect) → b ≡ true → n ≡ p.candidates.count → c ≡ k → Replied (page_bytes (row_covers n rows) s c) old new r → e ≡ replied_as p r
+  pub list_answered : (n c : ℕ) (old new : List ℕ) (r : Result ℕ Reason) (e : Outcome) → b ≡ true → n ≡ p.candidates.count → c ≡ k → Replied (page_bytes (row_covers n rows) s c) old new r → e ≡ replied_as p r
       → HandlesL p rows b s k old new e
   unfolding answer_for
   list_answered n c old new r e z m v w q x f d i j l =
@@ -173,7 +173,7 @@ module _ (p : Problem) (lows highs : List ℕ) (l : lows ≡ take p.candidates.c
       ∙ sym (possibles_same (covering_of x) rs (of_rows (replicate (length q.cands) 0) rows) d.listed)
 
   module _ (rows : List ℕ) (b : Bool) (s k : ℕ) where
-    pub possible_answered : (c : ℕ) (old new : List ℕ) (r : Reply) (e : Effect) → b ≡ true → c ≡ k → Replied (possible_bytes (row_possibles (length lows) rows lows highs) s c) old new r
+    pub possible_answered : (c : ℕ) (old new : List ℕ) (r : Result ℕ Reason) (e : Outcome) → b ≡ true → c ≡ k → Replied (possible_bytes (row_possibles (length lows) rows lows highs) s c) old new r
         → e ≡ replied_as p r → HandlesV p rows b s k old new e
     unfolding answer_for
     possible_answered c old new r e z v w q x f d i j l =
@@ -181,7 +181,7 @@ module _ (p : Problem) (lows highs : List ℕ) (l : lows ≡ take p.candidates.c
         (subst (λ (all : List ℕ). Replied (possible_bytes all (start x) (count x)) old new r) (possibles_of_lem rows x f d.rows_of) (rw (i, j, ← v) w))
         l (query_covered p b x model.Kind.«V» tt f d.told z refl) f.holds (after_query x p model.Kind.«V» tt f.holds) e q
 
-pub possible_uncovered : (p : Problem) (rows : List ℕ) (b : Bool) (s k : ℕ) (old : List ℕ) (e : Effect) → b ≡ false → e ≡ refused_as p 12 → HandlesV p rows b s k old old e
+pub possible_uncovered : (p : Problem) (rows : List ℕ) (b : Bool) (s k : ℕ) (old : List ℕ) (e : Outcome) → b ≡ false → e ≡ refused_as p 12 → HandlesV p rows b s k old old e
 possible_uncovered p rows b s k old e z q x f d i j l = query_uncovered p b x model.Kind.«V» tt f d.told old e z q
 
 -- ---- C
@@ -193,22 +193,28 @@ module _ (p : Problem) (rows costs : List ℕ) (b : Bool) (weights_are : costs �
       ∙ ap (λ (w : Prices). map (candidate_cost w) x.problem.cands) f.holds.settings.prices
 
   -- where each on cell is held there is a cover
-  pub cheapest_none : (old : List ℕ) (o : Optimum) (e : Effect) → b ≡ true → o ≡ Nothing → Optimal rows costs o → HandlesC p rows b old old e
+  pub cheapest_none : (old : List ℕ) (e : Outcome) → b ≡ true → Optimal rows costs None → HandlesC p rows b old old e
   unfolding Optimal
-  cheapest_none old o e z i h x f d l = absurd (T_not (coverable (of_rows costs rows)) (subst (Optimal rows costs) i h) yes)
+  cheapest_none old e z h x f d l = absurd (T_not (coverable (of_rows costs rows)) h yes)
     where
       yes : T (coverable (of_rows costs rows))
       yes = subst (λ (v : Bool). T v) (sym z ∙ d.told ∙ d.rows_of.covered ∙ ap (λ (cs : List ℕ). coverable (of_rows cs rows)) (sym (costs_here x f))) tt
 
-  module _ (s c : ℕ) (o : Optimum) (z : o ≡ AtCover s c) (h : Optimal rows costs o) where
+  module _ (found : Incumbent) (h : Optimal rows costs (Some found)) where
+    abbrev s : ℕ
+    s = found.set
+
+    abbrev c : ℕ
+    c = found.cost
+
     best : Best (of_rows costs rows) c s
     unfolding Optimal
-    best = (subst (Optimal rows costs) z h).0
+    best = h.0
 
     covered : T (coverable (of_rows costs rows))
     covered = cover_coverable (of_rows costs rows) s best.tight.covering
 
-    pub cheapest_answered : (old new : List ℕ) (r : Reply) (e : Effect) → b ≡ true → Replied (bytes_of (Answer.cheapest_is c s)) old new r → e ≡ replied_as p r → HandlesC p rows b old new e
+    pub cheapest_answered : (old new : List ℕ) (r : Result ℕ Reason) (e : Outcome) → b ≡ true → Replied (bytes_of (Answer.cheapest_is c s)) old new r → e ≡ replied_as p r → HandlesC p rows b old new e
     unfolding answer_for
     cheapest_answered old new r e y w q x f d l =
         handled_reply x model.Kind.C p old new r (subst (λ (a : Answer). Replied (bytes_of a) old new r) (ap₂ Answer.cheapest_is cost_same set_same) w) l
@@ -224,43 +230,23 @@ module _ (p : Problem) (rows costs : List ℕ) (b : Bool) (weights_are : costs �
         cost_same = pair.0 ∙ ap (cost (of_rows costs rows)) (sym pair.1 ∙ set_same) ∙ ap
             (λ (cs : List ℕ). cost (of_rows cs rows) (cheapest (covering_of x))) (costs_here x f) ∙ rows_cost_any (covering_of x) rows (cheapest (covering_of x))
 
-pub cheapest_uncovered : (p : Problem) (rows : List ℕ) (b : Bool) (old : List ℕ) (e : Effect) → b ≡ false → e ≡ refused_as p 12 → HandlesC p rows b old old e
+pub cheapest_uncovered : (p : Problem) (rows : List ℕ) (b : Bool) (old : List ℕ) (e : Outcome) → b ≡ false → e ≡ refused_as p 12 → HandlesC p rows b old old e
 cheapest_uncovered p rows b old e z q x f d l = query_uncovered p b x model.Kind.C tt f d.told old e z q
 
 -- ---- N
 
-pub products_uncovered : (p : Problem) (held : List ℕ) (b : Bool) (old : List ℕ) (e : Effect) → b ≡ false → e ≡ refused_as p 12 → HandlesN p held b old old e
+pub products_uncovered : (p : Problem) (held : List ℕ) (b : Bool) (old : List ℕ) (e : Outcome) → b ≡ false → e ≡ refused_as p 12 → HandlesN p held b old old e
 products_uncovered p held b old e z q x f h d l = query_uncovered p b x model.Kind.N tt f d old e z q
 
-module _ {p : Problem} {held : List ℕ} {first second row : MutBor (List ℕ)} {number count : ℕ} (m : Multiplies p held first second row number count) (b : Bool) (z : b ≡ true) where
-  -- the number told is 17 where 17 applies, else 0
-  told_many : (x : Context) → Found p x → BlocksAt x.problem.cands held → (number ≡ 0 → ⊥) → (has_too_many (covering_of x) ≡ true) × (number ≡ 17)
-  told_many x f h d = go (has_too_many (covering_of x)) refl
-    where
-      told : number ≡ cond (has_too_many (covering_of x)) 17 0
-      told = (m x.problem f.holds h).told
+-- they are too many: 17
+pub products_refused : {p : Problem} {held : List ℕ} {first second row : MutBor (List ℕ)} {many : _} → Multiplies p held first second row (Err many) → (b : Bool) → b ≡ true
+    → (old : List ℕ) (e : Outcome) → e ≡ refused_as p 17 → HandlesN p held b old old e
+products_refused {p} m b z old e q x f h c l = query_many p b x model.Kind.N tt f c old e z (m x.problem f.holds h).told q
 
-      go : (t : Bool) → has_too_many (covering_of x) ≡ t → (has_too_many (covering_of x) ≡ true) × (number ≡ 17)
-      go true e = (e, told ∙ rw e)
-      go false e = absurd (d (told ∙ rw e))
-
-  told_few : (x : Context) → Found p x → BlocksAt x.problem.cands held → number ≡ 0 → has_too_many (covering_of x) ≡ false
-  told_few x f h n = go (has_too_many (covering_of x)) refl
-    where
-      go : (t : Bool) → has_too_many (covering_of x) ≡ t → has_too_many (covering_of x) ≡ false
-      go true e = let u : number ≡ 17 = (m x.problem f.holds h).told ∙ rw e in absurd (omega (arith, u))
-      go false e = e
-
-  pub products_refused : (old : List ℕ) (e : Effect) → (number ≡ 0 → ⊥) → e ≡ refused_as p number → HandlesN p held b old old e
-  products_refused old e d q x f h c l =
-      let t = told_many x f h d in
-      query_many p b x model.Kind.N tt f c old e z t.0 (q ∙ ap (refused_as p) t.1)
-
-  pub products_answered : (old new : List ℕ) (r : Reply) (e : Effect) → number ≡ 0 → Replied (bytes_of (Answer.products_are (take count row.now))) old new r → e ≡ replied_as p r
-      → HandlesN p held b old new e
-  unfolding answer_for
-  products_answered old new r e n w q x f h c l =
-      let few = told_few x f h n in
-      let sets : take count row.now ≡ products (covering_of x) = (m x.problem f.holds h).sets ∙ rw few in
-      handled_reply x model.Kind.N p old new r (subst (λ (ss : List ℕ). Replied (bytes_of (Answer.products_are ss)) old new r) sets w) l
-      (query_covered p b x model.Kind.N tt f c z few) f.holds (after_query x p model.Kind.N tt f.holds) e q
+pub products_answered : {p : Problem} {held : List ℕ} {first second row : MutBor (List ℕ)} {count : ℕ} → Multiplies p held first second row (Ok count) → (b : Bool) → b ≡ true
+    → (old new : List ℕ) (r : Result ℕ Reason) (e : Outcome) → Replied (bytes_of (Answer.products_are (take count row.now))) old new r → e ≡ replied_as p r → HandlesN p held b old new e
+unfolding answer_for
+products_answered {p} m b z old new r e w q x f h c l =
+    let o = m x.problem f.holds h in
+    handled_reply x model.Kind.N p old new r (subst (λ (ss : List ℕ). Replied (bytes_of (Answer.products_are ss)) old new r) o.sets w) l
+    (query_covered p b x model.Kind.N tt f c z o.told) f.holds (after_query x p model.Kind.N tt f.holds) e q

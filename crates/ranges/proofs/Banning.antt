@@ -1,12 +1,5 @@
 -- Candidates that no listed set has: the irredundant covers without them are those of the rows without them.
-use mathlib.Core.Path.{◌≡◌, sym, ap, ◌∙◌, subst}
-use mathlib.Core.Logic.{◌↔◌, ⊎_elim}
-use mathlib.Core.List.{List}
-use Prim.Native.Nat.{ℕ, ◌+◌, ◌-◌, ◌^◌, ◌≤◌, ◌<◌}
-use native.Mathlib.Omega.{arith}
-use lib.ListN.{length, get_or, set, take}
-use lib.Seq.{get_or-set_same, get_or-set_other, get_or-take, length-take-le}
-use lib.Bits.{bit_and, bit_or}
+use Rattle.std.proofs.Common.{◌≡◌, sym, ap, ◌∙◌, subst, ◌↔◌, ⊎_elim, List, ℕ, ◌+◌, ◌-◌, ◌^◌, ◌≤◌, ◌<◌, arith, length, get_or, set, take, get_or-set_same, get_or-set_other, get_or-take, length-take-le, bit_and, bit_or, true, true≢false, Option, Some, None}
 use Rattle.model.specs.Pages.{Rising}
 use Rattle.model.proofs.Products.{rising_same}
 use Rattle.bits.specs.Bits.{digit, Minus}
@@ -16,8 +9,7 @@ use Rattle.bits.proofs.Parts.{by_members, apart_by, no_common}
 use Rattle.rows.specs.Covers.{Cover, IrredundantCover}
 use Rattle.rows.specs.Covers as covers
 use Rattle.rows.proofs.Sets.{own_rows}
-use Rattle.lister.specs.declared.cursor.FoundSet.{FoundSet}
-use Rattle.lister.specs.declared.cursor.FoundSet.TheVariants.{At}
+use Rattle.std.specs.Option.{is_some}
 use Rattle.lister.specs.declared.cursor.PageFill.{PageFill}
 use Rattle.lister.specs.Lister.{Paged}
 use Rattle.ranges.specs.Listed.{minus, Listed, Ends, Cleared, Banned, row_possibles}
@@ -115,9 +107,6 @@ module _ (rows : List ℕ) (banned : ℕ) (own : List ℕ) (o : Cleared rows ban
 pub record Clearing (rows : List ℕ) (banned : ℕ) (out : List ℕ) (i : ℕ) : Type 0 where
   pub is : (k : ℕ) → k < i → get_or out k 0 ≡ minus (get_or rows k 0) banned
 
-pub clearing_none : (rows : List ℕ) (banned : ℕ) (out : List ℕ) → Clearing rows banned out 0
-clearing_none rows banned out = record { is = λ k lt. absurd (omega arith) }
-
 pub clearing_more : (rows : List ℕ) (banned : ℕ) (out : List ℕ) (i x : ℕ) → Clearing rows banned out i → i < length out → Minus (get_or rows i 0) banned x
     → Clearing rows banned (set out i x) (i + 1)
 clearing_more rows banned out i x g room d = record {
@@ -129,18 +118,12 @@ clearing_more rows banned out i x g room d = record {
       (eq? k i);
 }
 
-pub clearing_all : (rows : List ℕ) (banned : ℕ) (out : List ℕ) (i size : ℕ) → Clearing rows banned out i → length rows ≤ i → length out ≡ size → ClearedIn rows banned size out
-clearing_all rows banned out i size g le l = record { size_is = l; is = λ k lt. g.is k (omega arith) }
-
 module _ {rows : List ℕ} {banned size : ℕ} {new : List ℕ} (o : ClearedIn rows banned size new) (le : length rows ≤ size) where
   long : length (take (length rows) new) ≡ length rows
   long = length-take-le (length rows) new (omega (arith, o.size_is))
 
   pub own_first : Cleared rows banned (take (length rows) new)
   own_first = record { size = long; is = λ k lt. get_or-take (length rows) new k 0 lt ∙ o.is k lt }
-
-  pub own_few : length rows ≤ 2048 → length (take (length rows) new) ≤ 2048
-  own_few few = omega (arith, long)
 
 -- ---- the banned candidates
 
@@ -151,23 +134,23 @@ banned_none rows low high s h = apart_by s 0 (λ c m n. absurd (omega (arith, di
 pub banned_as : (rows low high : List ℕ) {a b : ℕ} → b ≡ a → Banned rows low high a → Banned rows low high b
 banned_as rows low high e h = subst (Banned rows low high) (sym e) h
 
-banned_power : (rows low high : List ℕ) (banned i t : ℕ) (f : FoundSet) → Banned rows low high banned → f ≡ At t → Rival rows low high (2 ^ i) f
+banned_power : (rows low high : List ℕ) (banned i t : ℕ) → Banned rows low high banned → Rival rows low high (2 ^ i) (Some t)
     → Banned rows low high (bit_or banned (2 ^ i))
 unfolding Banned Rival
-banned_power rows low high banned i t f b e r s h = apart_by s (bit_or banned (2 ^ i)) (λ c m n.
+banned_power rows low high banned i t b r s h = apart_by s (bit_or banned (2 ^ i)) (λ c m n.
     let not : digit c banned ≡ 1 → ⊥ = no_common s banned c (b s h) m in
     let is : c ≡ i = pow_only c i (omega (arith, digit_or c banned (2 ^ i), digit_lt c banned, digit_lt c (2 ^ i))) in
-    let q = subst (Rival rows low high (2 ^ i)) e r in
     omega (
       arith,
-      q.2,
-      exchange (length low) rows low high s h (2 ^ i) t q.0
-          (by_members (2 ^ i) s (λ d k. subst (λ (j : ℕ). digit j s ≡ 1) (is ∙ sym (pow_only d i k)) m)) q.1,
+      r.2,
+      exchange (length low) rows low high s h (2 ^ i) t r.0
+          (by_members (2 ^ i) s (λ d k. subst (λ (j : ℕ). digit j s ≡ 1) (is ∙ sym (pow_only d i k)) m)) r.1,
     ))
 
 -- a candidate with a rival of its own is in no listed set
-pub banned_one : (rows low high : List ℕ) (banned i m t : ℕ) (f : FoundSet) → m ≡ 2 ^ i → Banned rows low high banned → f ≡ At t → Rival rows low high m f
-    → Banned rows low high (bit_or banned m)
-banned_one rows low high banned i m t f is b e r =
+pub banned_one : (rows low high : List ℕ) (banned i m : ℕ) → m ≡ 2 ^ i → Banned rows low high banned
+    → (f : Option ℕ) → Rival rows low high m f → is_some f ≡ true → Banned rows low high (bit_or banned m)
+banned_one rows low high banned i m is b None r some = absurd (true≢false (sym some))
+banned_one rows low high banned i m is b (Some t) r some =
     subst (λ (v : ℕ). Banned rows low high (bit_or banned v)) (sym is)
-    (banned_power rows low high banned i t f b e (subst (λ (v : ℕ). Rival rows low high v f) is r))
+    (banned_power rows low high banned i t b (subst (λ (v : ℕ). Rival rows low high v (Some t)) is r))

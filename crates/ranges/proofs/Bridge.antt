@@ -1,14 +1,8 @@
 -- The sets that V lists by the rows are crate model's, and what is known of one set from another.
-use mathlib.Core.Path.{◌≡◌, refl, sym, ap, ◌∙◌, subst}
-use mathlib.Core.Logic.{◌↔◌, ◌⊎◌, inl, inr, ⊎_elim}
-use mathlib.Core.Bool.{not, cond}
-use mathlib.Core.List.{List, [], ◌∷◌, Memᴰ}
-use Prim.Native.Nat.{ℕ, zero, suc, ◌+◌, ◌*◌, ◌/◌, ◌^◌, ◌≤◌, ◌<◌}
-use native.Mathlib.Nat.{zero-mul}
-use native.Mathlib.Omega.{arith}
-use lib.Dec.{T}
-use lib.ListN.{length, get_or, replicate, length-replicate}
-use lib.Bits.{bit_and, and_self, and_comm}
+use Rattle.std.proofs.Common.{◌≡◌, refl, sym, ap, ◌∙◌, subst, ◌↔◌, ◌⊎◌, inl, inr, ⊎_elim, not, cond, List, [], ◌∷◌, ℕ, zero, suc, ◌+◌, ◌*◌, ◌/◌, ◌^◌, ◌≤◌, ◌<◌, zero-mul, arith, T, length, get_or, replicate, bit_and}
+use mathlib.Core.List.{Memᴰ}
+use lib.ListN.{length-replicate}
+use lib.Bits.{and_self, and_comm}
 use Rattle.model.specs.Base.{bit}
 use Rattle.model.specs.Sets.{of_rows}
 use Rattle.model.specs.Pages.{Rising}

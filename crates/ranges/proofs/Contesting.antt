@@ -1,29 +1,18 @@
 -- From what the search for a cheap cover says to rivals, and to ranges without a listed set.
-use mathlib.Core.Path.{◌≡◌, refl, sym, ap, ◌∙◌, subst}
-use mathlib.Core.Logic.{⊎_elim}
-use mathlib.Core.Bool.{true, false}
-use mathlib.Core.List.{List}
-use Prim.Native.Nat.{ℕ, ◌+◌, ◌-◌, ◌^◌, ◌≤◌, ◌<◌}
-use native.Mathlib.Nat.{mod-eq_of_lt}
-use native.Mathlib.Omega.{arith}
-use lib.ListN.{length, get_or, take}
-use lib.Bits.{bit_and, and_mask}
-use lib.Pow.{pow_pos}
+use Rattle.std.proofs.Common.{◌≡◌, refl, sym, ap, ◌∙◌, subst, ⊎_elim, true, false, List, ℕ, ◌+◌, ◌-◌, ◌^◌, ◌≤◌, ◌<◌, mod-eq_of_lt, arith, length, take, bit_and, pow_pos, true≢false, Option, Some, None}
+use lib.Bits.{and_mask}
 use Rattle.bits.specs.Bits.{Part, Minus}
-use Rattle.bits.proofs.Decide.{true_is_not_false}
 use Rattle.bits.proofs.Digits.{digit_lt, digit_or, digit_ext, digit_of_zero}
 use Rattle.bits.proofs.Members.{part_of, and_right}
 use Rattle.bits.proofs.Parts.{by_members, part_le, part_self, minus_part}
 use Rattle.rows.specs.Covers.{Cover, IrredundantCover, Between}
 use Rattle.lister_narrowing.specs.declared.Tight.{Tight}
-use Rattle.lister_narrowing.specs.Narrowing.{IrredundantBetween, Tightened}
+use Rattle.lister_narrowing.specs.Narrowing.{IrredundantBetween, NoneBetween, Narrowed}
 use Rattle.cheapest_bounds.specs.declared.costs.Incumbent.{Incumbent}
-use Rattle.cheapest_bounds.specs.Units.{CommonUnit}
 use Rattle.cheapest_bounds.specs.Costs.{cost_of, CoverBetween}
 use Rattle.cheapest_bounds.proofs.Costing.{cost_none, cost_part}
 use Rattle.cheapest.specs.Optimum.{Priced, Attained, Valued, Below}
-use Rattle.lister.specs.declared.cursor.FoundSet.{FoundSet}
-use Rattle.lister.specs.declared.cursor.FoundSet.TheVariants.{At, Nothing}
+use Rattle.std.specs.Option.{is_some}
 use Rattle.ranges.specs.Listed.{minus, Listed, Ends, Outmeets, Needless}
 use Rattle.ranges.specs.Rivals.{Quoted, Mixed, RowsMet, Contest, Rival, Undercuts, Recalled, KnownListed, NoDearer, Decided, NoneListed}
 use Rattle.ranges.proofs.Bridge.{transfer}
@@ -35,24 +24,22 @@ use Rattle.ranges.proofs.Meeting.{met_outmeets, outmeets_met}
 pub quoted_ends : (low high : List ℕ) (unit : ℕ) → Quoted low high unit → Ends (length low) low high
 quoted_ends low high unit q = record { lows = refl; highs = q.even; ordered = q.ordered }
 
-pub quoted : {low high : List ℕ} {unit : ℕ} → length low ≤ 64 → length high ≡ length low → ((i : ℕ) → get_or low i 0 ≤ get_or high i 0)
-    → CommonUnit low unit × CommonUnit high unit → Quoted low high unit
-quoted few even ordered u = record { few = few; even = even; ordered = ordered; lows = u.0; highs = u.1 }
-
 -- ---- a search from nothing
 
 pub priced_start : (costs : List ℕ) (limit : ℕ) → length costs ≤ 64 → limit ≤ 4194305 → Priced costs 0 0 limit
 priced_start costs limit l le = record { few = l; is = sym (cost_none costs); near = le }
 
-pub valued_below : (rows costs : List ℕ) (s free limit : ℕ) (r : Incumbent) → Valued rows costs s free (record { cost = limit; set = 0 }) r → Below rows costs s free limit r
-valued_below rows costs s free limit r v = record {
-  within = v.within;
-  found = λ lt. ⊎_elim
+module _ (rows costs : List ℕ) (s free limit : ℕ) (r : Incumbent) (v : Valued rows costs s free (record { cost = limit; set = 0 }) r) where
+  pub valued_some : r.cost < limit → Below rows costs s free limit (Some r)
+  unfolding Below
+  valued_some lt = ⊎_elim
       (λ (e : r ≡ record { cost = limit; set = 0 }). absurd (omega (arith, ap (λ (x : Incumbent). x.cost) e)))
-      (λ (e : Attained rows costs s free r × (r.cost < limit)). e.0)
-      v.found;
-  none = λ le t c. omega (arith, v.least t c);
-}
+      (λ (e : Attained rows costs s free r × (r.cost < limit)). e)
+      v.found
+
+  pub valued_none : limit ≤ r.cost → Below rows costs s free limit None
+  unfolding Below
+  valued_none le t c = omega (arith, v.least t c)
 
 -- ---- sets of n candidates
 
@@ -76,31 +63,31 @@ below_all n all t e = omega (arith, part_le (bit_and t all) all (by_members (bit
 
 -- ---- the contest
 
-module _ (rows low high : List ℕ) (s free cost : ℕ) (w : List ℕ) (best : Incumbent) (e : free ≡ 2 ^ length low - 1) (m : Mixed low high s free w)
-    (c : cost ≡ cost_of low s) (b : Below rows w 0 free cost best) where
-  pub contest_found : best.cost < cost → Contest rows low high s (At best.set)
-  unfolding Contest CoverBetween
-  contest_found lt =
-      let a : Attained rows w 0 free best = b.found lt in
+module _ (rows low high : List ℕ) (s free cost : ℕ) (w : List ℕ) (e : free ≡ 2 ^ length low - 1) (m : Mixed low high s free w)
+    (c : cost ≡ cost_of low s) where
+  pub contest_found : (best : Incumbent) → Below rows w 0 free cost (Some best) → Contest rows low high s (Some best.set)
+  unfolding Below Contest CoverBetween
+  contest_found best b =
+      let a : Attained rows w 0 free best = b.0 in
       let l : best.set < 2 ^ length low = among (length low) free e best.set a.cover.1 in
-      (l, a.cover.0, omega (arith, mixed_favours (length low) low high s free w e m best.set l, a.cost_is))
+      (l, a.cover.0, omega (arith, mixed_favours (length low) low high s free w e m best.set l, a.cost_is, b.1))
 
-  pub contest_none : cost ≤ best.cost → Contest rows low high s Nothing
-  unfolding Contest CoverBetween
-  contest_none le t lt cover =
-      omega (arith, b.none le t (cover, between (length low) free e t lt), mixed_favours (length low) low high s free w e m t lt)
+  pub contest_none : Below rows w 0 free cost None → Contest rows low high s None
+  unfolding Below Contest CoverBetween
+  contest_none b t lt cover =
+      omega (arith, b t (cover, between (length low) free e t lt), mixed_favours (length low) low high s free w e m t lt)
 
 -- nothing costs less than a set that is free of charge
-pub rival_free : (rows low high : List ℕ) (s cost : ℕ) → cost ≡ cost_of low s → cost ≡ 0 → Rival rows low high s Nothing
+pub rival_free : (rows low high : List ℕ) (s cost : ℕ) → cost ≡ cost_of low s → cost ≡ 0 → Rival rows low high s None
 unfolding Rival
 rival_free rows low high s cost e z t lt o = omega arith
 
 -- over the rows that s meets
-pub contest_rival : (rows low high : List ℕ) (s size r : ℕ) (new : List ℕ) (f : FoundSet) → RowsMet rows s size r new → r ≤ length new → Contest (take r new) low high s f
+pub contest_rival : (rows low high : List ℕ) (s size r : ℕ) (new : List ℕ) (f : Option ℕ) → RowsMet rows s size r new → r ≤ length new → Contest (take r new) low high s f
     → Rival rows low high s f
 unfolding Contest Rival
-contest_rival rows low high s size r new (At t) m le c = (c.0, met_outmeets rows s size r new m le t c.1, c.2)
-contest_rival rows low high s size r new Nothing m le c = λ t lt o. c t lt (outmeets_met rows s size r new m le t o)
+contest_rival rows low high s size r new (Some t) m le c = (c.0, met_outmeets rows s size r new m le t c.1, c.2)
+contest_rival rows low high s size r new None m le c = λ t lt o. c t lt (outmeets_met rows s size r new m le t o)
 
 -- ---- one set
 
@@ -112,52 +99,41 @@ pub undercuts_is : (low high : List ℕ) (t x a b h l : ℕ) → Minus t x a →
 unfolding Undercuts
 undercuts_is low high t x a b h l d e f g lt = omega (arith, ap (cost_of high) (minus_less t x a d), ap (cost_of low) (minus_less x t b e))
 
-pub no_dearer_is : (low high : List ℕ) (x t a b h l : ℕ) (known : FoundSet) → known ≡ At t → Minus x t a → Minus t x b → h ≡ cost_of high a → l ≡ cost_of low b → h ≤ l
+pub no_dearer_is : (low high : List ℕ) (x t a b h l : ℕ) (known : Option ℕ) → known ≡ Some t → Minus x t a → Minus t x b → h ≡ cost_of high a → l ≡ cost_of low b → h ≤ l
     → NoDearer low high x known
 unfolding NoDearer
 no_dearer_is low high x t a b h l known is d e f g le =
-    let this : NoDearer low high x (At t) = omega (arith, ap (cost_of high) (minus_less x t a d), ap (cost_of low) (minus_less t x b e)) in
+    let this : NoDearer low high x (Some t) = omega (arith, ap (cost_of high) (minus_less x t a d), ap (cost_of low) (minus_less t x b e)) in
     subst (NoDearer low high x) (sym is) this
 
-pub recalled_none : (rows low high : List ℕ) (x : ℕ) → Recalled rows low high x Nothing
+pub recalled_none : (rows low high : List ℕ) (x : ℕ) → Recalled rows low high x None
 unfolding Recalled
 recalled_none rows low high x = tt
 
 pub recalled_found : (rows low high : List ℕ) (x any all t : ℕ) → all ≡ 2 ^ length low - 1 → t ≡ bit_and any all → Cover rows t → Undercuts low high t x
-    → Recalled rows low high x (At t)
+    → Recalled rows low high x (Some t)
 unfolding Recalled
 recalled_found rows low high x any all t e f c u = (subst (λ (y : ℕ). y < 2 ^ length low) (sym f) (below_all (length low) all any e), c, u)
 
-pub judged_recalled : (rows low high : List ℕ) (x t : ℕ) (f : FoundSet) → f ≡ At t → Recalled rows low high x f → Decided rows low high x (At t)
+pub judged_recalled : (rows low high : List ℕ) (x t : ℕ) → Recalled rows low high x (Some t) → Decided rows low high x (Some t)
 unfolding Recalled Decided Undercuts
-judged_recalled rows low high x t f e r h =
-    let q : (t < 2 ^ length low) × Cover rows t × (cost_of high (minus t x) < cost_of low (minus x t)) = subst (Recalled rows low high x) e r in
-    omega (arith, q.2, no_dearer_lem (length low) rows low high x h t q.0 q.1)
+judged_recalled rows low high x t r h = omega (arith, r.2, no_dearer_lem (length low) rows low high x h t r.0 r.1)
 
 -- L5
-pub judged_known : (rows low high : List ℕ) (unit : ℕ) (x : ℕ) (known : FoundSet) → Quoted low high unit → KnownListed rows low high known → NoDearer low high x known
-    → Decided rows low high x Nothing
+pub judged_known : (rows low high : List ℕ) (unit : ℕ) (x : ℕ) (known : Option ℕ) → Quoted low high unit → KnownListed rows low high known → NoDearer low high x known
+    → Decided rows low high x None
 unfolding KnownListed NoDearer Decided
-judged_known rows low high unit x (At t) q k d = λ l i. transfer (length low) rows low high (quoted_ends low high unit q) x t k l i d
-judged_known rows low high unit x Nothing q k d = absurd d
+judged_known rows low high unit x (Some t) q k d = λ l i. transfer (length low) rows low high (quoted_ends low high unit q) x t k l i d
+judged_known rows low high unit x None q k d = absurd d
 
-pub known_none : (rows low high : List ℕ) → KnownListed rows low high Nothing
+pub known_none : (rows low high : List ℕ) → KnownListed rows low high None
 unfolding KnownListed
 known_none rows low high = tt
 
-pub judged_rival : (rows low high : List ℕ) (x : ℕ) (f : FoundSet) → Rival rows low high x f → Decided rows low high x f
+pub judged_rival : (rows low high : List ℕ) (x : ℕ) (f : Option ℕ) → Rival rows low high x f → Decided rows low high x f
 unfolding Rival Decided Outmeets Cover
-judged_rival rows low high x (At t) r = λ h. omega (arith, r.2, exchange (length low) rows low high x h x t r.0 (part_self x) r.1)
-judged_rival rows low high x Nothing r = λ l i. record { among = l; tight = i; least = λ t lt c. r t lt (λ k b y z. c k b z) }
-
-pub judged_not : (rows low high : List ℕ) (x t : ℕ) (f : FoundSet) → f ≡ At t → Decided rows low high x f → Listed (length low) rows low high x → ⊥
-unfolding Decided
-judged_not rows low high x t f e j = subst (Decided rows low high x) e j
-
-pub judged_listed : (rows low high : List ℕ) (x : ℕ) (f : FoundSet) → f ≡ Nothing → Decided rows low high x f → x < 2 ^ length low → IrredundantCover rows x
-    → Listed (length low) rows low high x
-unfolding Decided
-judged_listed rows low high x f e j = subst (Decided rows low high x) e j
+judged_rival rows low high x (Some t) r = λ h. omega (arith, r.2, exchange (length low) rows low high x h x t r.0 (part_self x) r.1)
+judged_rival rows low high x None r = λ l i. record { among = l; tight = i; least = λ t lt c. r t lt (λ k b y z. c k b z) }
 
 -- ---- ranges without a listed set
 
@@ -183,28 +159,28 @@ module _ (rows low high : List ℕ) (s free any all t r : ℕ) (w : List ℕ) (c
   refuted_dear le y h b = omega (arith, outbid rows low high t r w small needless m y h, cost_part w s y (by_members s y b.0))
 
   -- every cover there does
-  pub refuted_all : (best : Incumbent) → Below rows w s free limit best → limit ≤ best.cost → NoneListed rows low high s free
-  unfolding NoneListed CoverBetween IrredundantCover
-  refuted_all best b le y h between =
-      omega (arith, outbid rows low high t r w small needless m y h, b.none le y (h.tight.0, between))
+  pub refuted_all : (found : Option Incumbent) → Below rows w s free limit found → is_some found ≡ false → NoneListed rows low high s free
+  unfolding Below NoneListed CoverBetween IrredundantCover
+  refuted_all (Some best) b none = absurd (true≢false none)
+  refuted_all None b none = λ y h lies. omega (arith, outbid rows low high t r w small needless m y h, b y (h.tight.0, lies))
 
 -- ---- what can be said of a range
 
-module _ (rows low high : List ℕ) (s free : ℕ) (g : Tight) (n : Tightened rows s free g) where
-  kept : (y : ℕ) → Listed (length low) rows low high y → Between s free y → (g.dead ≡ false) × Between g.s g.free y
-  unfolding IrredundantBetween
-  kept y h b = let k = n.keeps y (h.tight, b) in (k.0, k.1.1)
+module _ (rows low high : List ℕ) (s free : ℕ) where
+  pub barren_empty : NoneBetween rows s free → NoneListed rows low high s free
+  unfolding NoneListed NoneBetween IrredundantBetween
+  barren_empty none y h b = none y (h.tight, b)
 
-  pub barren_dead : g.dead ≡ true → NoneListed rows low high s free
-  unfolding NoneListed
-  barren_dead d y h b = true_is_not_false (sym d ∙ (kept y h b).0)
+  module _ (g : Tight) (n : Narrowed rows s free g) where
+    kept : (y : ℕ) → Listed (length low) rows low high y → Between s free y → Between g.s g.free y
+    unfolding IrredundantBetween
+    kept y h b = (n.keeps y (h.tight, b)).1
 
-  pub barren_narrowed : NoneListed rows low high g.s g.free → NoneListed rows low high s free
-  unfolding NoneListed
-  barren_narrowed f y h b = f y h (kept y h b).1
+    pub barren_narrowed : NoneListed rows low high g.s g.free → NoneListed rows low high s free
+    unfolding NoneListed
+    barren_narrowed f y h b = f y h (kept y h b)
 
-  pub barren_rival : (f : FoundSet) (x : ℕ) → f ≡ At x → Rival rows low high g.s f → NoneListed rows low high s free
-  unfolding NoneListed Rival Between
-  barren_rival f x e r y h b =
-      let q = subst (Rival rows low high g.s) e r in
-      omega (arith, q.2, exchange (length low) rows low high y h g.s x q.0 (by_members g.s y (kept y h b).1.0) q.1)
+    pub barren_rival : (f : Option ℕ) → Rival rows low high g.s f → is_some f ≡ true → NoneListed rows low high s free
+    unfolding NoneListed Rival Between
+    barren_rival None r some = absurd (true≢false (sym some))
+    barren_rival (Some x) r some = λ y h b. omega (arith, r.2, exchange (length low) rows low high y h g.s x r.0 (by_members g.s y (kept y h b).0) r.1)

@@ -1,84 +1,34 @@
 -- The rows that a set meets, and what they make needless.
-use mathlib.Core.Path.{◌≡◌, refl, sym, ap, ◌∙◌, subst}
-use mathlib.Core.Logic.{⊎_elim}
-use mathlib.Core.List.{List}
-use Prim.Native.Nat.{ℕ, ◌+◌, ◌≤◌, ◌<◌}
-use native.Mathlib.Omega.{arith}
-use lib.ListN.{length, get_or, set, take}
-use lib.Seq.{get_or-set_same, get_or-set_other, get_or-take, length-take-le}
-use lib.Bits.{bit_and}
+use Rattle.std.proofs.Common.{◌≡◌, sym, ap, ◌∙◌, subst, ⊎_elim, not, Option, List, ℕ, ◌+◌, ◌≤◌, ◌<◌, arith, length, get_or, take, get_or-take, length-take-le, bit_and}
+use Rattle.std.specs.Prelude.{◌==◌}
+use Rattle.std.specs.Bool.{then_some}
 use Rattle.bits.specs.Bits.{digit, Minus}
 use Rattle.bits.proofs.Digits.{eq?, digit_lt}
 use Rattle.bits.proofs.Parts.{apart_by}
 use Rattle.rows.specs.Covers.{Cover}
+use Rattle.rows.specs.Keeping.{Kept}
+use Rattle.rows.proofs.Making.{Told, unless_zero, kept_has, kept_from}
 use Rattle.ranges.specs.Listed.{Outmeets, Needless}
 use Rattle.ranges.specs.Rivals.{RowsMet}
 
 -- ---- the rows that s meets
 
--- the first n of out are those among the first i
-pub record Meeting (rows : List ℕ) (s : ℕ) (out : List ℕ) (n i : ℕ) : Type 0 where
-  pub few : n ≤ i
-  pub has : (k : ℕ) → k < i → (bit_and (get_or rows k 0) s ≡ 0 → ⊥) → (j : ℕ) × (j < n) × (get_or out j 0 ≡ get_or rows k 0)
-  pub from : (j : ℕ) → j < n → (k : ℕ) × (k < i) × (bit_and (get_or rows k 0) s ≡ 0 → ⊥) × (get_or out j 0 ≡ get_or rows k 0)
-
-pub meeting_none : (rows : List ℕ) (s : ℕ) (out : List ℕ) → Meeting rows s out 0 0
-meeting_none rows s out = record { few = omega arith; has = λ k lt z. absurd (omega arith); from = λ j lt. absurd (omega arith) }
-
-module _ (rows : List ℕ) (s : ℕ) (out : List ℕ) (n i : ℕ) (g : Meeting rows s out n i) where
-  pub meeting_skip : bit_and (get_or rows i 0) s ≡ 0 → Meeting rows s out n (i + 1)
-  meeting_skip z = record {
-    few = omega (arith, g.few);
-    has = λ k lt m. ⊎_elim
-        (λ (e : k ≡ i). absurd (m (ap (λ (v : ℕ). bit_and (get_or rows v 0) s) e ∙ z)))
-        (λ (d : k ≡ i → ⊥). g.has k (omega arith) m)
-        (eq? k i);
-    from = λ j lt. let r = g.from j lt in (r.0, omega (arith, r.1), r.2, r.3);
-  }
-
-  pub meeting_take : n < length out → (bit_and (get_or rows i 0) s ≡ 0 → ⊥) → Meeting rows s (set out n (get_or rows i 0)) (n + 1) (i + 1)
-  meeting_take room y = record {
-    few = omega (arith, g.few);
-    has = λ k lt m. ⊎_elim
-        (λ (e : k ≡ i). (n, omega arith, at_n n refl ∙ ap (λ (v : ℕ). get_or rows v 0) (sym e)))
-        (λ (d : k ≡ i → ⊥).
-        let r = g.has k (omega arith) m in
-        (r.0, omega (arith, r.1), other r.0 (λ e. omega (arith, r.1)) ∙ r.2))
-        (eq? k i);
-    from = λ j lt. ⊎_elim
-        (λ (e : j ≡ n). (i, omega arith, y, at_n j e))
-        (λ (d : j ≡ n → ⊥).
-        let r = g.from j (omega arith) in
-        (r.0, omega (arith, r.1), r.2, other j d ∙ r.3))
-        (eq? j n);
-  }
-    where
-      x : ℕ
-      x = get_or rows i 0
-
-      at_n : (j : ℕ) → j ≡ n → get_or (set out n x) j 0 ≡ x
-      at_n j e = ap (λ (v : ℕ). get_or (set out n x) v 0) e ∙ get_or-set_same out n x 0 room
-
-      other : (j : ℕ) → (j ≡ n → ⊥) → get_or (set out n x) j 0 ≡ get_or out j 0
-      other j d = get_or-set_other out n j x 0 d
-
-pub meeting_as : (rows : List ℕ) (s : ℕ) {out out' : List ℕ} {n n' : ℕ} (i : ℕ) → out' ≡ out → n' ≡ n → Meeting rows s out n i → Meeting rows s out' n' i
-meeting_as rows s {out} {out'} {n} {n'} i e f g =
-    subst (λ (o : List ℕ). Meeting rows s o n' i) (sym e) (subst (λ (k : ℕ). Meeting rows s out k i) (sym f) g)
-
-pub meeting_all : (rows : List ℕ) (s : ℕ) (out : List ℕ) (n i size : ℕ) → Meeting rows s out n i → i ≡ length rows → length out ≡ size → RowsMet rows s size n out
-meeting_all rows s out n i size g e l = record {
-  size_is = l;
-  few = omega (arith, g.few);
-  has = λ k lt m. g.has k (omega arith) m;
-  from = λ j lt. let r = g.from j lt in (r.0, omega (arith, r.1), r.2, r.3);
+-- they are there where each of them, and no other, gives itself
+pub met_kept : (makes : ℕ → Option ℕ → Type 0) (rows new : List ℕ) (s size r : ℕ)
+    → ((x : ℕ) (o : Option ℕ) → makes x o → o ≡ then_some (not (bit_and x s == 0)) x)
+    → Kept makes rows size r new → RowsMet rows s size r new
+met_kept makes rows new s size r is g = record {
+  size_is = g.size_is;
+  few = g.few;
+  has = kept_has makes _ _ told _ _ _ _ g;
+  from = kept_from makes _ _ told _ _ _ _ g;
 }
+  where
+    told : (x : ℕ) (o : Option ℕ) → makes x o → Told (bit_and x s ≡ 0 → ⊥) x o
+    told x o m = unless_zero _ _ _ (is x o m)
 
 pub met_fits : (rows : List ℕ) (s size r : ℕ) (new : List ℕ) → RowsMet rows s size r new → length rows ≤ size → r ≤ length new
 met_fits rows s size r new m le = omega (arith, m.few, m.size_is)
-
-pub met_few : (rows : List ℕ) (s size r : ℕ) (new : List ℕ) → RowsMet rows s size r new → length rows ≤ size → length rows ≤ 2048 → length (take r new) ≤ 2048
-met_few rows s size r new m le few = omega (arith, m.few, length-take-le r new (met_fits rows s size r new m le))
 
 -- what covers these has a member in each row that s meets, and the other way
 module _ (rows : List ℕ) (s size r : ℕ) (new : List ℕ) (m : RowsMet rows s size r new) (fits : r ≤ length new) (t : ℕ) where

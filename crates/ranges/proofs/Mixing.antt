@@ -1,16 +1,8 @@
 -- Weights put together from two lists, entry by entry, and what sets cost by them.
-use mathlib.Core.Path.{◌≡◌, refl, sym, ap, ◌∙◌}
-use mathlib.Core.Logic.{◌⊎◌, inl, inr, ⊎_elim}
-use mathlib.Core.Bool.{Bool, true, false, not, cond}
-use mathlib.Core.List.{List}
-use Prim.Native.Nat.{ℕ, zero, suc, ◌+◌, ◌-◌, ◌*◌, ◌^◌, ◌≤◌, ◌<◌}
+use Rattle.std.proofs.Common.{◌≡◌, refl, sym, ap, ◌∙◌, ◌⊎◌, inl, inr, ⊎_elim, Bool, true, false, not, cond, List, ℕ, zero, suc, ◌+◌, ◌-◌, ◌*◌, ◌^◌, ◌≤◌, ◌<◌, zero-mul, mul_assoc, add-mul, mod-eq_of_lt, arith, T, length, get_or, replicate, bit_and, max}
 use native.Mathlib.Decide.{dec_lt}
-use native.Mathlib.Nat.{zero-mul, mul_assoc, add-mul, mod-eq_of_lt}
-use native.Mathlib.Omega.{arith}
-use lib.Dec.{T}
-use lib.ListN.{length, get_or, set, replicate, length-set, length-replicate, get_or-eq_default}
-use lib.Seq.{get_or-set_same, get_or-set_other}
-use lib.Bits.{bit_and, and_mask}
+use lib.ListN.{length-replicate, get_or-eq_default}
+use lib.Bits.{and_mask}
 use Rattle.model.specs.Base.{bit}
 use Rattle.model.proofs.Lists.{yes_or_no, T_true, T_false}
 use Rattle.bits.specs.Bits.{digit, Minus}
@@ -52,18 +44,6 @@ zeros (suc n) (suc k) = zeros n k
 
 pub mixing_none : (first second : List ℕ) (a b : ℕ) → Mixing first second a b (replicate 64 0) 0
 mixing_none first second a b = record { size = length-replicate {A = ℕ} 64 0; done = λ k lt. absurd (omega arith); rest = λ k le. zeros 64 k }
-
-pub mixing_more : (first second : List ℕ) (a b : ℕ) (w : List ℕ) (i e : ℕ) → i < 64 → Mixing first second a b w i
-    → e ≡ mixed_entry (get_or first i 0) (get_or second i 0) a b i → Mixing first second a b (set w i e) (i + 1)
-mixing_more first second a b w i e lt m q = record {
-  size = length-set w i e ∙ m.size;
-  done = λ k l. ⊎_elim
-      (λ (f : k ≡ i). ap (λ (j : ℕ). get_or (set w i e) j 0) f ∙ get_or-set_same w i e 0 (omega (arith, m.size)) ∙ q
-      ∙ ap (λ (j : ℕ). mixed_entry (get_or first j 0) (get_or second j 0) a b j) (sym f))
-      (λ (f : k ≡ i → ⊥). get_or-set_other w i k e 0 f ∙ m.done k (omega arith))
-      (eq? k i);
-  rest = λ k l. get_or-set_other w i k e 0 (λ f. omega arith) ∙ m.rest k (omega arith);
-}
 
 pub mixing_all : (first second : List ℕ) (a b : ℕ) (w : List ℕ) (i : ℕ) → length first ≤ 64 → length second ≡ length first → i ≡ length first
     → Mixing first second a b w i → Mixed first second a b w
@@ -123,18 +103,26 @@ mixing_all first second a b w i few same end m = record {
 -- ---- what sets cost by them
 
 -- a common divisor of all entries of two lists is a unit of both
-pub common_unit : {low high : List ℕ} {a b d : ℕ} → CommonDivisor low a → CommonDivisor high b → GreatestDivisor a b d → (d ≡ 0 → ⊥) → CommonUnit low d × CommonUnit high d
+divisor_unit : {low high : List ℕ} {a b d : ℕ} → CommonDivisor low a → CommonDivisor high b → GreatestDivisor a b d → 0 < d → CommonUnit low d × CommonUnit high d
 unfolding Measures Multiple
-common_unit {low} {high} {a} {b} {d} l h g some = (
-  record { positive = omega arith; whole = whole low d (λ k lt. through a (get_or low k 0) g.left (l.divides k lt)) },
-  record { positive = omega arith; whole = whole high d (λ k lt. through b (get_or high k 0) g.right (h.divides k lt)) },
+divisor_unit {low} {high} {a} {b} {d} l h g some = (
+  record { positive = some; whole = whole low d (λ k lt. through a (get_or low k 0) g.left (l.divides k lt)) },
+  record { positive = some; whole = whole high d (λ k lt. through b (get_or high k 0) g.right (h.divides k lt)) },
 )
   where
     through : (u c : ℕ) → Multiple d u → Multiple u c → Multiple d c
     through u c x y = (y.0 * x.0, y.1 ∙ ap (λ (v : ℕ). y.0 * v) x.1 ∙ sym (mul_assoc y.0 x.0 d))
 
-pub no_unit : (costs : List ℕ) → CommonUnit costs 1
+no_unit : (costs : List ℕ) → CommonUnit costs 1
 no_unit costs = record { positive = omega arith; whole = λ t. multiple_one 1 (cost_of costs t) refl }
+
+-- and 1 is one of all lists
+pub common_unit : {low high : List ℕ} {a b d : ℕ} → CommonDivisor low a → CommonDivisor high b → GreatestDivisor a b d
+    → CommonUnit low (max d 1) × CommonUnit high (max d 1)
+common_unit {low} {high} {a} {b} {d} l h g = elim (dec_lt 0 d) [
+  | yes some ↦ let e : max d 1 ≡ d = omega arith in rw e (divisor_unit l h g some)
+  | no none ↦ let e : max d 1 ≡ 1 = omega arith in rw e (no_unit low, no_unit high)
+]
 
 -- mixed weights come in the same steps
 pub mixed_unit : (first second : List ℕ) (a b : ℕ) (w : List ℕ) (u : ℕ) → Mixed first second a b w → CommonUnit first u → CommonUnit second u → CommonUnit w u

@@ -1,11 +1,6 @@
 -- The rival law, and what follows from it: what a listed set costs at most against any set, and sets with too dear a part.
-use mathlib.Core.Path.{◌≡◌, ap}
-use mathlib.Core.Logic.{⊎_elim}
-use mathlib.Core.List.{List}
-use Prim.Native.Nat.{ℕ, ◌+◌, ◌-◌, ◌^◌, ◌≤◌, ◌<◌}
-use native.Mathlib.Omega.{arith}
-use lib.ListN.{get_or}
-use lib.Bits.{bit_and, bit_or, and_comm, or_lt}
+use Rattle.std.proofs.Common.{◌≡◌, ap, ⊎_elim, List, ℕ, ◌+◌, ◌-◌, ◌^◌, ◌≤◌, ◌<◌, arith, get_or, bit_and, bit_or}
+use lib.Bits.{and_comm, or_lt}
 use Rattle.bits.specs.Bits.{digit, Part, Minus}
 use Rattle.bits.proofs.Digits.{eq?, digit_lt, digit_and, digit_or, digit_ext, digit_of_zero, a_member}
 use Rattle.bits.proofs.Members.{and_left, and_right, and_both, not_zero}

@@ -1,12 +1,5 @@
 -- Sums over the members of sets, by their bits: costs that are mixed from two lists.
-use mathlib.Core.Path.{◌≡◌, refl, sym, ap, ◌∙◌}
-use mathlib.Core.Logic.{⊎_elim}
-use mathlib.Core.List.{List, [], ◌∷◌}
-use Prim.Native.Nat.{ℕ, zero, suc, ◌+◌, ◌*◌, ◌/◌, ◌≤◌}
-use native.Mathlib.Nat.{zero-mul, one-mul}
-use native.Mathlib.Omega.{arith}
-use lib.ListN.{length, get_or}
-use lib.Bits.{bit_and}
+use Rattle.std.proofs.Common.{◌≡◌, refl, sym, ap, ◌∙◌, ⊎_elim, List, [], ◌∷◌, ℕ, zero, suc, ◌+◌, ◌*◌, ◌/◌, ◌≤◌, zero-mul, one-mul, arith, length, get_or, bit_and}
 use Rattle.bits.specs.Bits.{digit, Minus}
 use Rattle.bits.proofs.Digits.{eq?, digit_lt, digit_first, digit_next, digit_and}
 use Rattle.bits.proofs.Members.{and_left}

@@ -1,34 +1,25 @@
 -- The walk over the listed sets: which sets are passed, and where it ends.
-use mathlib.Core.Path.{◌≡◌, refl, sym, ap, ◌∙◌, subst}
-use mathlib.Core.Bool.{Bool, true, false}
-use mathlib.Core.List.{List, ◌∷◌, Memᴰ}
-use Prim.Native.Nat.{ℕ, suc, ◌+◌, ◌-◌, ◌*◌, ◌/◌, ◌%◌, ◌^◌, ◌≤◌, ◌<◌}
+use Rattle.std.proofs.Common.{◌≡◌, refl, sym, ap, ◌∙◌, subst, Bool, true, false, List, ℕ, ◌+◌, ◌-◌, ◌*◌, ◌/◌, ◌%◌, ◌^◌, ◌≤◌, ◌<◌, mod-lt, arith, length, bit_and, bit_or, pow_pos, pow_mono, Some, None}
+use mathlib.Core.List.{Memᴰ}
 use native.Mathlib.Decide.{dec_lt}
-use native.Mathlib.Nat.{mul-mod_left, mod-lt}
-use native.Mathlib.Omega.{arith}
-use lib.ListN.{length}
-use lib.Bits.{bit_and, bit_or, and_mask}
-use lib.Pow.{pow_pos, pow_mono, split}
-use lib.Dec.{leb}
-use Rattle.model.specs.Base.{filter}
-use Rattle.model.specs.Pages.{Rising, at_or_above}
-use Rattle.model.proofs.Lists.{filter_e}
+use native.Mathlib.Nat.{mul-mod_left}
+use lib.Bits.{and_mask}
+use lib.Pow.{split}
+use Rattle.model.specs.Pages.{Rising}
 use Rattle.bits.specs.Bits.{digit}
 use Rattle.bits.proofs.Members.{above, within, lacks_bit}
 use Rattle.rows.specs.Covers.{IrredundantCover, Between, row_covers}
-use Rattle.lister.specs.declared.cursor.FoundSet.{FoundSet}
-use Rattle.lister.specs.declared.cursor.FoundSet.TheVariants.{At, Nothing}
 use Rattle.lister.specs.declared.cursor.Cursor.{Cursor}
 use Rattle.lister.specs.Levels.{top}
-use Rattle.lister.specs.Lister.{coming_to, coming, sought, advanced}
+use Rattle.lister.specs.Lister.{coming, sought, advanced}
 use Rattle.lister.specs.Selected.{Passed, room}
 use Rattle.lister.proofs.Climbing.{top_le, top_zero}
-use Rattle.lister.proofs.Listing.{Standing, row_covers_lem, row_covers_rising}
+use Rattle.lister.proofs.Listing.{row_covers_lem, row_covers_rising}
 use Rattle.lister.proofs.Selecting.{moved_on, selected_none, selected_found, selected_on, passed_to, passed_one, room_falls}
 use Rattle.ranges.specs.Listed.{Listed, row_possibles}
 use Rattle.ranges.specs.Rivals.{Quoted, KnownListed, Decided, NoneListed}
 use Rattle.ranges.proofs.Bridge.{row_possibles_lem, possibles_rise}
-use Rattle.ranges.proofs.Contesting.{quoted_ends, judged_listed}
+use Rattle.ranges.proofs.Contesting.{quoted_ends}
 
 module _ (x i m s : ℕ) (e : m ≡ 2 ^ i) (f : s ≡ x - bit_and x (m - 1)) where
   level_start : s ≡ x / 2 ^ i * 2 ^ i
@@ -63,12 +54,10 @@ module _ (rows low high : List ℕ) (unit : ℕ) (q : Quoted low high unit) wher
   pub list_small : (s : ℕ) → Memᴰ s (row_possibles (length low) rows low high) → s < 2 ^ 64
   list_small s m = omega (arith, (is_listed s m).among, pow_mono q.few)
 
-  -- a cursor that is not over stands on a listed set
-  pub standing_known : (c : Cursor) → Standing list c → c.over ≡ false → KnownListed rows low high (At c.at)
-  unfolding Standing KnownListed coming at_or_above
-  standing_known c s o =
-      let e : filter (leb c.at) list ≡ c.at ∷ filter (leb (suc c.at)) list = sym (ap (coming_to list c.at) o) ∙ s o in
-      is_listed c.at (filter_e (leb c.at) list (subst (λ (l : List ℕ). Memᴰ c.at l) (sym e) (Memᴰ.head refl))).0
+  -- a cursor that was moved and is not over stands on a listed set
+  pub found_known : (c d : Cursor) → d ≡ sought list c → d.over ≡ false → KnownListed rows low high (Some d.at)
+  unfolding KnownListed
+  found_known c d e o = is_listed d.at (moved_on list list list_rising (λ s m. m) c d e o).2
 
   -- ---- the range of a level
 
@@ -107,11 +96,11 @@ module _ (rows low high : List ℕ) (unit : ℕ) (q : Quoted low high unit) wher
     pub walked_none : d.over ≡ true → record { at = self.at; over = true } ≡ sought list self
     walked_none o = selected_none all list (row_covers_rising (length low) rows) inside list_rising self c d so_far e o
 
-    pub walked_found : d.over ≡ false → (f : FoundSet) → f ≡ Nothing → Decided rows low high d.at f → d ≡ sought list self
-    walked_found o f g r =
+    pub walked_found : d.over ≡ false → Decided rows low high d.at None → d ≡ sought list self
+    unfolding Decided
+    walked_found o r =
         let s = stands o in
-        let h = judged_listed rows low high d.at f g r s.0 s.1 in
-        selected_found all list (row_covers_rising (length low) rows) inside list_rising self c d so_far e o (in_list d.at h)
+        selected_found all list (row_covers_rising (length low) rows) inside list_rising self c d so_far e o (in_list d.at (r s.0 s.1))
 
     made : d.over ≡ false → (b : Cursor) → Passed list (record { at = d.at; over = false }) b → Passed list d b
     made o b p = subst (λ (x : Cursor). Passed list x b) (ap (λ (v : Bool). record { at = d.at; over = v }) (sym o)) p

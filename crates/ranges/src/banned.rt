@@ -1,28 +1,22 @@
 // Candidates that no listed set has, and the rows without them: these have the same listed sets.
 ghost use Rattle.std.specs.Prelude.{◌≤◌, length};
 ghost use Rattle.ranges.specs.Listed.{Banned};
-ghost use Rattle.ranges.specs.Rivals.{Quoted, ClearedIn};
+ghost use Rattle.ranges.specs.Rivals.{ClearedIn};
 
+use crate::market::Market;
 use crate::rivals;
 use bits::set;
-use lister::cursor::FoundSet;
 
 // The candidates whose rows can be met for less, whatever the weights.
-pub fn banned(rows: &[u64], low: &[u16], high: &[u16], unit: u64) -> u64
-    requires rows_len_bound { length rows.now ≤ 2048 }
-    requires quoted { Quoted low.now high.now unit }
-    ensures { Banned rows.now low.now high.now result }
+pub fn banned(market: &Market) -> u64
+    ensures { let m = market.now in Banned m.rows.now m.low.now m.high.now result }
 {
-    let n = low.len() as u64;
     let mut acc: u64 = 0;
-    let mut i: u64 = 0;
-    while i < n {
+    for i in 0..market.low.len() as u64 {
         let m = set::power(i);
-        let found = rivals::rival(rows, low, high, unit, m, false);
-        if let FoundSet::At(t) = found {
-            acc = acc | m;
+        if rivals::rival(market, m, false).is_some() {
+            acc |= m;
         }
-        i += 1;
     }
     acc
 }
@@ -32,9 +26,7 @@ pub fn cleared(rows: &[u64], banned: u64, out: &mut [u64])
     requires { length rows.now ≤ length out.old }
     ensures { ClearedIn rows.now banned (length out.old) out.new }
 {
-    let mut i = 0;
-    while i < rows.len() {
-        out[i] = set::minus(rows[i], banned);
-        i += 1;
+    for (i, row) in rows.iter().enumerate() {
+        out[i] = set::minus(*row, banned);
     }
 }

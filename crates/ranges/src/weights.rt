@@ -26,11 +26,9 @@ pub fn mixed(first: &[u16], second: &[u16], a: u64, b: u64) -> [u16; 64]
     requires second_len { length second.now ≡ length first.now }
     ensures { Mixed first.now second.now a b result }
 {
-    let mut w: [u16; 64] = [0; 64];
-    let mut i = 0;
-    while i < first.len() {
-        w[i] = entry(first[i], second[i], a, b, i as u64);
-        i += 1;
+    let mut w = [0; 64];
+    for (i, x) in first.iter().enumerate() {
+        w[i] = entry(*x, second[i], a, b, i as u64);
     }
     w
 }
@@ -39,9 +37,5 @@ pub fn mixed(first: &[u16], second: &[u16], a: u64, b: u64) -> [u16; 64]
 pub fn common(low: &[u16], high: &[u16]) -> u64
     ensures { CommonUnit low.now result × CommonUnit high.now result }
 {
-    let u = units::divisor(units::common(low), units::common(high));
-    if u == 0 {
-        return 1;
-    }
-    u
+    units::divisor(units::common(low), units::common(high)).max(1)
 }

@@ -5,3 +5,4 @@ pub mod Gathering
 pub mod Reducing
 pub mod Bridge
 pub mod Same
+pub mod Making

@@ -1,2 +1,3 @@
 pub mod Covers
 pub mod Reduction
+pub mod Keeping

@@ -8,28 +8,19 @@ use bits::set;
 pub fn covers(rows: &[u64], m: u64) -> bool
     ensures { Decides (Cover rows.now m) result }
 {
-    let mut i = 0;
-    while i < rows.len() {
-        if rows[i] & m == 0 {
-            return false;
-        }
-        i += 1;
-    }
-    true
+    rows.iter().all(|row| row & m != 0)
 }
 
 // The members of s that are the only member of s in some row.
 pub fn privates(rows: &[u64], s: u64) -> u64
     ensures { Privates rows.now s result }
 {
-    let mut acc: u64 = 0;
-    let mut i = 0;
-    while i < rows.len() {
-        let x = rows[i] & s;
+    let mut acc = 0;
+    for row in rows {
+        let x = row & s;
         if set::is_single(x) {
-            acc = acc | x;
+            acc |= x;
         }
-        i += 1;
     }
     acc
 }
@@ -38,9 +29,5 @@ pub fn privates(rows: &[u64], s: u64) -> u64
 pub fn irredundant(rows: &[u64], s: u64) -> bool
     ensures { Decides (IrredundantCover rows.now s) result }
 {
-    if covers(rows, s) {
-        privates(rows, s) == s
-    } else {
-        false
-    }
+    covers(rows, s) && privates(rows, s) == s
 }

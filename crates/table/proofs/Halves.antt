@@ -9,9 +9,8 @@ use mathlib.Core.List.{List}
 use lib.Bits.{bit_and, bit_or, or_lt}
 use lib.Count.{ones, ones_step}
 use lib.Dec.{T, T_not, not_T}
-use lib.ListN.{length, get_or, set}
+use lib.ListN.{get_or}
 use lib.Pow.{pow_pos, pow_mono}
-use lib.Seq.{get_or-set_same, get_or-set_other}
 use Rattle.model.specs.Base.{bit}
 use Rattle.model.specs.Table.{Table, cell, is_on, is_dc, is_off}
 use Rattle.model.specs.Primes.{drives}
@@ -24,7 +23,6 @@ use Rattle.table.specs.Cubes.{Allowed, MayOf, Cube, Free, Drives, DrivesFree}
 use Rattle.bits.specs.Bits.{Single, Member}
 use Rattle.bits.proofs.Shifts.{set_is_or}
 use Rattle.bits.proofs.Digits.{digit_bit}
-use borrow.Author.Count.{below_more}
 use Rattle.bits.proofs.Parts.{part_le, part_self, the_member}
 
 -- ---- on | dc, vertex by vertex
@@ -34,12 +32,6 @@ abbrev pub MayBelow : List ℕ → List ℕ → ℕ → List ℕ → Type 0
 MayBelow on dc k may = (v : ℕ) → v < k → get_or may v 0 ≡ bit_or (get_or on v 0) (get_or dc v 0)
 
 module _ (on dc may : List ℕ) where
-  pub may_next : (k : ℕ) → k < length may → MayBelow on dc k may → MayBelow on dc (k + 1) (set may k (bit_or (get_or on k 0) (get_or dc k 0)))
-  may_next k l h =
-      let x : ℕ = bit_or (get_or on k 0) (get_or dc k 0) in
-      below_more (λ v. get_or (set may k x) v 0 ≡ bit_or (get_or on v 0) (get_or dc v 0)) k
-      (λ v b. get_or-set_other may k v x 0 (λ e. omega arith) ∙ h v b) (get_or-set_same may k x 0 l)
-
   pub may_all : (k : ℕ) → 256 ≤ k → MayBelow on dc k may → MayOf on dc may
   may_all k l h p n small t = record {
     inputs = t.inputs;

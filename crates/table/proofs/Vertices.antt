@@ -1,40 +1,26 @@
--- Blocks, vertex by vertex; the laws behind `blocks`.
-use Prim.Native.Nat.{ℕ, ◌+◌, ◌/◌, ◌%◌, ◌^◌, ◌≤◌, ◌<◌}
+-- Blocks, vertex by vertex; the laws behind the loops of `blocks`.
+use Prim.Native.Nat.{ℕ, ◌+◌, ◌^◌, ◌≤◌, ◌<◌}
 use native.Mathlib.Omega.{arith}
-use mathlib.Core.Path.{◌≡◌, sym, ap, ◌∙◌, subst, subst⁻¹}
+use mathlib.Core.Path.{◌≡◌, sym, ◌∙◌, subst, subst⁻¹}
 use mathlib.Core.Bool.{Bool, true, false, not, ◌&&◌}
 use mathlib.Core.List.Memᴰ
 use mathlib.Core.List.{List, map, Memᴰ}
 use borrow.Author.Count.{below_none, below_more}
-use borrow.Author.Tests.{lt-ltb, le-ltb, le-leb}
+use borrow.Author.Tests.{le-leb}
 use lib.Bits.{bit_and}
 use lib.Dec.{T, leb, eqb, leb→le, not_T, T_not}
 use lib.ListN.{get_or}
 use Rattle.model.specs.declared.Block.{Block}
 use Rattle.model.specs.Base.{bit, below, every}
 use Rattle.model.specs.Table.{Table, Cell, cell, cells, is_off}
-use Rattle.model.specs.Blocks.{vertex_bit, block_holds, vertices_below, block_formed, block_holds_no_off}
+use Rattle.model.specs.Blocks.{vertex_bit, block_holds, vertices_below, block_holds_no_off}
 use Rattle.model.proofs.Lists.{and_l, and_r, and_i, implies_e, implies_i, T_true, T_false, bool_ext, every_e, every_i, below_i, below_e, join_e}
 use Rattle.model.proofs.Bits.{bit_lt}
 use Rattle.model.proofs.Cubes.{cell_i}
 use Rattle.table.specs.Cubes.{Allowed}
-use Rattle.table.specs.Blocks.{vertex_in, no_off_at, TellsBlockFormed, TellsBlockNoOff}
+use Rattle.table.specs.Blocks.{vertex_in, no_off_at, TellsBlockNoOff}
 use Rattle.table.proofs.Halves.{may_bit}
 use Rattle.table.proofs.Legality.{within_test, test_within}
-
--- ---- one vertex
-
-pub vertex_in_lem : (vertices : List ℕ) (v x : ℕ) (r : Bool) → x ≡ v / 8 → r ≡ bit (v % 8) (get_or vertices x 0) → r ≡ vertex_in vertices v
-vertex_in_lem vertices v x r e h = h ∙ ap (λ (i : ℕ). bit (v % 8) (get_or vertices i 0)) e
-
-module _ (may outputs : ℕ) (vertices : List ℕ) (v : ℕ) {h : Bool} (e : h ≡ vertex_in vertices v) where
-  pub no_off_held : {r : Bool} → h ≡ true → r ≡ eqb (bit_and outputs may) outputs → r ≡ no_off_at may outputs vertices v
-  unfolding no_off_at
-  no_off_held t g = rw (sym e ∙ t) g
-
-  pub no_off_not_held : h ≡ false → true ≡ no_off_at may outputs vertices v
-  unfolding no_off_at
-  no_off_not_held t = rw (sym e ∙ t)
 
 -- ---- a test of the numbers below k, one by one
 
@@ -79,29 +65,6 @@ module _ {size v : ℕ} (b : Block) (g : NoneBetween size b.vertices v) where
   pub none_above : 256 ≤ v → true ≡ vertices_below size b
   unfolding vertices_below vertex_bit
   none_above l = all_pass (lower size b.vertices) v 256 l g.all_lower
-
--- ---- well-formed
-
-module _ (n m : ℕ) (b : Block) where
-  pub outputs_none : b.outputs ≡ 0 → TellsBlockFormed n m b false
-  unfolding block_formed
-  outputs_none e p i j = rw (le-ltb 0 b.outputs (omega arith))
-
-  module _ {x y : ℕ} (e : x ≡ 2 ^ m) (f : y ≡ b.outputs) (z : b.outputs ≡ 0 → ⊥) where
-    pub outputs_high : x ≤ y → TellsBlockFormed n m b false
-    unfolding block_formed
-    outputs_high l p i j = rw (lt-ltb 0 b.outputs (omega arith), j, le-ltb b.outputs (2 ^ m) (omega arith))
-
-    module _ (s : ℕ) {r : Bool} (l : y < x) (g : s ≡ 2 ^ n) (h : r ≡ vertices_below s b) where
-      vertices_then_weight : TellsBlockFormed n m b (r && leb b.weight 850)
-      unfolding block_formed
-      vertices_then_weight p i j = rw (lt-ltb 0 b.outputs (omega arith), j, lt-ltb b.outputs (2 ^ m) (omega arith), i, ← g, h)
-
-      pub vertices_high : r ≡ false → TellsBlockFormed n m b false
-      vertices_high t p i j = ap (λ (x : Bool). x && leb b.weight 850) (sym t) ∙ vertices_then_weight p i j
-
-      pub weight_last : r ≡ true → TellsBlockFormed n m b (leb b.weight 850)
-      weight_last t p i j = ap (λ (x : Bool). x && leb b.weight 850) (sym t) ∙ vertices_then_weight p i j
 
 -- ---- no off cell
 

@@ -6,10 +6,8 @@ pub fn allowed(on: &[u8; 256], dc: &[u8; 256]) -> [u8; 256]
     ensures { MayOf on.now dc.now result }
 {
     let mut may = [0u8; 256];
-    let mut v: usize = 0;
-    while v < 256 {
-        may[v] = on[v] | dc[v];
-        v += 1;
+    for (v, outputs) in may.iter_mut().enumerate() {
+        *outputs = on[v] | dc[v];
     }
     may
 }

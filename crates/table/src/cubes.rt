@@ -11,10 +11,10 @@ fn free_inputs(n: u8, care: u8) -> u8
     requires { (n ≤ 8) × (care < 2 ^ n) }
     ensures { Free n care result }
 {
-    (byte::bound(n) - 1 - byte::wide(care)) as u8
+    (byte::bound(n) - 1 - usize::from(care)) as u8
 }
 
-// The first of the free inputs, as a set.
+// The first of the free inputs, as a set: `set::lowest` for a byte, which needs no cast back.
 fn first_free(free: u8) -> u8
     requires { 0 < free }
     ensures { Lowest free result }
@@ -26,7 +26,7 @@ fn first_free(free: u8) -> u8
 fn pair(may: &[u8; 256], v: u8, w: u8) -> u8
     ensures { result ≡ bit_and (get_or may.now v 0) (get_or may.now w 0) }
 {
-    may[v as usize] & may[w as usize]
+    may[usize::from(v)] & may[usize::from(w)]
 }
 
 // The outputs that a cube with free inputs may drive: those that both halves may drive. A half has one free input less, so the
@@ -58,7 +58,7 @@ pub fn drives(may: &[u8; 256], n: u8, care: u8, value: u8) -> u8
     requires { Cube n care value }
     ensures { Drives may.now n care value result }
 {
-    let first = may[value as usize];
+    let first = may[usize::from(value)];
     if first == 0 {
         return 0;
     }

@@ -7,21 +7,15 @@ use bits::byte;
 use model::Term;
 
 // Whether t is well-formed for n inputs and m outputs, with the tests in the order of refusal 9.
+#[tactic(auto, unfolding(model::specs::Table::formed))]
 pub fn formed(n: u8, m: u8, t: Term) -> bool
     requires { (n ≤ 8) × (m ≤ 8) }
     ensures { TellsFormed n m t result }
 {
-    if byte::bound(n) <= byte::wide(t.care) {
-        return false;
-    }
-    if byte::within(t.value, t.care) {
-        if t.outputs == 0 {
-            return false;
-        }
-        byte::wide(t.outputs) < byte::bound(m)
-    } else {
-        false
-    }
+    usize::from(t.care) < byte::bound(n)
+        && byte::within(t.value, t.care)
+        && t.outputs != 0
+        && usize::from(t.outputs) < byte::bound(m)
 }
 
 // Whether a well-formed t holds no off cell, that is, its cube may drive its outputs: else refusal 10 applies.

@@ -1,13 +1,14 @@
 -- `commands::block` meets its contract.
-use native.Mathlib.Omega.{arith}
-use Rattle.commands.proofs.Handling.{block_refused, block_many, block_kept}
+use Rattle.std.proofs.Common.{refl, arith}
+use Rattle.model.proofs.Reasons.{has_number}
+use Rattle.commands.proofs.Handling.{passed_on, refuses_block, block_refused, block_many, block_kept}
 use Rattle.commands.proofs.block.Goals as goal
 
-pub returns-then-number-ne0 : goal.returns-then-number-ne0
-returns-then-number-ne0 c = block_refused _ _ _ c.block_refusal-number.ensures _ _ c.if-number-ne0.true c.refused.ensures
+pub returns-in_err-block_refusal : goal.returns-in_err-block_refusal
+returns-in_err-block_refusal c = block_refused _ _ _ (refuses_block _ _ _ _ c.requires c.allowed-may.ensures c.in_err-block_refusal.ensures) _ _ (has_number _) (passed_on _ _ _ c.from_residual.ensures.1)
 
-pub returns-then-p-lt64 : goal.returns-then-p-lt64
-returns-then-p-lt64 c = block_kept _ _ _ c.block_refusal-number.ensures _ _ _ c.if-number-ne0.false c.if-p-lt64.true c.add.ensures c.with_block.ensures
+pub returns-then-count-ge64 : goal.returns-then-count-ge64
+returns-then-count-ge64 c = block_many _ _ _ (refuses_block _ _ _ _ c.requires c.allowed-may.ensures c.in_ok-block_refusal.ensures) _ _ refl (omega arith) refl
 
 pub returns : goal.returns
-returns c = block_many _ _ _ c.block_refusal-number.ensures _ _ c.if-number-ne0.false (omega (arith, c.if-p-lt64.false)) c.refused-2.ensures
+returns c = block_kept _ _ _ (refuses_block _ _ _ _ c.requires c.allowed-may.ensures c.in_ok-block_refusal.ensures) _ _ _ refl c.if-count-ge64.false c.add.ensures c.with_block.ensures

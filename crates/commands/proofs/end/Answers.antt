@@ -1,13 +1,13 @@
 -- `commands::end` meets its contract.
-use native.Mathlib.Omega.{arith}
-use Rattle.commands.proofs.Handling.{end_early, end_long, end_written}
+use Rattle.std.proofs.Common.{refl, arith}
+use Rattle.commands.proofs.Handling.{passed_on, end_early, end_long, end_written}
 use Rattle.commands.proofs.end.Goals as goal
 
 pub returns-then-rest-gt0 : goal.returns-then-rest-gt0
-returns-then-rest-gt0 c = end_early c.args.p c.args.rest _ _ (omega (arith, c.if-rest-gt0.true)) c.refused.ensures
+returns-then-rest-gt0 c = end_early _ _ _ _ (omega arith) refl
 
-pub returns-in-TooLong : goal.returns-in-TooLong
-returns-in-TooLong c = end_long c.args.p c.args.rest _ _ _ c.if-rest-gt0.false c.put_end.ensures _ c.in-TooLong.is c.refused-in-TooLong.ensures
+pub returns-in_err-put_end : goal.returns-in_err-put_end
+returns-in_err-put_end c = end_long c.args.p c.args.rest _ _ _ c.if-rest-gt0.false c.put_end.ensures _ _ c.in_err-put_end.was (passed_on _ _ _ c.from_residual.ensures.1)
 
-pub returns-in-Written : goal.returns-in-Written
-returns-in-Written c = end_written c.args.p c.args.rest _ _ _ c.if-rest-gt0.false c.put_end.ensures _ c.in-Written.is
+pub returns : goal.returns
+returns c = end_written c.args.p c.args.rest _ _ _ c.if-rest-gt0.false c.put_end.ensures _ c.in_ok-put_end.was

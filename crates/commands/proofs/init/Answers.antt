@@ -1,9 +1,11 @@
 -- `commands::init` meets its contract.
-use Rattle.commands.proofs.Handling.{init_refused, init_good}
+use Rattle.std.proofs.Common.{refl}
+use Rattle.model.proofs.Reasons.{has_number}
+use Rattle.commands.proofs.Handling.{passed_on, init_refused, init_good}
 use Rattle.commands.proofs.init.Goals as goal
 
-pub returns-then-number-ne0 : goal.returns-then-number-ne0
-returns-then-number-ne0 c = init_refused c.args.p c.args.n c.args.m _ _ c.init_refusal-number.ensures c.if-number-ne0.true c.refused.ensures
+pub returns-in_err-init_refusal : goal.returns-in_err-init_refusal
+returns-in_err-init_refusal c p = init_refused p _ _ _ _ c.in_err-init_refusal.ensures (has_number _) (passed_on _ _ _ c.from_residual.ensures.1)
 
 pub returns : goal.returns
-returns c = init_good c.args.p c.args.n c.args.m _ _ c.init_refusal-number.ensures c.if-number-ne0.false c.started.ensures
+returns c p = init_good p _ _ _ _ c.in_ok-init_refusal.ensures refl c.started.ensures

@@ -5,6 +5,3 @@ use Rattle.dump.proofs.vertex_byte.Given as goal
 
 abbrev pub invariant-loop-k : goal.invariant-loop-k
 invariant-loop-k l = PassedFrom l.held l.i (8 * l.j) l.byte l.k
-
-abbrev pub decreases-loop-k : goal.decreases-loop-k
-decreases-loop-k l = l.k

@@ -1,34 +1,19 @@
 -- `eight_rows::is_accepted` meets its contract.
-use Prim.Native.Nat.{◌+◌, ◌≤◌}
-use native.Mathlib.Omega.{arith}
+use Rattle.std.proofs.Common.{rules, ◌≡◌, ◌+◌, ◌≤◌, ◌<◌, ℕ, get_or, length, arith}
 use lib.Dec.{ltb→lt}
 use lib.Pow.{pow_mono}
-use Rattle.eight_rows.proofs.EightRows.{eight_at}
+use Rattle.eight_rows.proofs.EightRows.{part_below, eight_at}
 use Rattle.eight_rows.proofs.is_accepted.Goals as goal
-
-pub bound-requires : goal.bound-requires
-bound-requires c = c.requires.n_bound.0
-
-pub overflow_add-v : goal.overflow_add-v
-overflow_add-v c = omega (arith, c.wide-v.ensures, c.type_inv.job (c.args.at + 1))
-
-pub given_from-requires : goal.given_from-requires
-given_from-requires c = omega (arith, c.if-bound-v.false, c.bound.ensures, pow_mono c.requires.n_bound.0)
-
-pub shared-requires : goal.shared-requires
-shared-requires c = omega (arith, c.if-job-at-lt18.false)
-
-pub used-requires : goal.used-requires
-used-requires c = omega (arith, c.if-job-at-lt18.false)
-
-pub bound-requires-2 : goal.bound-requires-2
-bound-requires-2 c = c.requires.n_bound.1
 
 pub returns : goal.returns
 returns c t =
     let a = c.args in
-    let none_given : c.given_from.result ≤ 0 = omega arith in
-    eight_at a.s a.given.now a.job.now a.at c.if-job-at-lt18.false c.if-job-at-ne66.false c.wide-v.ensures
-    c.bound.ensures c.requires.n_bound.0 c.if-bound-v.false
-    c.given_from.ensures none_given c.shared.ensures c.if-shared-gt0.false c.used.ensures
-    c.bound-2.ensures (omega (arith, ltb→lt c.wide.result c.bound-2.result t, c.wide.ensures))
+    let v = c.from-v.result in
+    let size : length a.given.now ≡ 256 = search rules in
+    let given_all : (i : ℕ) → i < 8 → get_or a.given.now (v + i) 0 ≤ c.union.result =
+    λ i l. part_below a.given.now v (v + 8) c.union.result (omega (arith, c.if-bound-v.false, c.bound.ensures, pow_mono c.requires.n_bound.0, size)) c.union.ensures i (omega arith) in
+    let used_all : (i : ℕ) → i < 16 → get_or a.job.now (a.at + 2 + i) 0 ≤ c.union-2.result =
+    λ i l. part_below a.job.now (a.at + 2) (a.at + 18) c.union-2.result (omega (arith, c.if-job-at-lt18.false)) c.union-2.ensures i (omega arith) in
+    eight_at a.s a.given.now a.job.now a.at c.if-job-at-lt18.false c.if-job-at-ne66.false c.from-v.ensures
+    c.bound.ensures c.requires.n_bound.0 c.if-bound-v.false given_all (omega (arith, c.if-union-ne0.false)) c.shared.ensures (omega (arith, c.if-shared-ne0.false)) used_all
+    c.bound-2.ensures (omega (arith, ltb→lt c.from.result c.bound-2.result t, c.from.ensures))

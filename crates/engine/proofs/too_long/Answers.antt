@@ -2,4 +2,4 @@
 use Rattle.engine.proofs.too_long.Goals as goal
 
 pub returns : goal.returns
-returns c = rw c.empty.ensures
+returns c = rw (c.empty.ensures, c.number.ensures)

@@ -7,4 +7,4 @@ pub extends-requires : goal.extends-requires
 extends-requires c = part_self _
 
 pub returns : goal.returns
-returns c = tightened_tested _ _ _ _ _ c.narrow-t.ensures c.extends.ensures
+returns c = rw c.then_some.ensures (tightened_tested _ _ _ _ _ c.in_ok-t.ensures c.extends.ensures)

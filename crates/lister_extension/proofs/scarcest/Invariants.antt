@@ -1,9 +1,6 @@
--- `lister_extension::scarcest` meets its contract. The invariant: pick is a member of q, and rest is a part of q.
+-- `lister_extension::scarcest` meets its contract. The invariant: pick is a member of q, and the members to come are a part of q.
 use Rattle.bits.specs.Bits.{Part, Member}
 use Rattle.lister_extension.proofs.scarcest.Given as goal
 
-abbrev pub invariant-loop-rest : goal.invariant-loop-rest
-invariant-loop-rest l = Member l.q l.pick × Part l.rest l.q
-
-abbrev pub decreases-loop-rest : goal.decreases-loop-rest
-decreases-loop-rest l = l.rest
+abbrev pub invariant-loop-b : goal.invariant-loop-b
+invariant-loop-b l = record { picked : Member l.q l.pick; within : Part l.b-iterator.rest l.q }

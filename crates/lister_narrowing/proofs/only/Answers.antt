@@ -1,6 +1,5 @@
 -- `lister_narrowing::only` meets its contract.
-use mathlib.Core.Path.{refl}
-use mathlib.Core.Logic.{inl, inr}
+use Rattle.std.proofs.Common.{refl, inl, inr}
 use Rattle.lister_narrowing.specs.Narrowing.{Only}
 use Rattle.bits.proofs.Decide.{decides_true, decides_false}
 use Rattle.lister_narrowing.proofs.only.Goals as goal

@@ -1,10 +1,7 @@
--- `lister_narrowing::united` meets its contract. The invariant: rest is a part of s, and acc is in what the other members have in common.
+-- `lister_narrowing::united` meets its contract. The invariant: the members to come are a part of s, and acc is in what the other members have in common.
 use Rattle.bits.specs.Bits.{Part}
 use Rattle.lister_narrowing.specs.Narrowing.{United}
 use Rattle.lister_narrowing.proofs.united.Given as goal
 
-abbrev pub invariant-loop-rest : goal.invariant-loop-rest
-invariant-loop-rest l = Part l.rest l.s × United l.common l.s l.acc
-
-abbrev pub decreases-loop-rest : goal.decreases-loop-rest
-decreases-loop-rest l = l.rest
+abbrev pub invariant-loop-m : goal.invariant-loop-m
+invariant-loop-m l = record { within : Part l.m-iterator.rest l.s; in_common : United l.common l.s l.acc }

@@ -1,5 +1,5 @@
 -- `cheapest::greedy::greedy` meets its contract. The invariant: what is taken and what is left are parts of free.
-use native.Mathlib.Omega.{arith}
+use Rattle.std.proofs.Common.{arith}
 use Rattle.bits.proofs.Parts.{minus_member_less}
 use Rattle.cheapest.proofs.FirstCover.{parts_none, parts_more}
 use Rattle.cheapest.proofs.greedy.greedy.Goals as goal

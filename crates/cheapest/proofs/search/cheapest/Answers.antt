@@ -14,8 +14,8 @@ returns-then-best-eq-NO_COST c =
     (none_below _ _ _ _ _ _ c.low_mask-free.ensures c.start.ensures c.value-best.ensures
     (small_entries c.args.costs.now c.type_inv.costs) c.requires.costs_len_bound c.if-best-eq-NO_COST.true)
 
-pub first-s-requires : goal.first-s-requires
-first-s-requires c = record {
+pub first-set-requires : goal.first-set-requires
+first-set-requires c = record {
   rows_len_bound = c.requires.rows_len_bound;
   common_unit = c.unit-unit.ensures.unit;
   n_bound = c.requires.costs_len_bound;
@@ -25,4 +25,4 @@ first-s-requires c = record {
 
 pub returns : goal.returns
 returns c =
-    optimal_cover _ _ _ _ c.requires.costs_len_bound (small_entries c.args.costs.now c.type_inv.costs) c.first-s.ensures
+    optimal_cover _ _ _ _ c.requires.costs_len_bound (small_entries c.args.costs.now c.type_inv.costs) c.first-set.ensures

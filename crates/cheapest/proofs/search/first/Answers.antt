@@ -1,17 +1,15 @@
 -- `cheapest::search::first` meets its contract. The invariant: the witness is a cover in [s, s + 2^i) that costs best, and none that does is below s.
-use native.Mathlib.Omega.{arith}
-use Prim.Native.Nat.{◌-◌}
-use lib.Pow.{pow_pos}
+use Rattle.std.proofs.Common.{◌-◌, arith, pow_pos}
 use Rattle.rows.proofs.Nodes.{halves}
 use Rattle.cheapest_bounds.proofs.Costing.{cost_fits, small_entries}
-use Rattle.cheapest.proofs.FirstCover.{left_over, witnessed_none, witnessed_lacks, witnessed_with, witnessed_without, witnessed_all, power_single, best_fits, priced_without}
+use Rattle.cheapest.proofs.FirstCover.{witnessed_none, witnessed_lacks, witnessed_with, witnessed_without, witnessed_all, power_single, best_fits, priced_without}
 use Rattle.cheapest.proofs.search.first.Goals as goal
 
 pub loop-i-init : goal.loop-i-init
 loop-i-init c = witnessed_none _ _ _ _ c.requires.n_bound c.requires.least_cost
 
 pub power-m-requires : goal.power-m-requires
-power-m-requires c = omega (arith, left_over c.loop-i-test.true, c.loop-i.invariant.node.small)
+power-m-requires c = omega (arith, c.loop-i-test.true, c.loop-i.invariant.node.small)
 
 pub overflow_add-limit : goal.overflow_add-limit
 overflow_add-limit c =
@@ -31,7 +29,7 @@ value-without-requires c =
 
 pub loop-i-preserved-then-without-best : goal.loop-i-preserved-then-without-best
 loop-i-preserved-then-without-best c =
-    witnessed_without _ _ _ _ _ _ _ _ _ c.requires.least_cost c.loop-i.invariant (left_over c.loop-i-test.true) c.power-m.ensures _ _ c.low_mask.ensures
+    witnessed_without _ _ _ _ _ _ _ _ _ c.requires.least_cost c.loop-i.invariant c.loop-i-test.true c.power-m.ensures _ _ c.low_mask.ensures
     c.value-without.ensures c.if-without-best.true
 
 pub price-cost-requires : goal.price-cost-requires
@@ -43,16 +41,16 @@ overflow_add-cost c =
 
 pub overflow_add-s : goal.overflow_add-s
 overflow_add-s c =
-    omega (arith, c.power-m.ensures, halves c.loop-i.i (left_over c.loop-i-test.true), c.loop-i.invariant.node.room, pow_pos (c.loop-i.i - 1))
+    omega (arith, c.power-m.ensures, halves c.loop-i.i c.loop-i-test.true, c.loop-i.invariant.node.room, pow_pos (c.loop-i.i - 1))
 
 pub loop-i-preserved-else-without-best : goal.loop-i-preserved-else-without-best
 loop-i-preserved-else-without-best c =
-    witnessed_with _ _ _ _ _ _ _ _ _ c.requires.least_cost c.loop-i.invariant (left_over c.loop-i-test.true) c.power-m.ensures _ _ c.low_mask.ensures
+    witnessed_with _ _ _ _ _ _ _ _ _ c.requires.least_cost c.loop-i.invariant c.loop-i-test.true c.power-m.ensures _ _ c.low_mask.ensures
     c.value-without.ensures _ c.if-without-best.false c.price-cost.ensures
 
 pub loop-i-preserved : goal.loop-i-preserved
 loop-i-preserved c =
-    witnessed_lacks _ _ _ _ _ _ _ _ _ c.requires.least_cost c.loop-i.invariant (left_over c.loop-i-test.true) c.power-m.ensures c.if-witness-m-ne0.false
+    witnessed_lacks _ _ _ _ _ _ _ _ _ c.requires.least_cost c.loop-i.invariant c.loop-i-test.true c.power-m.ensures c.if-witness-m-ne0.false
 
 pub returns : goal.returns
-returns c = witnessed_all _ _ _ _ _ _ _ _ c.loop-i-test.false c.requires.least_cost c.loop-i.invariant
+returns c = witnessed_all _ _ _ _ _ _ _ _ (omega (arith, c.loop-i-test.false)) c.requires.least_cost c.loop-i.invariant

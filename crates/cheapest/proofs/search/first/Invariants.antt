@@ -4,6 +4,3 @@ use Rattle.cheapest.proofs.search.first.Given as goal
 
 abbrev pub invariant-loop-i : goal.invariant-loop-i
 invariant-loop-i l = Witnessed l.rows l.costs l.n l.best.cost l.i l.s l.cost l.witness
-
-abbrev pub decreases-loop-i : goal.decreases-loop-i
-decreases-loop-i l = l.i

@@ -5,9 +5,9 @@ use Rattle.cheapest_bounds.proofs.ascent.affordable.Goals as goal
 pub returns-then-rows-le16 : goal.returns-then-rows-le16
 returns-then-rows-le16 c = affordable_all _ _ _ _
 
-pub returns-then-spare-sum : goal.returns-then-spare-sum
-returns-then-spare-sum c = affordable_none _ _ _ _ _ c.ascent-duals.ensures c.if-spare-sum.true
+pub returns-then-spare-duals : goal.returns-then-spare-duals
+returns-then-spare-duals c = affordable_none _ _ _ _ _ c.ascent-duals.ensures c.if-spare-duals.true
 
 pub returns : goal.returns
 returns c =
-    affordable_trimmed _ _ _ _ _ _ c.ascent-duals.ensures c.if-spare-sum.false c.trim.ensures
+    affordable_trimmed _ _ _ _ _ _ c.ascent-duals.ensures c.if-spare-duals.false c.trim.ensures

@@ -1,5 +1,5 @@
 -- `cheapest_bounds::ascent::ascent` meets its contract. Each sum is a part of the last, which is no more than what all candidates cost.
-use native.Mathlib.Omega.{arith}
+use Rattle.std.proofs.Common.{arith}
 use Rattle.cheapest_bounds.proofs.Costing.{small_entries}
 use Rattle.cheapest_bounds.proofs.Ascending.{raised_six, raised_small, dual}
 use Rattle.cheapest_bounds.proofs.ascent.ascent.Goals as goal

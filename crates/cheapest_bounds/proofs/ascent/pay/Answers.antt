@@ -1,14 +1,11 @@
 -- `cheapest_bounds::ascent::pay` meets its contract.
-use native.Mathlib.Omega.{arith}
+use Rattle.std.proofs.Common.{arith}
 use Rattle.cheapest_bounds.proofs.Ascending.{floor_less, paid_none, paid_some}
 use Rattle.cheapest_bounds.proofs.ascent.pay.Goals.{else-half, then-half}
 use Rattle.cheapest_bounds.proofs.ascent.pay.Goals as goal
 
 pub returns-then-x-eq0 : goal.returns-then-x-eq0
 returns-then-x-eq0 c = paid_none _ _
-
-pub returns-then-most-x : goal.returns-then-most-x
-returns-then-most-x c = paid_none _ _
 
 pub returns-then-all-eq0 : goal.returns-then-all-eq0
 returns-then-all-eq0 c = paid_none _ _

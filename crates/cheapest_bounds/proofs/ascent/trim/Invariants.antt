@@ -2,8 +2,5 @@
 use Rattle.cheapest_bounds.specs.Ascent.{Trimmed}
 use Rattle.cheapest_bounds.proofs.ascent.trim.Given as goal
 
-abbrev pub invariant-loop-rest : goal.invariant-loop-rest
-invariant-loop-rest l = Trimmed l.left l.free l.spare l.kept
-
-abbrev pub decreases-loop-rest : goal.decreases-loop-rest
-decreases-loop-rest l = l.rest
+abbrev pub invariant-loop-m : goal.invariant-loop-m
+invariant-loop-m l = Trimmed l.left l.free l.spare l.kept

@@ -1,9 +1,6 @@
--- `cheapest_bounds::costs::floor` meets its contract. The invariant: no member of x that is not in rest costs less than low.
+-- `cheapest_bounds::costs::floor` meets its contract. The invariant: no member of x that is not still to come costs less than low.
 use Rattle.cheapest_bounds.proofs.Bounding.{Floored}
 use Rattle.cheapest_bounds.proofs.costs.floor.Given as goal
 
-abbrev pub invariant-loop-rest : goal.invariant-loop-rest
-invariant-loop-rest l = Floored l.costs l.x l.rest l.low
-
-abbrev pub decreases-loop-rest : goal.decreases-loop-rest
-decreases-loop-rest l = l.rest
+abbrev pub invariant-loop-m : goal.invariant-loop-m
+invariant-loop-m l = Floored l.costs l.x l.m-iterator.rest l.low

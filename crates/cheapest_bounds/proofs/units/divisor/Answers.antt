@@ -1,6 +1,5 @@
 -- `cheapest_bounds::units::divisor` meets its contract. The invariant: x and y have the common divisors of a and b.
-use native.Mathlib.Nat.{mod-lt}
-use native.Mathlib.Omega.{arith}
+use Rattle.std.proofs.Common.{mod-lt, arith}
 use Rattle.cheapest_bounds.proofs.Measuring.{same_start, same_step, same_end}
 use Rattle.cheapest_bounds.proofs.units.divisor.Goals as goal
 

@@ -1,5 +1,5 @@
 -- `cheapest_bounds::units::limit_below` meets its contract.
-use native.Mathlib.Omega.{arith}
+use Rattle.std.proofs.Common.{arith}
 use Rattle.cheapest_bounds.proofs.Measuring.{limit_zero, limit_small, limit_is}
 use Rattle.cheapest_bounds.proofs.units.limit_below.Goals as goal
 

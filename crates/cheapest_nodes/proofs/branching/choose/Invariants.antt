@@ -1,11 +1,6 @@
--- `cheapest_nodes::branching::choose` meets its contract. The invariant: pick is free and not in s; where it is 0, s meets the rows passed.
-use Prim.Native.Nat.{◌-◌, ◌≤◌}
-use lib.ListN.{length}
+-- `cheapest_nodes::branching::choose` meets its contract. The invariant: pick is free and not in s; where there is none, s meets the rows passed.
 use Rattle.cheapest_nodes.proofs.Choosing.{Picked}
 use Rattle.cheapest_nodes.proofs.branching.choose.Given as goal
 
-abbrev pub invariant-loop-i : goal.invariant-loop-i
-invariant-loop-i l = (l.i ≤ length l.rows) × Picked l.rows l.i l.s l.free l.pick
-
-abbrev pub decreases-loop-i : goal.decreases-loop-i
-decreases-loop-i l = length l.rows - l.i
+abbrev pub invariant-loop-row : goal.invariant-loop-row
+invariant-loop-row l = Picked l.rows l.row-index l.s l.free l.pick

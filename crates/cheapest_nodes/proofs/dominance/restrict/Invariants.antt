@@ -2,8 +2,5 @@
 use Rattle.cheapest_nodes.proofs.Restricting.{Restricting}
 use Rattle.cheapest_nodes.proofs.dominance.restrict.Given as goal
 
-abbrev pub invariant-loop-rest : goal.invariant-loop-rest
-invariant-loop-rest l = Restricting l.row l.x l.rest l.initial.common l.common
-
-abbrev pub decreases-loop-rest : goal.decreases-loop-rest
-decreases-loop-rest l = l.rest
+abbrev pub invariant-loop-m : goal.invariant-loop-m
+invariant-loop-m l = Restricting l.row l.x l.m-iterator.rest l.initial.common l.common

@@ -1,12 +1,8 @@
 -- `engine::row_block::is_accepted` meets its contract.
+use Rattle.std.proofs.Common.{Bool, subst}
+use lib.Dec.{T}
 use Rattle.engine.proofs.RowCommands.{row_at}
 use Rattle.engine.proofs.row_block.is_accepted.Goals as goal
 
-pub returns-then-job-at-lt4 : goal.returns-then-job-at-lt4
-returns-then-job-at-lt4 c = λ t. absurd t
-
-pub returns-then-job-at-eq82 : goal.returns-then-job-at-eq82
-returns-then-job-at-eq82 c = row_at c.if-job-at-lt4.false c.if-job-at-eq82.true c.wide-v.ensures c.row_refusal.ensures
-
 pub returns : goal.returns
-returns c = λ t. absurd t
+returns c t = row_at _ c.if-job-at-lt4.false c.if-job-at-ne82.false c.from-v.ensures c.row_refusal.ensures (subst (λ (b : Bool). T b) c.is_ok.ensures.value t)

@@ -1,11 +1,9 @@
 -- `engine::row_block::read_ones` meets its contract.
-use Prim.Native.Nat.{◌+◌, ◌<◌}
-use native.Mathlib.Omega.{arith}
+use Rattle.std.proofs.Common.{arith}
 use mathlib.Core.Path.{subst⁻¹}
 use mathlib.Core.Bool.{Bool}
 use lib.Dec.{T}
 use Rattle.problem.specs.Problems.{row_put}
-use Rattle.engine.specs.RowBlocks.{RowAt}
 use Rattle.engine.proofs.RowBlocks.{reads_none, reads_one}
 use Rattle.engine.proofs.row_block.read_ones.Goals as goal
 
@@ -16,45 +14,20 @@ pub is_accepted-requires : goal.is_accepted-requires
 is_accepted-requires c = record { n_bound = c.requires.n_bound; at_in_bounds = c.loop-s.invariant.within }
 
 pub bounds-job-i : goal.bounds-job-i
-bounds-job-i c =
-    let row : let a = c.args in RowAt a.s c.loop-s.given a.job.now c.loop-s.i = c.is_accepted.ensures (subst⁻¹ (λ (b : Bool). T b) c.loop-s-test.true tt) in
-    omega (arith, (row).room)
+bounds-job-i c = let row = c.is_accepted.ensures (subst⁻¹ (λ (b : Bool). T b) c.loop-s-test.true tt) in omega (arith, row.room)
 
 pub bounds-job-i-in-loop-s : goal.bounds-job-i-in-loop-s
-bounds-job-i-in-loop-s c =
-    let row : let a = c.args in RowAt a.s c.loop-s.given a.job.now c.loop-s.i = c.is_accepted.ensures (subst⁻¹ (λ (b : Bool). T b) c.loop-s-test.true tt) in
-    omega (arith, (row).room)
-
-pub bounds-on-v : goal.bounds-on-v
-bounds-on-v c =
-    let vertex : c.wide-v.result < 256 = omega (arith, c.wide-v.ensures, c.type_inv.job (c.loop-s.i + 1)) in
-    vertex
+bounds-job-i-in-loop-s c = let row = c.is_accepted.ensures (subst⁻¹ (λ (b : Bool). T b) c.loop-s-test.true tt) in omega (arith, row.room)
 
 pub bounds-job-i-in-loop-s-2 : goal.bounds-job-i-in-loop-s-2
-bounds-job-i-in-loop-s-2 c =
-    let row : let a = c.args in RowAt a.s c.loop-s.given a.job.now c.loop-s.i = c.is_accepted.ensures (subst⁻¹ (λ (b : Bool). T b) c.loop-s-test.true tt) in
-    omega (arith, (row).room)
-
-pub bounds-dc-v : goal.bounds-dc-v
-bounds-dc-v c =
-    let vertex : c.wide-v.result < 256 = omega (arith, c.wide-v.ensures, c.type_inv.job (c.loop-s.i + 1)) in
-    vertex
-
-pub bounds-given-v : goal.bounds-given-v
-bounds-given-v c =
-    let vertex : c.wide-v.result < 256 = omega (arith, c.wide-v.ensures, c.type_inv.job (c.loop-s.i + 1)) in
-    vertex
+bounds-job-i-in-loop-s-2 c = let row = c.is_accepted.ensures (subst⁻¹ (λ (b : Bool). T b) c.loop-s-test.true tt) in omega (arith, row.room)
 
 pub loop-s-smaller : goal.loop-s-smaller
-loop-s-smaller c =
-    let row : let a = c.args in RowAt a.s c.loop-s.given a.job.now c.loop-s.i = c.is_accepted.ensures (subst⁻¹ (λ (b : Bool). T b) c.loop-s-test.true tt) in
-    omega (arith, (row).room)
+loop-s-smaller c = let row = c.is_accepted.ensures (subst⁻¹ (λ (b : Bool). T b) c.loop-s-test.true tt) in omega (arith, row.room)
 
 pub loop-s-preserved : goal.loop-s-preserved
 unfolding row_put
-loop-s-preserved c =
-    let row : let a = c.args in RowAt a.s c.loop-s.given a.job.now c.loop-s.i = c.is_accepted.ensures (subst⁻¹ (λ (b : Bool). T b) c.loop-s-test.true tt) in
-    reads_one c.loop-s.invariant (row) c.wide-v.ensures
+loop-s-preserved c = reads_one c.loop-s.invariant (c.is_accepted.ensures (subst⁻¹ (λ (b : Bool). T b) c.loop-s-test.true tt)) c.from-v.ensures
 
 pub returns : goal.returns
 returns c = c.loop-s.invariant

@@ -27,4 +27,4 @@ loop-i-preserved c = (c.read_eights-end-in-loop-i.ensures.forward, reads_then c.
 
 pub returns : goal.returns
 returns c = reads_record c.requires.reached c.requires.begun_le_place.0 c.requires.begun_le_place.1
-    (reads_then (reads_then c.read_ones-i.ensures c.read_eights-end.ensures) c.loop-i.invariant.1) c.place_behind.ensures
+    (reads_then (reads_then c.read_ones-i.ensures c.read_eights-end.ensures) c.loop-i.invariant.1) c.place_behind-place.ensures

@@ -1,4 +1,4 @@
--- `incidence::blocks::add` meets its contract. The invariant: the sets of the vertices below v are done.
+-- `incidence::blocks::add` meets its contract.
 use Rattle.incidence.proofs.Changes.{changed_none, changed_next, adds}
 use Rattle.incidence.proofs.blocks.add.Goals as goal
 

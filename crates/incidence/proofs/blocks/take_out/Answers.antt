@@ -1,5 +1,5 @@
 -- `incidence::blocks::take_out` meets its contract.
-use mathlib.Core.Path.{sym, ◌∙◌}
+use Rattle.std.proofs.Common.{sym, ◌∙◌}
 use Rattle.incidence.proofs.Uses.{blocks_without}
 use Rattle.incidence.proofs.blocks.take_out.Goals as goal
 

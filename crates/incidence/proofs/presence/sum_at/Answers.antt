@@ -1,4 +1,4 @@
--- `incidence::presence::sum_at` meets its contract. The invariant: formula (3) up to function i. Assumes nothing.
+-- `incidence::presence::sum_at` meets its contract.
 use Rattle.incidence.proofs.Sums.{summed_none, summed_next, summed_all}
 use Rattle.incidence.proofs.presence.sum_at.Goals as goal
 

@@ -1,18 +1,15 @@
 -- `primes::cube_prime::droppable` meets its contract. Assumes nothing.
-use Rattle.primes.proofs.Literals.{place_lt, without_cube, droppable_literal, droppable_free}
+use Rattle.primes.proofs.Literals.{without_cube, droppable_literal, droppable_free}
 use Rattle.primes.proofs.cube_prime.droppable.Goals as goal
+
+pub returns-then-care-bit-eq0 : goal.returns-then-care-bit-eq0
+returns-then-care-bit-eq0 c = droppable_free _ _ _ _ _ c.if-care-bit-eq0.true
 
 pub overflow_sub-rest : goal.overflow_sub-rest
 overflow_sub-rest c = c.requires.single.1
 
-pub number-k-requires : goal.number-k-requires
-number-k-requires c = record { spreads = c.requires.spreads; cube = without_cube _ _ _ _ c.requires.cube }
+pub entry-requires : goal.entry-requires
+entry-requires c = without_cube _ _ _ _ c.requires.cube
 
-pub bounds-table-k : goal.bounds-table-k
-bounds-table-k c = place_lt _ _ _ (without_cube _ _ _ _ c.requires.cube) c.number-k.ensures
-
-pub returns-then-care-bit-ne0 : goal.returns-then-care-bit-ne0
-returns-then-care-bit-ne0 c = droppable_literal _ _ _ _ _ _ _ c.if-care-bit-ne0.true c.number-k.ensures c.within.ensures
-
-pub returns-else-care-bit-ne0 : goal.returns-else-care-bit-ne0
-returns-else-care-bit-ne0 c = droppable_free _ _ _ _ _ c.if-care-bit-ne0.false
+pub returns : goal.returns
+returns c = droppable_literal _ _ _ _ _ _ _ c.if-care-bit-eq0.false c.entry.ensures c.within.ensures

@@ -8,13 +8,13 @@ pub loop-bit-init : goal.loop-bit-init
 loop-bit-init c = none_yet _ _ _ _
 
 pub droppable-requires : goal.droppable-requires
-droppable-requires c = record { spreads = c.requires.spreads; cube = c.requires.cube; single = (none_single _ _ _ _ _ c.loop-bit.invariant, c.loop-bit-test.true) }
+droppable-requires c = record { cube = c.requires; single = (none_single _ _ _ _ _ c.loop-bit.invariant, c.loop-bit-test.true) }
 
 pub returns-then-droppable : goal.returns-then-droppable
 returns-then-droppable c = one_droppable _ _ _ _ _ _ c.loop-bit.invariant c.droppable.ensures c.if-droppable.true
 
 pub overflow_add-bit : goal.overflow_add-bit
-overflow_add-bit c = record { fits = omega (arith, c.loop-bit-test.true, c.requires.cube.care_lt) }
+overflow_add-bit c = record { fits = omega (arith, c.loop-bit-test.true, c.requires.care_lt) }
 
 pub loop-bit-smaller : goal.loop-bit-smaller
 loop-bit-smaller c = let h = c.loop-bit.invariant in omega (arith, c.loop-bit-test.true, h.weight, pow_pos h.input)

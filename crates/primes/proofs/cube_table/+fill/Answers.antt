@@ -9,19 +9,19 @@ use Rattle.primes.proofs.Pairs.{one_input, pair_block}
 use Rattle.primes.proofs.cube_table.+fill.Goals as goal
 
 pub bounds-may-value : goal.bounds-may-value
-bounds-may-value t c = omega (arith, c.requires.i_bound.1, pow_pos c.args.i)
+bounds-may-value t c = omega (arith, c.requires.1, pow_pos c.args.i)
 
 pub bounds-table-at : goal.bounds-table-at
-bounds-table-at t c = fits_one _ _ _ c.if-i-eq0.true c.requires.i_bound.3
+bounds-table-at t c = fits_one _ _ _ c.if-i-eq0.true c.requires.3
 
 pub shape_of-table-then-i-eq0 : goal.shape_of-table-then-i-eq0
 shape_of-table-then-i-eq0 t c = simp length-set
 
 pub returns-then-i-eq0 : goal.returns-then-i-eq0
-returns-then-i-eq0 t c = one_entry _ _ _ _ _ c.if-i-eq0.true c.requires.i_bound.3
+returns-then-i-eq0 t c = one_entry _ _ _ _ _ c.if-i-eq0.true c.requires.3
 
 pub fill_pair-requires : goal.fill_pair-requires
-fill_pair-requires t c = one_input _ _ _ _ c.if-i-eq1.true c.requires.i_bound
+fill_pair-requires t c = one_input _ _ _ _ c.if-i-eq1.true c.requires
 
 pub shape_of-table-then-i-eq1 : goal.shape_of-table-then-i-eq1
 shape_of-table-then-i-eq1 t c = c.fill_pair.ensures.beside.size
@@ -33,58 +33,52 @@ pub overflow_sub-k : goal.overflow_sub-k
 overflow_sub-k t c = omega (arith, c.if-i-eq0.false)
 
 pub bound-half-requires : goal.bound-half-requires
-bound-half-requires t c = omega (arith, c.requires.i_bound.0)
+bound-half-requires t c = omega (arith, c.requires.0)
 
 pub spread-s-requires : goal.spread-s-requires
-spread-s-requires t c = record {
-  spreads = c.requires.spreads;
-  b_bound = half_lt _ _ c.requires.i_bound.0 c.if-i-eq0.false c.bound-half.ensures;
-}
+spread-s-requires t c = half_lt _ _ c.requires.0 c.if-i-eq0.false c.bound-half.ensures
 
 -- the block in three: what `split` says of the weight of the last input
 
 pub overflow_add-low : goal.overflow_add-low
 overflow_add-low t c =
-    let q = split _ _ _ c.requires.i_bound.0 c.if-i-eq0.false c.bound-half.ensures c.spread-s.ensures in
-    omega (arith, c.requires.i_bound.3, q.thirds)
+    let q = split _ _ _ c.requires.0 c.if-i-eq0.false c.bound-half.ensures c.spread-s.ensures in
+    omega (arith, c.requires.3, q.thirds)
 
 pub fill-requires : goal.fill-requires
 fill-requires t c =
-    let p = c.requires.i_bound in
+    let p = c.requires in
     let q = split _ _ _ p.0 c.if-i-eq0.false c.bound-half.ensures c.spread-s.ensures in (
       omega (arith, c.decreases, c.if-i-eq0.false),
-      (c.requires.spreads, (omega (arith, p.0), omega (arith, p.1, q.halved, q.weight), clear_first _ _ _ q _ p.2, omega (arith, p.3, q.thirds, q.third))),
+      (omega (arith, p.0), omega (arith, p.1, q.halved, q.weight), clear_first _ _ _ q _ p.2, omega (arith, p.3, q.thirds, q.third)),
     )
 
 pub overflow_add-value : goal.overflow_add-value
 overflow_add-value t c =
-    let q = split _ _ _ c.requires.i_bound.0 c.if-i-eq0.false c.bound-half.ensures c.spread-s.ensures in
-    omega (arith, c.requires.i_bound.1, q.halved)
+    let q = split _ _ _ c.requires.0 c.if-i-eq0.false c.bound-half.ensures c.spread-s.ensures in
+    omega (arith, c.requires.1, q.halved)
 
 pub overflow_add-low-2 : goal.overflow_add-low-2
 overflow_add-low-2 t c =
-    let q = split _ _ _ c.requires.i_bound.0 c.if-i-eq0.false c.bound-half.ensures c.spread-s.ensures in
-    omega (arith, c.requires.i_bound.3, q.thirds)
+    let q = split _ _ _ c.requires.0 c.if-i-eq0.false c.bound-half.ensures c.spread-s.ensures in
+    omega (arith, c.requires.3, q.thirds)
 
 pub fill-requires-2 : goal.fill-requires-2
 fill-requires-2 t c =
-    let p = c.requires.i_bound in
+    let p = c.requires in
     let q = split _ _ _ p.0 c.if-i-eq0.false c.bound-half.ensures c.spread-s.ensures in (
       omega (arith, c.decreases, c.if-i-eq0.false),
       (
-        c.requires.spreads,
-        (
-          omega (arith, p.0),
-          omega (arith, p.1, q.halved, q.weight),
-          clear_second _ _ _ q _ p.2,
-          omega (arith, p.3, q.thirds, q.third, c.fill.ensures.beside.size),
-        ),
+        omega (arith, p.0),
+        omega (arith, p.1, q.halved, q.weight),
+        clear_second _ _ _ q _ p.2,
+        omega (arith, p.3, q.thirds, q.third, c.fill.ensures.beside.size),
       ),
     )
 
 pub join-requires : goal.join-requires
 join-requires t c =
-    let p = c.requires.i_bound in
+    let p = c.requires in
     let q = split _ _ _ p.0 c.if-i-eq0.false c.bound-half.ensures c.spread-s.ensures in
     (omega (arith, cubes_le _ p.0, q.thirds), omega (arith, p.3, q.thirds, c.fill.ensures.beside.size, c.fill-2.ensures.beside.size))
 
@@ -93,5 +87,5 @@ shape_of-table t c = c.join.ensures.beside.size ∙ c.fill-2.ensures.beside.size
 
 pub returns : goal.returns
 returns t c =
-    let q = split _ _ _ c.requires.i_bound.0 c.if-i-eq0.false c.bound-half.ensures c.spread-s.ensures in
-    blocks _ _ _ q _ c.requires.i_bound.2 _ _ _ _ _ _ c.fill.ensures c.fill-2.ensures c.join.ensures
+    let q = split _ _ _ c.requires.0 c.if-i-eq0.false c.bound-half.ensures c.spread-s.ensures in
+    blocks _ _ _ q _ c.requires.2 _ _ _ _ _ _ c.fill.ensures c.fill-2.ensures c.join.ensures

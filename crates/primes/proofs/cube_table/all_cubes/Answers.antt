@@ -7,7 +7,7 @@ use Rattle.model.proofs.Lists.{zero_at}
 use Rattle.primes.proofs.cube_table.all_cubes.Goals as goal
 
 pub fill-requires : goal.fill-requires
-fill-requires c = record { spreads = c.requires.spreads; i_bound = (c.requires.n_bound, omega (arith, pow_mono c.requires.n_bound), clear_none _, omega (arith, cubes_le _ c.requires.n_bound)) }
+fill-requires c = (c.requires, omega (arith, pow_mono c.requires), clear_none _, omega (arith, cubes_le _ c.requires))
 
 pub returns : goal.returns
 returns c = filled_cubes _ _ _ _ c.fill.ensures (zero_at 6561)

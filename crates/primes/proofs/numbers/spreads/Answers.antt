@@ -3,6 +3,6 @@ use Rattle.model.specs.Numbers.{spread_to, spread}
 use Rattle.primes.proofs.Constant.{is_spread, spreads_tested, spreads_right}
 use Rattle.primes.proofs.numbers.spreads.Goals as goal
 
-pub returns : goal.returns
+pub invariant_of-result : goal.invariant_of-result
 unfolding spreads_tested is_spread spread spread_to
-returns c = spreads_right _ tt
+invariant_of-result c = record { right = spreads_right _ tt }

@@ -4,7 +4,7 @@ use Rattle.primes.proofs.Walk.{Passed}
 use Rattle.primes.proofs.prime_list.first_prime.Given as goal
 
 abbrev pub invariant-loop-next : goal.invariant-loop-next
-invariant-loop-next l = Passed l.table l.n l.care l.value l.next
+invariant-loop-next l = Passed l.table.outputs l.n l.care l.value l.next
 
 abbrev pub decreases-loop-next : goal.decreases-loop-next
 decreases-loop-next l = l.size - l.next

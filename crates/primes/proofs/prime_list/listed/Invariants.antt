@@ -4,7 +4,7 @@ use Rattle.primes.proofs.Walk.{Walked}
 use Rattle.primes.proofs.prime_list.listed.Given as goal
 
 abbrev pub invariant-loop-care : goal.invariant-loop-care
-invariant-loop-care l = Walked l.table l.n l.size l.care l.value l.list
+invariant-loop-care l = Walked l.table.outputs l.n l.size l.care l.value l.list
 
 abbrev pub decreases-loop-care : goal.decreases-loop-care
 decreases-loop-care l = (l.size - l.care) * (l.size + 1) - l.value

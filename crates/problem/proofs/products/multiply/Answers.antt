@@ -15,4 +15,4 @@ pub multiply_rows-requires : goal.multiply_rows-requires
 multiply_rows-requires c = record { n_bound = (c.requires.sized.few, c.requires.first_len.0, c.requires.first_len.1); rows_below = cells_below c.put_rows-k.ensures c.requires.stocked }
 
 pub returns : goal.returns
-returns c = multiplied c.put_rows-k.ensures _ refl _ _ _ _ _ c.multiply_rows.ensures
+returns c = multiplied c.put_rows-k.ensures _ refl _ _ _ _ c.multiply_rows.ensures

@@ -1,32 +1,18 @@
 -- `product::cell::step` meets its contract: what is put so far, and what the products left leave, is the whole.
-use native.Mathlib.Omega.{arith}
-use mathlib.Core.Path.{◌∙◌, sym}
+use Rattle.std.proofs.Common.{rules, arith, ◌≡◌, Err}
 use Rattle.product.proofs.Putting.{step_none, step_on, step_full, step_end}
 use Rattle.product.proofs.cell.step.Goals as goal
 
-pub loop-k-init : goal.loop-k-init
-loop-k-init c = step_none _ _ _ _ c.keep-kept.ensures
+pub loop-p-init : goal.loop-p-init
+loop-p-init c = step_none _ _ _ _ c.keep-kept.ensures
 
-pub extend-count-requires : goal.extend-count-requires
-extend-count-requires c = (c.loop-k.invariant.going.size, c.loop-k.invariant.more, c.loop-k.invariant.going.room)
+pub returns-in_err-count : goal.returns-in_err-count
+returns-in_err-count c =
+    let told : c.from_residual.result ≡ Err c.in_err-count.field-0.0 = search rules in
+    rw told (step_full c.loop-p.invariant c.loop-p-test.true _ _ _ c.in_err-count.ensures)
 
-pub shape_of-to-then-count-eq1025 : goal.shape_of-to-then-count-eq1025
-shape_of-to-then-count-eq1025 c = c.extend-count.ensures.size ∙ sym c.requires.1
-
-pub returns-then-count-eq1025 : goal.returns-then-count-eq1025
-returns-then-count-eq1025 c = step_full c.loop-k.invariant c.loop-k-test.true _ _ c.extend-count.ensures c.if-count-eq1025.true
-
-pub overflow_add-k : goal.overflow_add-k
-overflow_add-k c = omega (arith, c.loop-k-test.true)
-
-pub loop-k-smaller : goal.loop-k-smaller
-loop-k-smaller c = omega (arith, c.loop-k-test.true)
-
-pub loop-k-preserved : goal.loop-k-preserved
-loop-k-preserved c = step_on c.loop-k.invariant c.loop-k-test.true _ _ c.extend-count.ensures c.if-count-eq1025.false
-
-pub shape_of-to : goal.shape_of-to
-shape_of-to c = c.loop-k.invariant.going.size ∙ sym c.requires.1
+pub loop-p-preserved : goal.loop-p-preserved
+loop-p-preserved c = step_on c.loop-p.invariant c.loop-p-test.true _ _ c.in_ok-count.ensures
 
 pub returns : goal.returns
-returns c = step_end c.loop-k.invariant c.loop-k-test.false
+returns c = step_end c.loop-p.invariant (omega arith)

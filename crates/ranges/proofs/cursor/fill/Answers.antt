@@ -1,25 +1,20 @@
 -- `ranges::cursor::fill` meets its contract.
-use mathlib.Core.Path.{sym}
-use native.Mathlib.Omega.{arith}
-use lib.Seq.{length-take-le}
-use Rattle.ranges.proofs.Contesting.{quoted, quoted_ends}
-use Rattle.ranges.proofs.Banning.{own_first, own_few, own_page}
+use Rattle.std.proofs.Common.{refl}
+use Rattle.ranges.proofs.Contesting.{known_none}
+use Rattle.ranges.proofs.Walking.{list_rising, list_small}
+use Rattle.ranges.proofs.Banning.{own_first, own_page}
 use Rattle.ranges.proofs.cursor.fill.Goals as goal
 
-pub banned-banned-requires : goal.banned-banned-requires
-banned-banned-requires c =
-    record { rows_len_bound = c.requires.rows_len_bound; quoted = quoted c.requires.low_len_bound c.requires.high_len c.requires.by_index c.common-unit.ensures }
-
-pub slice_bounds-page-end : goal.slice_bounds-page-end
-slice_bounds-page-end c =
-    sym (length-take-le _ _ (omega (arith, c.requires.rows_len_bound, c.cleared.ensures.size_is)))
+pub invariant_of-listing : goal.invariant_of-listing
+invariant_of-listing c = record { known_listed = known_none _ _ _ }
 
 pub page-requires : goal.page-requires
 page-requires c =
-    record { rows_len_bound = own_few c.cleared.ensures c.requires.rows_len_bound c.requires.rows_len_bound; quoted = quoted c.requires.low_len_bound c.requires.high_len c.requires.by_index c.common-unit.ensures }
+    let q = c.over.result.quoted in record { rises = list_rising _ _ _ _ q; small = list_small _ _ _ _ q }
 
 pub returns : goal.returns
 returns c =
+    let here = c.over.ensures in
     own_page _ _ _ (own_first c.cleared.ensures c.requires.rows_len_bound) _ _
-    (quoted_ends _ _ _ (quoted c.requires.low_len_bound c.requires.high_len c.requires.by_index c.common-unit.ensures)) c.banned-banned.ensures _ _ _ _
-    c.page.ensures
+    (record { lows = refl; highs = c.requires.high_len; ordered = c.requires.by_index }) c.banned-banned.ensures _ _ _ _
+    (rw (here.rows_are, here.low_is, here.high_is) at c.page.ensures)

@@ -1,17 +1,15 @@
 -- `ranges::cursor::promising` meets its contract.
-use Rattle.bits.proofs.Decide.{true_is_not_false}
-use Rattle.ranges.proofs.Contesting.{barren_dead, barren_narrowed, barren_rival}
+use Rattle.std.proofs.Common.{not, ap, ◌∙◌}
+use Rattle.ranges.proofs.Contesting.{barren_empty, barren_narrowed, barren_rival}
 use Rattle.ranges.proofs.cursor.promising.Goals as goal
 
-pub returns-then-g : goal.returns-then-g
-returns-then-g c = λ q. barren_dead _ _ _ _ _ _ c.narrow-g.ensures c.if-g.true
+pub returns-in_default : goal.returns-in_default
+returns-in_default c = λ q. barren_empty _ _ _ _ _ c.in_default.ensures
 
-pub returns-then-refuted : goal.returns-then-refuted
-returns-then-refuted c = λ q. barren_narrowed _ _ _ _ _ _ c.narrow-g.ensures (c.refuted.ensures c.if-refuted.true)
+pub returns-then-not-refuted : goal.returns-then-not-refuted
+returns-then-not-refuted c =
+    λ q. barren_rival _ _ _ _ _ _ c.in-Some.ensures _ c.rival.ensures (c.is_none.ensures ∙ ap not q)
 
-pub returns-in-At : goal.returns-in-At
-returns-in-At c =
-    λ q. barren_rival _ _ _ _ _ _ c.narrow-g.ensures _ _ c.in-At.is c.rival-found.ensures
-
-pub returns-in-Nothing : goal.returns-in-Nothing
-returns-in-Nothing c = λ q. absurd (true_is_not_false q)
+pub returns-else-not-refuted : goal.returns-else-not-refuted
+returns-else-not-refuted c =
+    λ q. barren_narrowed _ _ _ _ _ _ c.in-Some.ensures (c.refuted.ensures c.if-not-refuted.false)

@@ -1,18 +1,16 @@
 -- `ranges::rivals::contest` meets its contract.
-use native.Mathlib.Omega.{arith}
-use Rattle.cheapest_bounds.proofs.Costing.{cost_fits}
 use Rattle.ranges.proofs.Mixing.{mixed_unit}
 use Rattle.ranges.proofs.Contesting.{contest_found, contest_none}
 use Rattle.ranges.proofs.rivals.contest.Goals as goal
 
-pub hunt-best-requires : goal.hunt-best-requires
-hunt-best-requires c =
-    let small = cost_fits _ _ _ c.requires.quoted.few (λ k. omega (arith, c.type_inv.low k)) c.total-cost.ensures in record { rows_len_bound = c.requires.rows_len_bound; common_unit = mixed_unit _ _ _ _ _ _ c.mixed-w.ensures c.requires.quoted.lows c.requires.quoted.highs; costs_len_bound = omega (arith, c.mixed-w.ensures.size); limit_bound = omega (arith, small) }
+pub hunt-requires-clause-common_unit : goal.hunt-requires-clause-common_unit
+hunt-requires-clause-common_unit c =
+    let q = c.args.market.now.quoted in mixed_unit _ _ _ _ _ _ c.mixed-w.ensures q.lows q.highs
 
-pub returns-then-best-cost : goal.returns-then-best-cost
-returns-then-best-cost c =
-    contest_found _ _ _ _ _ _ _ _ c.low_mask-free.ensures c.mixed-w.ensures c.total-cost.ensures c.hunt-best.ensures c.if-best-cost.true
+pub returns-in_err-best : goal.returns-in_err-best
+returns-in_err-best c =
+    rw c.from_residual.ensures (contest_none _ _ _ _ _ _ _ c.all-free.ensures c.mixed-w.ensures c.cost-limit.ensures.value c.in_err-best.ensures)
 
 pub returns : goal.returns
 returns c =
-    contest_none _ _ _ _ _ _ _ _ c.low_mask-free.ensures c.mixed-w.ensures c.total-cost.ensures c.hunt-best.ensures c.if-best-cost.false
+    contest_found _ _ _ _ _ _ _ c.all-free.ensures c.mixed-w.ensures c.cost-limit.ensures.value _ c.in_ok-best.ensures

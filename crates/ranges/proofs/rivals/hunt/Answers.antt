@@ -1,14 +1,15 @@
 -- `ranges::rivals::hunt` meets its contract.
-use Rattle.ranges.proofs.Contesting.{priced_start, valued_below}
+use Rattle.ranges.proofs.Contesting.{priced_start, valued_some, valued_none}
 use Rattle.ranges.proofs.rivals.hunt.Goals as goal
 
-pub value-requires : goal.value-requires
-value-requires c =
-    record { rows_len_bound = c.requires.rows_len_bound; common_unit = c.requires.common_unit; priced = priced_start _ _ c.requires.costs_len_bound c.requires.limit_bound }
+pub below-requires-clause-priced : goal.below-requires-clause-priced
+below-requires-clause-priced c = priced_start _ _ c.requires.few c.requires.limit_bound
 
-pub returns-then-full : goal.returns-then-full
-returns-then-full c = valued_below _ _ _ _ _ _ c.value.ensures
+pub value-best-requires-clause-priced : goal.value-best-requires-clause-priced
+value-best-requires-clause-priced c = priced_start _ _ c.requires.few c.requires.limit_bound
 
-pub below-requires : goal.below-requires
-below-requires c =
-    record { rows_len_bound = c.requires.rows_len_bound; common_unit = c.requires.common_unit; priced = priced_start _ _ c.requires.costs_len_bound c.requires.limit_bound }
+pub returns-then-best-limit : goal.returns-then-best-limit
+returns-then-best-limit c = valued_some _ _ _ _ _ _ c.value-best.ensures c.if-best-limit.true
+
+pub returns : goal.returns
+returns c = valued_none _ _ _ _ _ _ c.value-best.ensures c.if-best-limit.false

@@ -1,11 +1,6 @@
 -- `ranges::weights::mixed` meets its contract. The invariant: the first i entries are put together, the others are 0.
-use Prim.Native.Nat.{◌-◌, ◌≤◌}
-use lib.ListN.{length}
 use Rattle.ranges.proofs.Mixing.{Mixing}
 use Rattle.ranges.proofs.weights.mixed.Given as goal
 
 abbrev pub invariant-loop-i : goal.invariant-loop-i
-invariant-loop-i l = (l.i ≤ length l.first) × Mixing l.first l.second l.a l.b l.w l.i
-
-abbrev pub decreases-loop-i : goal.decreases-loop-i
-decreases-loop-i l = length l.first - l.i
+invariant-loop-i l = Mixing l.first l.second l.a l.b l.w l.i

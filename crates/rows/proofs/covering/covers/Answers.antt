@@ -1,18 +1,17 @@
--- `rows::covering::covers` meets its contract. The invariant: every row passed has a bit of m.
-use native.Mathlib.Omega.{arith}
-use borrow.Author.Rules.{rules}
-use borrow.Author.Count.{below_more}
+-- `rows::covering::covers` meets its contract.
+use Rattle.std.proofs.Common.{rules, ◌≡◌, ℕ, ◌<◌, length, slice_index, bit_and, Bool, true, false, ◌↔◌, IsTrue, refl, sym}
+use Rattle.bits.specs.Bits.{Decides}
+use Rattle.bits.proofs.Decide.{says_true, says_false, true_is_not_false}
 use Rattle.rows.specs.Covers.{Cover}
-use Rattle.bits.proofs.Decide.{says_false, says_true}
 use Rattle.rows.proofs.covering.covers.Goals as goal
 
-pub returns-then-rows-i-eq0 : goal.returns-then-rows-i-eq0
-unfolding Cover
-returns-then-rows-i-eq0 c = says_false _ (λ f. f c.loop-i.i (omega arith) c.if-rows-i-eq0.true)
-
-pub loop-i-preserved : goal.loop-i-preserved
-loop-i-preserved c = (search rules, below_more _ _ c.loop-i.invariant.1 c.if-rows-i-eq0.false)
+-- an answer that is true just where P holds
+decides_where : (P : Type 0) (b : Bool) → (IsTrue b ↔ P) → Decides P b
+decides_where P true h = says_true P (h.0 refl)
+decides_where P false h = says_false P (λ p. true_is_not_false (sym (h.1 p)))
 
 pub returns : goal.returns
 unfolding Cover
-returns c = says_true _ (λ k lt. c.loop-i.invariant.1 k (omega arith))
+returns c =
+    let met : IsTrue c.all.result ↔ ((k : ℕ) → k < length c.args.rows.now → bit_and (slice_index c.args.rows.now k) c.args.m ≡ 0 → ⊥) = search rules in
+    decides_where _ _ met

@@ -12,4 +12,4 @@ returns-then-covers c =
 
 pub returns-else-covers : goal.returns-else-covers
 unfolding IrredundantCover
-returns-else-covers c = says_false _ (λ h. decides_false _ _ c.covers.ensures c.if-covers.false h.0)
+returns-else-covers c = rw c.if-covers.false (says_false _ (λ h. decides_false _ _ c.covers.ensures c.if-covers.false h.0))

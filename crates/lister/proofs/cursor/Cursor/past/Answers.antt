@@ -1,5 +1,5 @@
 -- `lister::cursor::Cursor::past` meets its contract.
-use borrow.Author.Tests.{lt-ltb, le-ltb}
+use Rattle.std.proofs.Common.{◌<◌, ◌≤◌, arith, lt-ltb, le-ltb}
 use Rattle.lister.specs.Lister.{advanced}
 use Rattle.lister.proofs.cursor.Cursor.past.Goals as goal
 
@@ -7,10 +7,11 @@ pub returns-then-self : goal.returns-then-self
 unfolding advanced
 returns-then-self c = simp c.if-self.true
 
-pub returns-then-self-lt18446744073709551615 : goal.returns-then-self-lt18446744073709551615
+pub returns-in-Some : goal.returns-in-Some
 unfolding advanced
-returns-then-self-lt18446744073709551615 c = simp (c.if-self.false, lt-ltb _ _ c.if-self-lt18446744073709551615.true)
+returns-in-Some c = let below : c.args.self.at < 18446744073709551615 = omega (arith, c.in-Some.ensures) in
+    simp (c.if-self.false, lt-ltb _ _ below, c.in-Some.ensures.1)
 
-pub returns : goal.returns
+pub returns-in-None : goal.returns-in-None
 unfolding advanced
-returns c = simp (c.if-self.false, le-ltb _ _ c.if-self-lt18446744073709551615.false)
+returns-in-None c = let last : 18446744073709551615 ≤ c.args.self.at = omega (arith, c.in-None.ensures) in simp (c.if-self.false, le-ltb _ _ last)

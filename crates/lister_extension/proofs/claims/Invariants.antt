@@ -1,8 +1,0 @@
--- `lister_extension::claims` is safe and ends.
-use Rattle.lister_extension.proofs.claims.Given as goal
-
-abbrev pub invariant-loop-rest : goal.invariant-loop-rest
-invariant-loop-rest l = Unit {0}
-
-abbrev pub decreases-loop-rest : goal.decreases-loop-rest
-decreases-loop-rest l = l.rest
