@@ -19,11 +19,11 @@ pub enum Choice {
 fn gain(rows: &[u64], s: u64, m: u64) -> u64
     ensures { result < 65536 }
 {
-    let met = rows
-        .iter()
-        .filter(|row| **row & s == 0 && **row & m != 0)
-        .count();
-    met.min(65535) as u64
+    let mut met: u64 = 0;
+    for row in rows {
+        met = met.wrapping_add(u64::from((row & s == 0) & (row & m != 0)));
+    }
+    met.min(65535)
 }
 
 // The member of x of most gain per cost, the lowest among equals; the contract says only that it is a member.

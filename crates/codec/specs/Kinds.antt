@@ -1,9 +1,7 @@
 -- The engine's commands are those of the paper.
-use Rattle.std.specs.Prelude.{ℕ, ◌≡◌, Bool, not, [], ◌∷◌, ltb, Result, Ok, Err}
+use Rattle.std.specs.Prelude.{ℕ, ◌≡◌, Bool, not, [], ◌∷◌, ltb, Option, Some, None, Result, Ok, Err}
 use Rattle.model.specs.Commands as model
 use Rattle.model.specs.Refusals.{refuse, first_of}
-use Rattle.model.specs.Places.{place_of}
-use Rattle.model.specs.declared.place.Place.{Place}
 use Rattle.model.specs.declared.reason.Reason.{Reason}
 use Rattle.model.specs.declared.reason.Reason.TheVariants.{NoCommand}
 use Rattle.codec.specs.declared.kinds.Form.{Form}
@@ -27,6 +25,11 @@ kind_is C = model.Kind.C
 kind_is N = model.Kind.N
 kind_is E = model.Kind.E
 
+-- the command that is told, none among them
+abbrev pub kind_told : Option Kind → model.Kind
+kind_told (Some k) = kind_is k
+kind_told None = model.Kind.none
+
 -- r is the command of byte b; or the refusal of a byte that is none
 abbrev pub Decodes : ℕ → Result Kind Reason → Type 0
 Decodes b (Ok k) = kind_is k ≡ model.kind_of b
@@ -36,10 +39,10 @@ Decodes b (Err r) = (r ≡ NoCommand) × (model.kind_of b ≡ model.Kind.none)
 pub record Describes (k : model.Kind) (f : Form) : Type 0 where
   pub code : f.code ≡ (model.form_of k).code
   pub width : f.width ≡ model.width k
-  pub last : place_of f.last ≡ (model.form_of k).last
+  pub last : f.last ≡ (model.form_of k).last
   pub query : f.query ≡ model.is_query_kind k
 
-abbrev pub formed : ℕ → ℕ → Place → Bool → Form
+abbrev pub formed : ℕ → ℕ → ℕ → Bool → Form
 formed code width last query = record { code = code; width = width; last = last; query = query }
 
 -- 3, 4 and 5 for a command at this place with so many bytes behind its own: the first that applies, 0 where none does

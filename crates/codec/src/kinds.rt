@@ -4,7 +4,7 @@ ghost use Rattle.model.specs.Commands as model;
 ghost use Rattle.model.specs.Commands.{kind_of, is, width, is_query_kind, allowed};
 ghost use Rattle.model.specs.Places.{place_of};
 ghost use Rattle.model.specs.Reasons.{told};
-ghost use Rattle.codec.specs.Kinds.{kind_is, Decodes, formed, Describes, early_refusal};
+ghost use Rattle.codec.specs.Kinds.{kind_is, kind_told, Decodes, formed, Describes, early_refusal};
 
 use model::place::Place;
 use model::reason::Reason;
@@ -29,52 +29,60 @@ pub enum Kind {
     E,
 }
 
-// The command of a byte. A byte that is no command is told as `NoCommand`.
+// The command of a byte; None for a byte that is no command.
+#[tactic(auto, unfolding(model::specs::Commands::kind_of))]
+pub fn kind_of(b: u8) -> Option<Kind>
+    ensures { kind_told result ≡ kind_of b }
+{
+    match b {
+        0x49 => Some(Kind::I),
+        0x57 => Some(Kind::W),
+        0x52 => Some(Kind::R),
+        0x42 => Some(Kind::B),
+        0x54 => Some(Kind::T),
+        0x46 => Some(Kind::F),
+        0x50 => Some(Kind::P),
+        0x41 => Some(Kind::A),
+        0x44 => Some(Kind::D),
+        0x47 => Some(Kind::G),
+        0x4c => Some(Kind::L),
+        0x56 => Some(Kind::V),
+        0x43 => Some(Kind::C),
+        0x4e => Some(Kind::N),
+        0x45 => Some(Kind::E),
+        _ => None,
+    }
+}
+
+// The same as a conversion. A byte that is no command is told as `NoCommand`.
 impl TryFrom<u8> for Kind {
     type Error = Reason;
 
     ghost try_from_gives = { Decodes };
 
-    #[tactic(auto, unfolding(model::specs::Commands::kind_of))]
     fn try_from(b: u8) -> Result<Self, Reason> {
-        match b {
-            0x49 => Ok(Kind::I),
-            0x57 => Ok(Kind::W),
-            0x52 => Ok(Kind::R),
-            0x42 => Ok(Kind::B),
-            0x54 => Ok(Kind::T),
-            0x46 => Ok(Kind::F),
-            0x50 => Ok(Kind::P),
-            0x41 => Ok(Kind::A),
-            0x44 => Ok(Kind::D),
-            0x47 => Ok(Kind::G),
-            0x4c => Ok(Kind::L),
-            0x56 => Ok(Kind::V),
-            0x43 => Ok(Kind::C),
-            0x4e => Ok(Kind::N),
-            0x45 => Ok(Kind::E),
-            _ => Err(Reason::NoCommand),
-        }
+        kind_of(b).ok_or(Reason::NoCommand)
     }
 }
 
-// What describes a command: its byte, the width of its operands, the last place at which it may stand, and whether it is a query.
+// What describes a command: its byte, the width of its operands, the number of the last place at which it may stand, since `is_allowed` takes
+// any number, and whether it is a query.
 #[derive(Clone, Copy, Debug, PartialEq, Eq)]
 pub struct Form {
     pub code: u8,
     pub width: usize,
-    pub last: Place,
+    pub last: u8,
     pub query: bool,
 }
 
 impl Form {
     fn new(code: u8, width: usize, last: Place, query: bool) -> Self
-        ensures { result ≡ formed code width last query }
+        ensures { result ≡ formed code width (place_of last) query }
     {
         Form {
             code,
             width,
-            last,
+            last: last.number(),
             query,
         }
     }
@@ -126,24 +134,69 @@ impl Kind {
     }
 
     // Whether it may stand at this place of a job: I at the start, all others behind it.
-    pub fn is_allowed(self, place: Place) -> bool
-        ensures { result ≡ allowed (kind_is self) (place_of place) }
+    pub fn is_allowed(self, place: u8) -> bool
+        ensures { result ≡ allowed (kind_is self) place }
     {
-        (matches!(self, Kind::I) || Place::Begun <= place) && place <= self.form().last
+        (matches!(self, Kind::I) || Place::Begun.number() <= place) && place <= self.form().last
     }
+}
+
+// What describes the command of a byte; one that is no command has the byte 0 and no operands. Inlined: each caller looks at one field.
+#[inline(always)]
+pub fn form_of(b: u8) -> Form
+    ensures { Describes (kind_of b) result }
+{
+    match kind_of(b) {
+        Some(k) => k.form(),
+        None => Form::new(0, 0, Place::Start, false),
+    }
+}
+
+// Whether the command of a byte may stand at this place of a job; one that is no command stands nowhere.
+pub fn is_allowed(b: u8, place: u8) -> bool
+    ensures { result ≡ allowed (kind_of b) place }
+{
+    match kind_of(b) {
+        Some(k) => k.is_allowed(place),
+        None => false,
+    }
+}
+
+// Whether the command of a byte is a query.
+pub fn is_query(b: u8) -> bool
+    ensures { result ≡ is_query_kind (kind_of b) }
+{
+    form_of(b).query
+}
+
+// Whether it is the E that ends a job.
+pub fn is_end(b: u8) -> bool
+    ensures { result ≡ is (kind_of b) model.Kind.E }
+{
+    match kind_of(b) {
+        Some(k) => k.is_end(),
+        None => false,
+    }
+}
+
+// How many operand bytes it has; a byte that is no command has none.
+pub fn width_of(b: u8) -> usize
+    ensures { result ≡ width (kind_of b) }
+{
+    form_of(b).width
 }
 
 // The command of byte b at this place with `rest` bytes behind b; or why it is refused: `NoCommand`, `WrongPlace` or `NoOperands`, the first
 // that applies.
-pub fn early_refusal(b: u8, place: Place, rest: usize) -> Result<Kind, Reason>
-    ensures told { told result ≡ early_refusal (kind_of b) (place_of place) rest }
+pub fn early_refusal(b: u8, place: u8, rest: usize) -> Result<Kind, Reason>
+    ensures told { told result ≡ early_refusal (kind_of b) place rest }
     ensures kind { IfOk result (λ k. kind_is k ≡ kind_of b) }
 {
     let k = Kind::try_from(b)?;
-    if !k.is_allowed(place) {
+    if !is_allowed(b, place) {
         return Err(Reason::WrongPlace);
     }
-    if rest < k.width() {
+    if rest < width_of(b) {
         return Err(Reason::NoOperands);
     }
     Ok(k)

@@ -11,8 +11,6 @@ use Rattle.model.specs.Commands.{Context, Row, row_of_b, rows_of_b, add_row, add
 use Rattle.model.specs.Answers.{answer_for}
 use Rattle.model.specs.Refusals.{first_of, row_refusals, rows_refusals, refusals_of}
 use Rattle.model.specs.Invariants.{Valid}
-use Rattle.model.specs.Places.{place_of}
-use Rattle.model.specs.declared.place.Place.TheVariants.{AmongRows}
 use Rattle.model.proofs.Lists.{all_to}
 use Rattle.model.proofs.Runs.{first_none, none_first, first_before, first_behind}
 use Rattle.model.proofs.RowByRow.{rows_eight, rows_drop, rows_rise, rows_place, EachPasses, all_pass}
@@ -67,7 +65,7 @@ pub record Added (p : Problem) (ws : List Row) (i : ℕ) (now : Problem) : Type 
 pub added_none : {p : Problem} (ws : List Row) → Added p ws 0 p
 added_none ws = record { in_problem = λ q h v o m. record { behind = q; holds = h; valid = v; begun = o; in_rows = m; refusals = refl; after = refl } }
 
-pub added_sized : {p now : Problem} {ws : List Row} {i : ℕ} → Reached p → model.begun ≤ place_of p.place → place_of p.place ≤ model.among_rows → Added p ws i now → Sized now
+pub added_sized : {p now : Problem} {ws : List Row} {i : ℕ} → Reached p → model.begun ≤ p.place → p.place ≤ model.among_rows → Added p ws i now → Sized now
 added_sized r o m a =
     let b = a.in_problem r.problem r.holds r.valid (omega (arith, r.holds.place)) (omega (arith, r.holds.place)) in
     reached_sized _ (record { problem = b.behind; holds = b.holds; valid = b.valid })
@@ -150,13 +148,13 @@ module _ (p : Problem) (sizes : Sized p) (bs : List ℕ)
       (λ w e. first_none (row_refusals q w) (refusals_of_no (row_context q w) model.Kind.R) (sym (e ∙ row_refusal_lem p q w sizes h))) (rows_of_b bs) accepted
 
   -- a B each of whose rows is accepted by itself
-  pub eight_kept : HandlesB p (rows_of_b bs) (record { number = 0; written = 0; problem = all_rows AmongRows (rows_of_b bs) p })
+  pub eight_kept : HandlesB p (rows_of_b bs) (record { number = 0; written = 0; problem = all_rows model.among_rows (rows_of_b bs) p })
   unfolding refusals_of answer_for problem_after
   eight_kept x free d m g =
       let q = x.problem in
       let ws = rows_of_b bs in
       let passes = all_pass ws q (get_or bs 0 0) (rows_rise bs) (each_passes q d.holds) in
-      let after = after_rows ws p q AmongRows d.holds d.valid d.begun m passes (sym (rows_place bs q)) in
+      let after = after_rows ws p q d.holds d.valid d.begun m passes in
       let own = none_first (rows_refusals q ws) passes in
-      handled_silent x model.Kind.B free (all_rows AmongRows ws p) refl (sym (ap (λ (vs : List Row). first_of (rows_refusals q vs)) g ∙ own))
-      (subst⁻¹ (λ (r : model.Problem). Holds (all_rows AmongRows ws p) r) (ap (add_rows q) g) after)
+      handled_silent x model.Kind.B free (all_rows model.among_rows ws p) refl (sym (ap (λ (vs : List Row). first_of (rows_refusals q vs)) g ∙ own))
+      (subst⁻¹ (λ (r : model.Problem). Holds (all_rows model.among_rows ws p) r) (ap (add_rows q) g) (subst (λ (place : ℕ). Holds (all_rows place ws p) (add_rows q ws)) (rows_place bs q) after))

@@ -1,5 +1,5 @@
 -- The laws behind the commands: a refusal, an answer of no bytes, an answer that is written, and one that is too long.
-use Prim.Native.Nat.{ℕ, ◌^◌, ◌≤◌, ◌<◌}
+use Prim.Native.Nat.{ℕ, ◌^◌, ◌≤◌, ◌<◌, max}
 use native.Mathlib.Omega.{arith}
 use native.Mathlib.Decide.{ℕ_discrete}
 use mathlib.Core.Path.{◌≡◌, refl, sym, ap, ◌∙◌, subst, subst⁻¹}
@@ -23,8 +23,6 @@ use Rattle.model.specs.Commands.{Context, table_of, operand, Row, row_of_r, oper
 use Rattle.model.specs.Answers.{Answer, bytes_of, answer_for}
 use Rattle.model.specs.Refusals as model·refusals
 use Rattle.model.specs.Refusals.{Refusal, refuse, first_of, refusals_of, size, dear, bad_range}
-use Rattle.model.specs.Places.{later}
-use Rattle.model.specs.declared.place.Place.TheVariants.{Begun, InPrices, InCandidates, Queried}
 use Rattle.model.proofs.Runs.{Numbered, first_none, first_before, first_behind}
 use Rattle.model.proofs.Sound.{refusals_of_no}
 use Rattle.primes.specs.declared.prime_list.PrimeList.{PrimeList}
@@ -107,7 +105,7 @@ pub init_refused : (p : Problem) (n m r : ℕ) (e : Outcome) → r ≡ first_of 
 unfolding refusals_of
 init_refused p n m r e o d q x free h a b = handled_refused x model.Kind.I free p r e h q (late_own x model.Kind.I r (rw (a, b) o) d) d
 
-pub init_good : (p : Problem) (n m r : ℕ) (q : Problem) → r ≡ first_of (refuse 6 (not (size n && size m)) ∷ []) → r ≡ 0 → q ≡ started_with n m Begun
+pub init_good : (p : Problem) (n m r : ℕ) (q : Problem) → r ≡ first_of (refuse 6 (not (size n && size m)) ∷ []) → r ≡ 0 → q ≡ started_with n m model.begun
     → HandlesI p n m (record { number = 0; written = 0; problem = q })
 unfolding refusals_of answer_for
 init_good p n m r q o z s x free h a b = handled_silent x model.Kind.I free q refl (rw (a, b) (sym z ∙ o)) (subst⁻¹ (λ (y : Problem). Holds y (problem_after x model.Kind.I)) s (after_i x n m a b))
@@ -120,7 +118,7 @@ module _ (p : Problem) (w : Prices) (r : ℕ) (o : r ≡ first_of (refuse 16 (de
   pub prices_refused : (e : Outcome) → (r ≡ 0 → ⊥) → e ≡ refused_as p r → HandlesW p w e
   prices_refused e d q x free f l a = handled_refused x model.Kind.W free p r e f.holds q (late_own x model.Kind.W r (prices_here x a) d) d
 
-  pub prices_kept : (q : Problem) → r ≡ 0 → q ≡ at_place InPrices (with_prices w p) → HandlesW p w (record { number = 0; written = 0; problem = q })
+  pub prices_kept : (q : Problem) → r ≡ 0 → q ≡ at_place model.in_prices (with_prices w p) → HandlesW p w (record { number = 0; written = 0; problem = q })
   unfolding answer_for
   prices_kept q z s x free f l a =
       let none = f.valid.early (omega (arith, l)) in
@@ -203,7 +201,7 @@ module _ (p : Problem) (t : Term) (r : ℕ) (o : RefusesTerm p t r) where
   pub term_many : (e : Outcome) → r ≡ 0 → 64 ≤ p.candidates.count → e ≡ refused_as p 11 → HandlesTerm p t e
   term_many e z l q x free f a = both x free e (candidate_many p model.Kind.T x f (term_refusals (table_of x.problem) t) (omega arith, (omega arith, tt)) (term_own x a) r (o x f) free e z l q)
 
-  pub term_kept : (q : Problem) → r ≡ 0 → p.candidates.count < 64 → q ≡ at_place (later p.place InCandidates) (with_candidates (term_put p.settings.prices p.candidates t) p)
+  pub term_kept : (q : Problem) → r ≡ 0 → p.candidates.count < 64 → q ≡ at_place (max p.place model.in_candidates) (with_candidates (term_put p.settings.prices p.candidates t) p)
       → HandlesTerm p t (record { number = 0; written = 0; problem = q })
   unfolding answer_for problem_after
   term_kept q z l s x free f a = both x free (record { number = 0; written = 0; problem = q })
@@ -230,9 +228,9 @@ module _ (p : Problem) (b : Block) (r : ℕ) (o : RefusesBlock p b r) where
   }
 
   pub block_kept : (q : Problem) (old new : List ℕ) → r ≡ 0 → p.candidates.count < 64 → Adds p.candidates.count b old new
-      → q ≡ at_place (later p.place InCandidates) (with_candidates (block_put p.candidates b) p) → HandlesF p b old new (record { number = 0; written = 0; problem = q })
+      → q ≡ at_place (max p.place model.in_candidates) (with_candidates (block_put p.candidates b) p) → HandlesF p b old new (record { number = 0; written = 0; problem = q })
   unfolding answer_for problem_after
-  block_kept q old new z l g s x free f h a = let then = at_place (later p.place InCandidates) (with_candidates (block_put p.candidates b) p) in record {
+  block_kept q old new z l g s x free f h a = let then = at_place (max p.place model.in_candidates) (with_candidates (block_put p.candidates b) p) in record {
     handled = candidate_kept p model.Kind.F x f (block_refusals (table_of x.problem) b) (omega arith, (omega arith, tt)) (block_own x a) r (o x f) free q z l refl
         (subst⁻¹ (λ (y : Problem). Holds y (problem_after x model.Kind.F)) s (subst⁻¹ (λ (u : Block). Holds then (add_block x.problem u)) a (after_block p x.problem b f.holds l)));
     left = λ n. absurd (n refl);
@@ -319,7 +317,7 @@ module _ (p : Problem) (k i low high : ℕ) (j : i ≡ k) where
     pub range_refused : (e : Outcome) → (r ≡ 0 → ⊥) → e ≡ refused_as p r → HandlesG p k low high e
     range_refused e d q x free f a g = handled_refused x model.Kind.G free p r e f.holds q (late_own x model.Kind.G r (range_here x f a g) d) d
 
-    pub range_kept : (q : Problem) → r ≡ 0 → q ≡ at_place Queried (with_candidates (range_put p.candidates i low high) p)
+    pub range_kept : (q : Problem) → r ≡ 0 → q ≡ at_place model.queried (with_candidates (range_put p.candidates i low high) p)
         → HandlesG p k low high (record { number = 0; written = 0; problem = q })
     unfolding answer_for
     range_kept q z s x free f a g = handled_silent x model.Kind.G free q refl (sym z ∙ range_here x f a g)

@@ -13,7 +13,6 @@ use Rattle.model.specs.Commands.{Context, table_of, basis_of, covering_of, opera
 use Rattle.model.specs.Answers.{Answer, bytes_of, answer_for}
 use Rattle.model.specs.Refusals.{refuse, first_of, refusals_of}
 use Rattle.model.specs.Invariants.{Valid}
-use Rattle.model.specs.declared.place.Place.TheVariants.{Queried}
 use Rattle.incidence.specs.Stored.{BlocksAt}
 use Rattle.problem.specs.declared.Problem.{Problem}
 use Rattle.problem.specs.Problems.{at_place, Holds}
@@ -37,7 +36,7 @@ outcome p (Err r) = refused_as p (number_of r)
 
 -- what a query comes to, by its reply
 abbrev pub replied_as : Problem → Result ℕ Reason → Outcome
-replied_as p (Ok n) = record { number = 0; written = n; problem = at_place Queried p }
+replied_as p (Ok n) = record { number = 0; written = n; problem = at_place model.queried p }
 replied_as p (Err r) = refused_as p (number_of r)
 
 -- the bytes that a command of this kind answers

@@ -7,7 +7,6 @@
 ghost use Rattle.std.specs.Prelude.{◌≡◌, ◌+◌, ◌≤◌, ◌<◌, length, drop};
 ghost use Rattle.model.specs.Commands as model;
 ghost use Rattle.model.specs.Commands.{rows_of_b};
-ghost use Rattle.model.specs.Places.{place_of};
 ghost use Rattle.problem.specs.declared.Problem.{Problem as AnyProblem};
 ghost use Rattle.problem.specs.Problems.{Sized, Reached};
 ghost use Rattle.commands.specs.Effects.{outcome, HandlesI, HandlesW, HandlesR, HandlesB, HandlesTerm, HandlesF, HandlesP, HandlesD, HandlesG, HandlesE};
@@ -35,7 +34,7 @@ pub fn init(n: u8, m: u8) -> Result<Effect, Reason>
     refusals::init_refusal(n, m)?;
     Ok(Effect {
         written: 0,
-        problem: problem::started(n, m, Place::Begun),
+        problem: problem::started(n, m, Place::Begun.number()),
     })
 }
 
@@ -69,7 +68,7 @@ pub fn row(p: Problem, v: usize, on: u8, dc: u8) -> Result<Effect, Reason>
 // B with its operands at `at`: eight rows, one by one. (`engine::row_block` reads those that are accepted in one go.)
 pub fn eight_rows(p: Problem, job: &[u8], at: usize) -> Result<Effect, Reason>
     requires reached { Reached p }
-    requires begun_le_place { (model.begun ≤ place_of p.place) × (place_of p.place ≤ model.among_rows) }
+    requires begun_le_place { (model.begun ≤ p.place) × (p.place ≤ model.among_rows) }
     requires at_in_bounds { at + 17 ≤ length job.now }
     ensures { HandlesB p (rows_of_b (drop at job.now)) (outcome p result) }
 {

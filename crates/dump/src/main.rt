@@ -174,7 +174,7 @@ fn print_record(rt: &impl Print, job: &[u8], p: Problem, held: &[u64; 256]) -> i
     requires holds { Holds p (left job.now) }
     requires blocks_at { BlocksAt (left job.now).cands held.now }
 {
-    let place = p.place.number();
+    let place = p.place;
     let n = p.settings.n;
     let m = p.settings.m;
     println!(rt; "place {place}")?;

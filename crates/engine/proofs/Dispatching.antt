@@ -24,7 +24,6 @@ use Rattle.model.specs.Answers.{bytes_of, answer}
 use Rattle.model.specs.Refusals.{Refusal, refuse, first_of, refusals_of}
 use Rattle.model.specs.Rules.{refusals_by, refusal_by, refusal}
 use Rattle.model.specs.Invariants.{Valid}
-use Rattle.model.specs.Places.{place_of}
 use Rattle.model.proofs.Runs.{Numbered, first_before, first_behind}
 use Rattle.model.proofs.Valid.{place_one, place_last}
 use Rattle.codec.specs.declared.kinds.Kind.{Kind}
@@ -80,10 +79,10 @@ adds_term variant.E h = absurd (miss (4 ∷ 7 ∷ []) 14 tt h)
 pub record Read (p : Problem) (job : List ℕ) (at : ℕ) (k : Kind) : Type 0 where
   pub here : at < length job
   pub kind : kind_is k ≡ kind_of (get_or job at 0)
-  pub passes : 0 ≡ early_refusal (kind_of (get_or job at 0)) (place_of p.place) (length job - at - 1)
+  pub passes : 0 ≡ early_refusal (kind_of (get_or job at 0)) p.place (length job - at - 1)
 
 pub read : {k : Kind} (p : Problem) (job : List ℕ) (at : ℕ) → at < length job → kind_is k ≡ kind_of (get_or job at 0)
-    → 0 ≡ early_refusal (kind_of (get_or job at 0)) (place_of p.place) (length job - at - 1) → Read p job at k
+    → 0 ≡ early_refusal (kind_of (get_or job at 0)) p.place (length job - at - 1) → Read p job at k
 read p job at h k e = record { here = h; kind = k; passes = e }
 
 early_list : Context → List Refusal
@@ -96,14 +95,14 @@ early_numbered : (x : Context) → All Numbered (early_list x)
 unfolding early_list
 early_numbered x = (omega arith, (omega arith, (omega arith, tt)))
 
-early_here : {p : Problem} (job : List ℕ) (at : ℕ) {n : ℕ} → n ≡ early_refusal (kind_of (get_or job at 0)) (place_of p.place) (length job - at - 1)
+early_here : {p : Problem} (job : List ℕ) (at : ℕ) {n : ℕ} → n ≡ early_refusal (kind_of (get_or job at 0)) p.place (length job - at - 1)
     → (q : model.Problem) (free : ℕ) → Holds p q → n ≡ first_of (early_list (context_at q job at free))
 unfolding early_list
 early_here {p} job at {n} d q free h =
     let r : length job - at - 1 ≡ length (drop (at + 1) job) = omega (arith, length-drop (at + 1) job) in
     d ∙ rw (h.place, r)
 
-pub step_early : {p : Problem} {job held rows old : List ℕ} {at n : ℕ} {covered : Bool} {e : Outcome} → n ≡ early_refusal (kind_of (get_or job at 0)) (place_of p.place) (length job - at - 1)
+pub step_early : {p : Problem} {job held rows old : List ℕ} {at n : ℕ} {covered : Bool} {e : Outcome} → n ≡ early_refusal (kind_of (get_or job at 0)) p.place (length job - at - 1)
     → (n ≡ 0 → ⊥) → e ≡ refused_as p n → Steps p held held rows covered job at old old e
 unfolding refusal_by refusals_by early_list late_list
 step_early {p} {job} {held} {rows} {old} {at} {n} {covered} {e} d z q = record {
@@ -119,8 +118,8 @@ module _ {p : Problem} {job : List ℕ} {at : ℕ} {k : Kind} (d : Read p job at
   unfolding refusal_by refusals_by early_list late_list answer
   late_here q free h = let x = context_at q job at free in first_behind (early_list x) (late_list x) (early_numbered x) (sym (early_here job at d.passes q free h))
 
-  passed : T (not (is (kind_is k) model.Kind.none)) × T (allowed (kind_is k) (place_of p.place)) × (width (kind_is k) ≤ length job - at - 1)
-  passed = early_e (kind_is k) (place_of p.place) (length job - at - 1) (subst⁻¹ (λ (c : model.Kind). 0 ≡ early_refusal c (place_of p.place) (length job - at - 1)) d.kind d.passes)
+  passed : T (not (is (kind_is k) model.Kind.none)) × T (allowed (kind_is k) p.place) × (width (kind_is k) ≤ length job - at - 1)
+  passed = early_e (kind_is k) p.place (length job - at - 1) (subst⁻¹ (λ (c : model.Kind). 0 ≡ early_refusal c p.place (length job - at - 1)) d.kind d.passes)
 
   pub operands_there : at + 1 + width (kind_is k) ≤ length job
   operands_there = omega (arith, passed.2, d.here)
@@ -129,8 +128,8 @@ module _ {p : Problem} {job : List ℕ} {at : ℕ} {k : Kind} (d : Read p job at
   term_there g = ⊎_elim (λ h. omega (arith, operands_there, ap width h)) (λ h. omega (arith, operands_there, ap width h)) (adds_term k g)
 
   -- a B stands while rows may come
-  pub rows_may_come : kind_is k ≡ model.Kind.B → (model.begun ≤ place_of p.place) × (place_of p.place ≤ model.among_rows)
-  rows_may_come g = let a = subst (λ (c : model.Kind). T (allowed c (place_of p.place))) g passed.1 in (place_one model.Kind.B (place_of p.place) tt a, place_last model.Kind.B (place_of p.place) a)
+  pub rows_may_come : kind_is k ≡ model.Kind.B → (model.begun ≤ p.place) × (p.place ≤ model.among_rows)
+  rows_may_come g = let a = subst (λ (c : model.Kind). T (allowed c p.place)) g passed.1 in (place_one model.Kind.B p.place tt a, place_last model.Kind.B p.place a)
 
   at_op : (i j : ℕ) → at + 1 + i ≡ j → get_or (drop (at + 1) job) i 0 ≡ get_or job j 0
   at_op i j e = get_or-drop (at + 1) job i 0 ∙ ap (λ (x : ℕ). get_or job x 0) e
@@ -151,7 +150,7 @@ module _ {p : Problem} {job : List ℕ} {at : ℕ} {k : Kind} (d : Read p job at
     as_other : T (not (is c model.Kind.F)) → T (not (is c model.Kind.D)) → (q : model.Problem) {held : List ℕ} → Holds p q → BlocksAt q.cands held → Valid q
         → Handled (context_at q job at (length old)) c old new e → Stepped (context_at q job at (length old)) held held old new e
     as_other nf nd q {held} h b v w =
-        let allowed_here = subst (λ (n : ℕ). T (allowed c n)) h.place (subst (λ (y : model.Kind). T (allowed y (place_of p.place))) g passed.1) in
+        let allowed_here = subst (λ (n : ℕ). T (allowed c n)) h.place (subst (λ (y : model.Kind). T (allowed y p.place)) g passed.1) in
         as_kind q held held h w (λ z. refl) (λ z. blocks_kept (context_at q job at (length old)) c nf nd allowed_here v b)
 
   -- a command behind I, in every problem that p holds
@@ -160,7 +159,7 @@ module _ {p : Problem} {job : List ℕ} {at : ℕ} {k : Kind} (d : Read p job at
     found q free h v = record {
       holds = h;
       valid = v;
-      begun = subst (λ (x : ℕ). model.begun ≤ x) h.place (place_one (kind_is k) (place_of p.place) (subst⁻¹ (λ (x : model.Kind). T (not (is x model.Kind.I))) g i) passed.1);
+      begun = subst (λ (x : ℕ). model.begun ≤ x) h.place (place_one (kind_is k) p.place (subst⁻¹ (λ (x : model.Kind). T (not (is x model.Kind.I))) g i) passed.1);
     }
 
     behind_i : {held rows old new : List ℕ} {covered : Bool} {e : Outcome} → T (not (is c model.Kind.F)) → T (not (is c model.Kind.D))
@@ -207,7 +206,7 @@ module _ {p : Problem} {job : List ℕ} {at : ℕ} {k : Kind} (d : Read p job at
     pub step_w : {w : Prices} → kind_is k ≡ model.Kind.W → w ≡ prices (get_or job (at + 1) 0) (get_or job (at + 1 + 1) 0) (get_or job (at + 1 + 2) 0)
         → HandlesW p w e → Steps p held held rows covered job at old old e
     step_w g s w =
-        let last = place_last model.Kind.W (place_of p.place) (subst (λ (c : model.Kind). T (allowed c (place_of p.place))) g passed.1) in
+        let last = place_last model.Kind.W p.place (subst (λ (c : model.Kind). T (allowed c p.place)) g passed.1) in
         behind_i model.Kind.W g tt tt tt (λ x f b m r a. w x old f (omega (arith, last, f.holds.place)) (op_prices s x r))
 
     pub step_r : {v : ℕ} → kind_is k ≡ model.Kind.R → v ≡ get_or job (at + 1) 0 → HandlesR p v (get_or job (at + 2) 0) (get_or job (at + 3) 0) e → Steps p held held rows covered job at old old e

@@ -9,9 +9,6 @@ use lib.ListN.{get_or, length, drop}
 use Rattle.std.specs.Prelude.{Option, None}
 use Rattle.model.specs.Commands as model
 use Rattle.model.specs.Commands.{rows_of_b}
-use Rattle.model.specs.Places.{place_of}
-use Rattle.model.specs.declared.place.Place.{Place}
-use Rattle.model.specs.declared.place.Place.TheVariants.{AmongRows}
 use Rattle.model.specs.Candidates.{Candidate}
 use Rattle.incidence.specs.Stored.{BlocksAt}
 use Rattle.problem.specs.declared.Settings.{Settings}
@@ -27,7 +24,7 @@ use Rattle.engine.proofs.RowCommands.{Sets, row_sets, eight_sets, rows_go}
 
 -- ---- the block
 
-pub reading_none : {p : Problem} {job : List ℕ} {at : ℕ} → model.begun ≤ place_of p.place → place_of p.place ≤ model.among_rows → at ≤ length job → Reading p job at p at
+pub reading_none : {p : Problem} {job : List ℕ} {at : ℕ} → model.begun ≤ p.place → p.place ≤ model.among_rows → at ≤ length job → Reading p job at p at
 reading_none {p} {job} {at} b m l = record {
   reads = record {
     forward = omega arith;
@@ -70,26 +67,26 @@ reading_then {job = job} b d = record {
   in_rows = d.in_rows;
 }
 
-pub reading_next : {p now next : Problem} {job : List ℕ} {at i bytes : ℕ} → Reading p job at now i → Sets now job i next bytes → next.place ≡ AmongRows → Reading p job at next (i + bytes)
+pub reading_next : {p now next : Problem} {job : List ℕ} {at i bytes : ℕ} → Reading p job at now i → Sets now job i next bytes → next.place ≡ model.among_rows → Reading p job at next (i + bytes)
 reading_next b a e = record {
   reads = record {
     forward = omega (arith, b.reads.forward);
     within = a.room;
     in_problem = λ q h v most free l. rows_go a (b.reads.in_problem q h v most free l);
   };
-  behind_i = omega (arith, ap place_of e);
-  in_rows = omega (arith, ap place_of e);
+  behind_i = omega (arith, e);
+  in_rows = omega (arith, e);
 }
 
 -- ---- the rows alone
 
-behind_none : (at : ℕ) (place : Place) → place_behind at at place ≡ place
+behind_none : (at place : ℕ) → place_behind at at place ≡ place
 behind_none at place = rw (le-ltb at at (omega arith))
 
-behind_some : (at behind : ℕ) (place : Place) → at < behind → place_behind at behind place ≡ AmongRows
+behind_some : (at behind place : ℕ) → at < behind → place_behind at behind place ≡ model.among_rows
 behind_some at behind place l = rw (lt-ltb at behind l)
 
-behind_then : (at mid end : ℕ) (place : Place) → at ≤ mid → mid ≤ end → place_behind mid end (place_behind at mid place) ≡ place_behind at end place
+behind_then : (at mid end place : ℕ) → at ≤ mid → mid ≤ end → place_behind mid end (place_behind at mid place) ≡ place_behind at end place
 behind_then at mid end place l m = go (dec_lt at mid) (dec_lt mid end)
   where
     go : Dec (at < mid) → Dec (mid < end) → place_behind mid end (place_behind at mid place) ≡ place_behind at end place
@@ -101,20 +98,20 @@ pub reads_none : {s : Settings} {job : List ℕ} {at : ℕ} {rows : TableRows} �
 reads_none {s} {job} {at} {rows} l = record {
   forward = omega arith;
   within = l;
-  reading = λ place cs r b m. subst⁻¹ (λ (k : Place). Reading (record_of place s rows cs) job at (record_of k s rows cs) at) (behind_none at place) (reading_none b m l);
+  reading = λ place cs r b m. subst⁻¹ (λ (k : ℕ). Reading (record_of place s rows cs) job at (record_of k s rows cs) at) (behind_none at place) (reading_none b m l);
 }
 
 module _ {s : Settings} {job : List ℕ} {at i : ℕ} {rows now : TableRows} (d : ReadsInto s job at rows i now) where
   -- one command more
   reads_next : {after : TableRows} {bytes : ℕ} → 0 < bytes → i + bytes ≤ length job
-      → ((place : Place) (cs : Candidates) → let p = record_of place s now cs in Reached p → model.begun ≤ place_of place → place_of place ≤ model.among_rows → Sets p job i (record_of AmongRows s after cs) bytes)
+      → ((place : ℕ) (cs : Candidates) → let p = record_of place s now cs in Reached p → model.begun ≤ place → place ≤ model.among_rows → Sets p job i (record_of model.among_rows s after cs) bytes)
       → ReadsInto s job at rows (i + bytes) after
   reads_next {after} {bytes} l room f = record {
     forward = omega (arith, d.forward);
     within = room;
     reading = λ place cs r b m.
         let g = d.reading place cs r b m in
-        subst⁻¹ (λ (k : Place). Reading (record_of place s rows cs) job at (record_of k s after cs) (i + bytes)) (behind_some at (i + bytes) place (omega (arith, d.forward)))
+        subst⁻¹ (λ (k : ℕ). Reading (record_of place s rows cs) job at (record_of k s after cs) (i + bytes)) (behind_some at (i + bytes) place (omega (arith, d.forward)))
         (reading_next g (f (place_behind at i place) cs (reading_reached r g) g.behind_i g.in_rows) refl);
   }
 
@@ -132,17 +129,17 @@ module _ {s : Settings} {job : List ℕ} {at i : ℕ} {rows now : TableRows} (d 
     within = f.within;
     reading = λ place cs r b m.
         let g = d.reading place cs r b m in
-        subst (λ (k : Place). Reading (record_of place s rows cs) job at (record_of k s after cs) end) (behind_then at i end place d.forward f.forward)
+        subst (λ (k : ℕ). Reading (record_of place s rows cs) job at (record_of k s after cs) end) (behind_then at i end place d.forward f.forward)
         (reading_then g (f.reading (place_behind at i place) cs (reading_reached r g) g.behind_i g.in_rows));
   }
 
 -- in the record, right behind I or W
-pub reads_record : {p : Problem} {job : List ℕ} {at end : ℕ} {after : TableRows} {place : Place} → Reached p → model.begun ≤ place_of p.place
-    → place_of p.place ≤ model.in_prices → ReadsInto p.settings job at p.rows end after
+pub reads_record : {p : Problem} {job : List ℕ} {at end : ℕ} {after : TableRows} {place : ℕ} → Reached p → model.begun ≤ p.place
+    → p.place ≤ model.in_prices → ReadsInto p.settings job at p.rows end after
     → place ≡ place_behind at end p.place → ReadsRows p job at (record_of place p.settings after p.candidates) end
 reads_record {p} {job} {at} {end} {after} {place} r b m d e =
     let g = d.reading p.place p.candidates r b (omega (arith, m)) in
-    subst⁻¹ (λ (k : Place). ReadsRows p job at (record_of k p.settings after p.candidates) end) e g.reads
+    subst⁻¹ (λ (k : ℕ). ReadsRows p job at (record_of k p.settings after p.candidates) end) e g.reads
 
 -- ---- the job's loop behind the block
 

@@ -19,8 +19,6 @@ use Rattle.model.specs.Rules.{engine}
 use Rattle.model.specs.Job.{Run, answer_then, written}
 use Rattle.model.specs.Records.{last_left}
 use Rattle.model.specs.Invariants.{Valid}
-use Rattle.model.specs.Places.{place_of}
-use Rattle.model.specs.declared.place.Place.TheVariants.{AmongRows}
 use Rattle.model.proofs.Runs.{Passed, passed}
 use Rattle.model.proofs.Sound.{engine_lawful}
 use Rattle.model.proofs.Valid.{after_valid}
@@ -77,7 +75,7 @@ pub record Sets (p : Problem) (job : List ℕ) (at : ℕ) (next : Problem) (byte
   pub steps : (q : model.Problem) → Holds p q → Valid q → (free : ℕ)
       → Stepped (context_at q job at free) no_blocks no_blocks (replicate free 0) (replicate free 0) (record { number = 0; written = 0; problem = next })
 
-module _ {p : Problem} {job : List ℕ} {at : ℕ} {e : Outcome} (in_rows : place_of p.place ≤ model.among_rows) (steps : (old : List ℕ) → Steps p no_blocks no_blocks [] false job at old old e)
+module _ {p : Problem} {job : List ℕ} {at : ℕ} {e : Outcome} (in_rows : p.place ≤ model.among_rows) (steps : (old : List ℕ) → Steps p no_blocks no_blocks [] false job at old old e)
     (asks_not : T (not (is_query_kind (kind_of (get_or job at 0))))) where
   none_yet : (q : model.Problem) → Holds p q → Valid q → BlocksAt q.cands no_blocks
   none_yet q h v = subst⁻¹ (λ (cs : List Candidate). BlocksAt cs no_blocks) (v.early (omega (arith, h.place))) (blocks_alone [])
@@ -93,9 +91,9 @@ behind_row p job at v = with_row (record { vertex = v; on = get_or job (at + 2) 
 
 -- and behind the B
 abbrev pub behind_eight : Problem → List ℕ → ℕ → Problem
-behind_eight p job at = all_rows AmongRows (rows_of_b (drop (at + 1) job)) p
+behind_eight p job at = all_rows model.among_rows (rows_of_b (drop (at + 1) job)) p
 
-module _ (p : Problem) {job : List ℕ} {at : ℕ} (reached : Reached p) (behind_i : model.begun ≤ place_of p.place) (in_rows : place_of p.place ≤ model.among_rows) where
+module _ (p : Problem) {job : List ℕ} {at : ℕ} (reached : Reached p) (behind_i : model.begun ≤ p.place) (in_rows : p.place ≤ model.among_rows) where
   pub row_sets : {v : ℕ} → v ≡ get_or job (at + 1) 0 → RowAt p.settings p.rows.given job at → Sets p job at (behind_row p job at v) 4
   unfolding answer_for problem_after
   row_sets {v} e a = record {
@@ -113,7 +111,7 @@ module _ (p : Problem) {job : List ℕ} {at : ℕ} (reached : Reached p) (behind
       read = record {
         here = omega (arith, a.room);
         kind = sym a.kind;
-        passes = rw (a.kind, le-leb 1 (place_of p.place) behind_i, le-leb (place_of p.place) model.among_rows in_rows, le-ltb (length job - at - 1) 3 (omega (arith, a.room)));
+        passes = rw (a.kind, le-leb 1 p.place behind_i, le-leb p.place model.among_rows in_rows, le-ltb (length job - at - 1) 3 (omega (arith, a.room)));
       }
 
       kept : HandlesR p (get_or job (at + 1) 0) (get_or job (at + 2) 0) (get_or job (at + 3) 0) (record { number = 0; written = 0; problem = behind_row p job at v })
@@ -137,7 +135,7 @@ module _ (p : Problem) {job : List ℕ} {at : ℕ} (reached : Reached p) (behind
       read = record {
         here = omega (arith, a.room);
         kind = sym a.kind;
-        passes = rw (a.kind, le-leb 1 (place_of p.place) behind_i, le-leb (place_of p.place) model.among_rows in_rows, le-ltb (length job - at - 1) 17 (omega (arith, a.room)));
+        passes = rw (a.kind, le-leb 1 p.place behind_i, le-leb p.place model.among_rows in_rows, le-ltb (length job - at - 1) 17 (omega (arith, a.room)));
       }
 
 -- ---- the run behind it

@@ -7,9 +7,6 @@ use Rattle.model.specs.Rules.{engine}
 use Rattle.model.specs.Job.{Run, commands, written}
 use Rattle.model.specs.Records.{last_left}
 use Rattle.model.specs.Invariants.{Valid}
-use Rattle.model.specs.Places.{place_of}
-use Rattle.model.specs.declared.place.Place.{Place}
-use Rattle.model.specs.declared.place.Place.TheVariants.{AmongRows}
 use Rattle.problem.specs.declared.Settings.{Settings}
 use Rattle.problem.specs.declared.TableRows.{TableRows}
 use Rattle.problem.specs.declared.Candidates.{Candidates}
@@ -50,20 +47,20 @@ pub record ReadsRows (p : Problem) (job : List ℕ) (at : ℕ) (next : Problem) 
 -- and behind it a row may come
 pub record Reading (p : Problem) (job : List ℕ) (at : ℕ) (next : Problem) (behind : ℕ) : Type 0 where
   pub reads : ReadsRows p job at next behind
-  pub behind_i : model.begun ≤ place_of next.place
-  pub in_rows : place_of next.place ≤ model.among_rows
+  pub behind_i : model.begun ≤ next.place
+  pub in_rows : next.place ≤ model.among_rows
 
 -- the place behind such commands from `at` to `behind`: that of a row, where there is one
-abbrev pub place_behind : ℕ → ℕ → Place → Place
-place_behind at behind place = cond (ltb at behind) AmongRows place
+abbrev pub place_behind : ℕ → ℕ → ℕ → ℕ
+place_behind at behind place = cond (ltb at behind) model.among_rows place
 
 -- a record of parts
-abbrev pub record_of : Place → Settings → TableRows → Candidates → Problem
+abbrev pub record_of : ℕ → Settings → TableRows → Candidates → Problem
 record_of place settings rows candidates = record { place = place; settings = settings; rows = rows; candidates = candidates }
 
 -- the same of the rows alone, whatever else the record has
 pub record ReadsInto (s : Settings) (job : List ℕ) (at : ℕ) (rows : TableRows) (behind : ℕ) (after : TableRows) : Type 0 where
   pub forward : at ≤ behind
   pub within : behind ≤ length job
-  pub reading : (place : Place) (cs : Candidates) → Reached (record_of place s rows cs) → model.begun ≤ place_of place → place_of place ≤ model.among_rows
+  pub reading : (place : ℕ) (cs : Candidates) → Reached (record_of place s rows cs) → model.begun ≤ place → place ≤ model.among_rows
       → Reading (record_of place s rows cs) job at (record_of (place_behind at behind place) s after cs) behind

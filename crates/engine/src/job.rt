@@ -1,13 +1,12 @@
 // A whole job.
 ghost use Rattle.std.specs.Prelude.{◌≡◌, ◌+◌, ◌*◌, ◌^◌, ◌≤◌, IfSome, length, []};
-ghost use Rattle.model.specs.Commands as model;
-ghost use Rattle.model.specs.Commands.{kind_of, is, is_query_kind, width};
+ghost use Rattle.model.specs.Commands.{kind_of};
 ghost use Rattle.incidence.specs.Stored.{BlocksAt};
 ghost use Rattle.problem.specs.Problems.{Sized};
 ghost use Rattle.engine.specs.Jobs.{ended_with, EndsAs, Refreshed};
 
 use crate::{row_block, step};
-use codec::kinds::Kind;
+use codec::kinds;
 use model::reason::Reason;
 use problem::matrix::Matrix;
 use problem::{Problem, matrix};
@@ -43,36 +42,6 @@ pub fn pack(number: u8, offset: usize, written: usize) -> u64
     u64::from(number) * 4294967296 + offset as u64 * 65536 + written as u64
 }
 
-// Whether the command of byte b is a query.
-fn is_query(b: u8) -> bool
-    ensures { result ≡ is_query_kind (kind_of b) }
-{
-    match Kind::try_from(b) {
-        Ok(k) => k.is_query(),
-        Err(_) => false,
-    }
-}
-
-// Whether it is the E that ends a job.
-fn is_end(b: u8) -> bool
-    ensures { result ≡ is (kind_of b) model.Kind.E }
-{
-    match Kind::try_from(b) {
-        Ok(k) => k.is_end(),
-        Err(_) => false,
-    }
-}
-
-// How many operand bytes it has; a byte that is no command has none.
-fn width_of(b: u8) -> usize
-    ensures { result ≡ width (kind_of b) }
-{
-    match Kind::try_from(b) {
-        Ok(k) => k.width(),
-        Err(_) => 0,
-    }
-}
-
 // The covering matrix that the command of byte b looks at, where it is a query: that of the query right before it, else one made anew.
 fn refresh(
     p: Problem,
@@ -85,7 +54,7 @@ fn refresh(
     requires rows_len { (length rows.old ≡ 2048) × IfSome kept (λ m. m.count ≤ 2048) }
     ensures { Refreshed p held.now (kind_of b) kept rows.old rows.new result }
 {
-    if !is_query(b) {
+    if !kinds::is_query(b) {
         return None;
     }
     match kept {
@@ -121,10 +90,10 @@ pub fn run(job: &[u8], answers: &mut [u8], held: &mut [u64; 256]) -> Ended
         };
         p = e.problem;
         written += e.written;
-        if is_end(job[at]) {
+        if kinds::is_end(job[at]) {
             return Ended::new(0, at + 1, written, p);
         }
-        at = at + 1 + width_of(job[at]);
+        at = at + 1 + kinds::width_of(job[at]);
         if row_block::starts(p.place, job, at) {
             let block = row_block::read_rows(p, job, at);
             p = block.problem;

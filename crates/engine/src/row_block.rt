@@ -4,7 +4,6 @@
 // command behind them, a refused R or B too, is left to `step`.
 ghost use Rattle.std.specs.Prelude.{◌≡◌, ◌≤◌, T, length};
 ghost use Rattle.model.specs.Commands as model;
-ghost use Rattle.model.specs.Places.{place_of};
 ghost use Rattle.problem.specs.Problems.{Reached};
 ghost use Rattle.engine.specs.RowBlocks.{RowAt, place_behind, ReadsInto, ReadsRows};
 
@@ -20,20 +19,21 @@ pub struct Block {
 
 // Whether a block starts at `at`: I or W came last, and the byte is that of an R or a B. Only a yes is promised to mean something: a no
 // leaves the command to `step`.
-pub fn starts(place: Place, job: &[u8], at: usize) -> bool
-    ensures { T result → (model.begun ≤ place_of place) × (place_of place ≤ model.in_prices) }
+pub fn starts(place: u8, job: &[u8], at: usize) -> bool
+    ensures { T result → (model.begun ≤ place) × (place ≤ model.in_prices) }
 {
-    matches!(place, Place::Begun | Place::InPrices)
+    Place::Begun.number() <= place
+        && place <= Place::InPrices.number()
         && at < job.len()
         && matches!(job[at], 0x52 | 0x42)
 }
 
 // The place behind a block from `at` to `end`: where it has no row, the one before it.
-fn place_behind(at: usize, end: usize, place: Place) -> Place
+fn place_behind(at: usize, end: usize, place: u8) -> u8
     ensures { result ≡ place_behind at end place }
 {
     if at < end {
-        return Place::AmongRows;
+        return Place::AmongRows.number();
     }
     place
 }
@@ -85,7 +85,7 @@ fn read_eights(s: Settings, rows: &mut TableRows, job: &[u8], at: usize) -> usiz
 // The accepted R and B commands from `at` on, in turn, until neither is accepted.
 pub fn read_rows(p: Problem, job: &[u8], at: usize) -> Block
     requires reached { Reached p }
-    requires begun_le_place { (model.begun ≤ place_of p.place) × (place_of p.place ≤ model.in_prices) × (at ≤ length job.now) }
+    requires begun_le_place { (model.begun ≤ p.place) × (p.place ≤ model.in_prices) × (at ≤ length job.now) }
     ensures { ReadsRows p job.now at result.problem result.at }
 {
     let s = p.settings;

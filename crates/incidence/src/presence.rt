@@ -120,7 +120,8 @@ fn block_sum_at(held: u64, driving: u64) -> bool
 }
 
 // Formula (4), vertex v: `product`, which is that of the sums over the points before the vertex, times the sums over its own points. After
-// each point it stands at the product of the sums up to that point: `StandsAt` of this crate's specs/Presence, the invariant of the loop.
+// each point it stands at the product of the sums up to that point, `StandsAt` of this crate's specs/Presence, where it did before the first: so
+// says `AtVertex` there, the invariant of the loop.
 // A vertex without an on cell has no point, and is not looked at.
 fn product_at(
     mut product: bool,

@@ -20,7 +20,6 @@ use Rattle.model.specs.Commands as model
 use Rattle.model.specs.Commands.{table_of}
 use Rattle.model.specs.Refusals.{Refusal, refuse, first_of, size, bad_row}
 use Rattle.std.specs.Prelude.{Result, Ok, Err}
-use Rattle.model.specs.declared.place.Place.TheVariants.{Queried}
 use Rattle.model.specs.declared.reason.Reason.{Reason}
 use Rattle.model.specs.declared.reason.Reason.TheVariants.{UnheldCell}
 use Rattle.model.specs.Reasons.{number_of}
@@ -124,7 +123,7 @@ padded_size row all h f = same_long row (replicate 256 0) all (length row) f (om
 pub call_holds : (words : List ℕ) {n m : ℕ} {prices : Prices} {on dc on' dc' : List ℕ} {terms : List Term} {weights : List ℕ} → prices ≡ usual → length on ≤ 256 → length dc ≤ 256 → Padded on on'
     → Padded dc dc' → Filled 64 (map unpack words) terms (length words) → Filled 64 (map (term_cost prices) (take (length words) terms)) weights (length words)
     → Holds (record {
-      place = Queried;
+      place = model.queried;
       settings = record { n = n; m = m; prices = prices };
       rows = record { on = on'; dc = dc'; given = replicate 256 0 };
       candidates = alone terms weights (length words);

@@ -105,7 +105,7 @@ fn problem_of(n: u8, m: u8, on: &[u8], dc: &[u8], words: &[u32]) -> Problem
     let prices = problem::usual_prices();
     let weights = weights::weights(prices, &terms[..count]);
     Problem {
-        place: Place::Queried,
+        place: Place::Queried.number(),
         settings: Settings { n, m, prices },
         rows: TableRows {
             on: padded(on),

@@ -63,7 +63,6 @@ pub mod Orders
 pub mod OrdersBack
 pub mod Outlines
 pub mod Reasons
-pub mod Places
 pub mod Reordered
 pub mod ReorderedCall
 pub mod Numbers

@@ -1,5 +1,5 @@
 -- The places in a job by name, as the code tells them, with their numbers.
-use Rattle.std.specs.Prelude.{ℕ, cond, ltb}
+use Rattle.std.specs.Prelude.{ℕ}
 use Rattle.model.specs.Commands.{at_start, begun, in_prices, among_rows, in_candidates, queried}
 use Rattle.model.specs.declared.place.Place.{Place}
 use Rattle.model.specs.declared.place.Place.TheVariants.{Start, Begun, InPrices, AmongRows, InCandidates, Queried}
@@ -11,7 +11,3 @@ place_of InPrices = in_prices
 place_of AmongRows = among_rows
 place_of InCandidates = in_candidates
 place_of Queried = queried
-
--- the later of two places
-abbrev pub later : Place → Place → Place
-later p q = cond (ltb (place_of p) (place_of q)) q p

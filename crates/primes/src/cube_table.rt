@@ -9,7 +9,7 @@ use crate::numbers::{self, SpreadTable};
 use bits::byte;
 
 // The table, with what the numbers are got from.
-#[derive(Drop)]
+#[derive(Clone, Copy)]
 pub struct CubeTable {
     pub spreads: SpreadTable,
     pub outputs: [u8; 6561],

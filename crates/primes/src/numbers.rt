@@ -5,13 +5,13 @@ ghost use Rattle.model.specs.Numbers.{cube_number, spread};
 ghost use Rattle.primes.specs.Numbers.{Spreads};
 
 // For each byte the sum of 3^i over its ones.
-#[derive(Drop)]
+#[derive(Clone, Copy)]
 pub struct SpreadTable {
     pub entries: [u16; 256],
     pub ghost right: { Spreads entries },
 }
 
-// The constant table. It is copied here once and lent from then on: each use of a constant array copies it whole.
+// The constant table. It is copied here once, for all cubes of a P: each use of a constant array copies it whole.
 pub fn spreads() -> SpreadTable {
     SpreadTable { entries: SPREAD }
 }

@@ -1,5 +1,5 @@
 -- The engine's record goes on holding the problem of the definitions, command by command.
-use Prim.Native.Nat.{ℕ, zero, suc, ◌+◌, ◌-◌, ◌^◌, ◌≤◌, ◌<◌}
+use Prim.Native.Nat.{ℕ, zero, suc, ◌+◌, ◌-◌, ◌^◌, ◌≤◌, ◌<◌, max}
 use native.Mathlib.Omega.{arith}
 use native.Mathlib.Decide.{ℕ_discrete}
 use mathlib.Core.Path.{◌≡◌, refl, sym, ap, ◌∙◌, subst, subst⁻¹}
@@ -24,10 +24,6 @@ use Rattle.model.specs.Commands.{Context, operand, operand_number, range_of_g, o
 use Rattle.model.specs.Refusals.{row_refusals, rows_refusals}
 use Rattle.model.specs.Records.{Weighed}
 use Rattle.model.specs.Invariants.{Valid}
-use Rattle.model.specs.Places.{place_of, later}
-use Rattle.model.specs.declared.place.Place.{Place}
-use Rattle.model.specs.declared.place.Place.TheVariants.{Start, Begun, InPrices, AmongRows, InCandidates, Queried}
-use Rattle.model.proofs.Places.{behind_candidate}
 use Rattle.model.proofs.Codes.{any_query}
 use Rattle.model.proofs.Lists.{zero_at, not_or_l, map_without}
 use Rattle.model.proofs.Runs.{NoneApplies}
@@ -119,7 +115,7 @@ holds_none k = record {
   given = λ v l. none_given v;
 }
 
-holds_started : (n m k : ℕ) (place : Place) → Holds (started_with n m place) (model.started (place_of place) n m k)
+holds_started : (n m k place : ℕ) → Holds (started_with n m place) (model.started place n m k)
 unfolding started_with
 holds_started n m k place = record {
   place = refl;
@@ -129,16 +125,16 @@ holds_started n m k place = record {
 }
 
 pub holds_empty : Holds no_problem model.empty
-holds_empty = holds_started 0 0 0 Start
+holds_empty = holds_started 0 0 0 model.at_start
 
-pub after_i : (x : Context) (n m : ℕ) → operand x 0 ≡ n → operand x 1 ≡ m → Holds (started_with n m Begun) (problem_after x model.Kind.I)
+pub after_i : (x : Context) (n m : ℕ) → operand x 0 ≡ n → operand x 1 ≡ m → Holds (started_with n m model.begun) (problem_after x model.Kind.I)
 unfolding problem_after
-after_i x n m e f = rw (e, f) (holds_started n m (2 ^ n) Begun)
+after_i x n m e f = rw (e, f) (holds_started n m (2 ^ n) model.begun)
 
 -- ---- W, before any candidate
 
 pub after_w : (x : Context) (p : Problem) (w : Prices) → Holds p x.problem → x.problem.cands ≡ [] → operand_prices x ≡ w
-    → Holds (at_place InPrices (with_prices w p)) (problem_after x model.Kind.W)
+    → Holds (at_place model.in_prices (with_prices w p)) (problem_after x model.Kind.W)
 unfolding problem_after
 after_w x p w h none e = record {
   place = refl;
@@ -176,9 +172,9 @@ holds_row r t v on dc h l a b = record {
 
 -- the record with a row, and with rows one by one
 abbrev pub with_row : Row → Problem → Problem
-with_row w p = at_place AmongRows (with_rows (row_put p.rows w.vertex w.on w.dc) p)
+with_row w p = at_place model.among_rows (with_rows (row_put p.rows w.vertex w.on w.dc) p)
 
-abbrev pub all_rows : Place → List Row → Problem → Problem
+abbrev pub all_rows : ℕ → List Row → Problem → Problem
 all_rows place ws p = at_place place (with_rows (rows_put p.rows ws) p)
 
 pub after_row : (p : Problem) (q : model.Problem) (w : Row) → Holds p q → Valid q → model.begun ≤ q.place → w.vertex < 2 ^ q.settings.n → Holds (with_row w p) (add_row q w)
@@ -195,28 +191,28 @@ row_within q w a =
     let high = leb (2 ^ q.settings.n) w.vertex in
     nleb→lt (2 ^ q.settings.n) w.vertex (not_or_l high (some (eqb w.vertex) q.rows.given) a.0)
 
-pub after_rows : (ws : List Row) (p : Problem) (q : model.Problem) (place : Place) → Holds p q → Valid q → model.begun ≤ q.place → q.place ≤ model.among_rows → NoneApplies (rows_refusals q ws)
-    → place_of place ≡ (add_rows q ws).place → Holds (all_rows place ws p) (add_rows q ws)
-after_rows [] p q place h v o m a e = record { place = e; settings = h.settings; rows = h.rows; cands = h.cands }
-after_rows (w ∷ ws) p q place h v o m a e =
+pub after_rows : (ws : List Row) (p : Problem) (q : model.Problem) → Holds p q → Valid q → model.begun ≤ q.place → q.place ≤ model.among_rows → NoneApplies (rows_refusals q ws)
+    → Holds (all_rows (add_rows q ws).place ws p) (add_rows q ws)
+after_rows [] p q h v o m a = record { place = refl; settings = h.settings; rows = h.rows; cands = h.cands }
+after_rows (w ∷ ws) p q h v o m a =
     let first = rows_split w ws q a in
-    after_rows ws (with_row w p) (add_row q w) place (after_row p q w h v o (row_within q w first.0)) (valid_row q w o m first.0 v) (omega arith) (omega arith) first.1 e
+    after_rows ws (with_row w p) (add_row q w) (after_row p q w h v o (row_within q w first.0)) (valid_row q w o m first.0 v) (omega arith) (omega arith) first.1
 
 -- ---- other candidates: T, F and A, P, D
 
-holds_candidates : (place : Place) (p : Problem) (q : model.Problem) (cs : Candidates) (ks : List Candidate) (ws : List ℕ) (rs : List Range) → Holds p q
-    → HoldsCands p.settings.prices cs ks ws rs → Holds (at_place place (with_candidates cs p)) (model.at_place (place_of place) (model.with_cands ks ws rs q))
+holds_candidates : (place : ℕ) (p : Problem) (q : model.Problem) (cs : Candidates) (ks : List Candidate) (ws : List ℕ) (rs : List Range) → Holds p q
+    → HoldsCands p.settings.prices cs ks ws rs → Holds (at_place place (with_candidates cs p)) (model.at_place place (model.with_cands ks ws rs q))
 holds_candidates place p q cs ks ws rs h c = record { place = refl; settings = h.settings; rows = h.rows; cands = c }
 
 -- one candidate more, with its entry and its cost
 after_more : (p : Problem) (q : model.Problem) (c : Candidate) (blocks : ℕ) → Holds p q → p.candidates.count < 64 → blocks ≡ row_of is_block (q.cands ++ (c ∷ [])) 0
-    → Holds (at_place (later p.place InCandidates) (with_candidates (entry_put p.candidates (entry_of c) (candidate_cost p.settings.prices c) blocks) p)) (add_candidate q c)
+    → Holds (at_place (max p.place model.in_candidates) (with_candidates (entry_put p.candidates (entry_of c) (candidate_cost p.settings.prices c) blocks) p)) (add_candidate q c)
 unfolding entry_put
 after_more p q c blocks h l e =
     let w = p.settings.prices in
     let cs = p.candidates in
     let ks = q.cands ++ (c ∷ []) in
-    let place = later p.place InCandidates in
+    let place = max q.place model.in_candidates in
     let new = entry_put cs (entry_of c) (candidate_cost w c) blocks in
     let beside : HoldsCands w new ks (q.weights ++ (candidate_cost w c ∷ [])) (q.ranges ++ (fixed (candidate_cost w c) ∷ [])) = record {
       entries = subst⁻¹ (λ (ts : List Term). Filled 64 ts (set cs.terms cs.count (entry_of c)) (cs.count + 1)) (map-append entry_of q.cands (c ∷ []))
@@ -229,12 +225,12 @@ after_more p q c blocks h l e =
       blocks = e;
       weighed = subst⁻¹ (λ (v : Prices). q.weights ++ (candidate_cost v c ∷ []) ≡ map (candidate_cost v) ks) h.settings.prices (weighed_added q c (held_weighed p q h));
     } in
-    rw (← h.place, ← behind_candidate p.place)
-    (subst (λ (v : Prices). Holds (at_place place (with_candidates new p)) (model.at_place (place_of place) (model.with_cands ks (q.weights ++ (candidate_cost v c ∷ [])) (q.ranges ++ (fixed (candidate_cost v c) ∷ [])) q)))
+    rw h.place
+    (subst (λ (v : Prices). Holds (at_place place (with_candidates new p)) (model.at_place place (model.with_cands ks (q.weights ++ (candidate_cost v c ∷ [])) (q.ranges ++ (fixed (candidate_cost v c) ∷ [])) q)))
     h.settings.prices (holds_candidates place p q new ks _ _ h beside))
 
 pub after_term : (p : Problem) (q : model.Problem) (t : Term) → Holds p q → p.candidates.count < 64
-    → Holds (at_place (later p.place InCandidates) (with_candidates (term_put p.settings.prices p.candidates t) p)) (add_term q t)
+    → Holds (at_place (max p.place model.in_candidates) (with_candidates (term_put p.settings.prices p.candidates t) p)) (add_term q t)
 after_term p q t h l = after_more p q (Candidate.term t) p.candidates.blocks h l (h.cands.blocks ∙ sym (which_term q.cands t))
 
 -- how many candidates there are
@@ -242,7 +238,7 @@ pub held_count : (p : Problem) (q : model.Problem) → Holds p q → p.candidate
 held_count p q h = h.cands.entries.counted ∙ length-map q.cands entry_of
 
 pub after_block : (p : Problem) (q : model.Problem) (b : Block) → Holds p q → p.candidates.count < 64
-    → Holds (at_place (later p.place InCandidates) (with_candidates (block_put p.candidates b) p)) (add_block q b)
+    → Holds (at_place (max p.place model.in_candidates) (with_candidates (block_put p.candidates b) p)) (add_block q b)
 after_block p q b h l =
     let k = p.candidates.count in
     after_more p q (Candidate.block b) (bit_or p.candidates.blocks (2 ^ k)) h l
@@ -258,8 +254,8 @@ after_p x p list r h f w =
     let cs = alone list.terms r.candidates.weights list.count in
     let beside = holds_alone p.settings.prices f (subst (λ (us : List Term). Filled 64 (map cost us) r.candidates.weights list.count) f.same w.weights) in
     subst⁻¹ (λ (y : Problem). Holds y (problem_after x model.Kind.P)) w.is
-    (subst (λ (v : Prices). Holds (at_place Queried (with_candidates cs p)) (model.at_place model.queried (model.with_cands ks (map (candidate_cost v) ks) (map fixed (map (candidate_cost v) ks)) x.problem)))
-    h.settings.prices (holds_candidates Queried p x.problem cs ks _ _ h beside))
+    (subst (λ (v : Prices). Holds (at_place model.queried (with_candidates cs p)) (model.at_place model.queried (model.with_cands ks (map (candidate_cost v) ks) (map fixed (map (candidate_cost v) ks)) x.problem)))
+    h.settings.prices (holds_candidates model.queried p x.problem cs ks _ _ h beside))
 
 pub after_d : (x : Context) (p : Problem) (k : ℕ) → Holds p x.problem → operand_number x ≡ k → k < p.candidates.count → p.candidates.count ≤ 64
     → Holds (with_candidates (candidate_taken p.candidates k) p) (problem_after x model.Kind.D)
@@ -307,7 +303,7 @@ map_set f (x ∷ rs) zero r = refl
 map_set f (x ∷ rs) (suc k) r = ap (λ (zs : List ℕ). f x ∷ zs) (map_set f rs k r)
 
 pub after_g : (x : Context) (p : Problem) (k low high : ℕ) → Holds p x.problem → operand_number x ≡ k → range_of_g x.rest ≡ between low high → k < p.candidates.count
-    → Holds (at_place Queried (with_candidates (range_put p.candidates k low high) p)) (problem_after x model.Kind.G)
+    → Holds (at_place model.queried (with_candidates (range_put p.candidates k low high) p)) (problem_after x model.Kind.G)
 unfolding problem_after
 after_g x p k low high h e g l =
     let q = x.problem in
@@ -315,7 +311,7 @@ after_g x p k low high h e g l =
     let rs = q.ranges in
     let put : (f : Range → ℕ) (array : List ℕ) (y : ℕ) → Filled 64 (map f rs) array cs.count → f (between low high) ≡ y → Filled 64 (map f (set rs k (between low high))) (set array k y) cs.count =
     λ f array y a b. subst⁻¹ (λ (vs : List ℕ). Filled 64 vs (set array k y) cs.count) (map_set f rs k (between low high) ∙ ap (set (map f rs) k) b) (filled_put 64 (map f rs) array cs.count k y a l) in
-    rw (e, g) (holds_candidates Queried p q (range_put cs k low high) q.cands q.weights (set rs k (between low high)) h
+    rw (e, g) (holds_candidates model.queried p q (range_put cs k low high) q.cands q.weights (set rs k (between low high)) h
     record {
       entries = h.cands.entries;
       weights = h.cands.weights;
@@ -327,9 +323,9 @@ after_g x p k low high h e g l =
 
 -- ---- queries
 
-pub after_query : (x : Context) (p : Problem) (k : model.Kind) → T (is_query_kind k) → Holds p x.problem → Holds (at_place Queried p) (problem_after x k)
+pub after_query : (x : Context) (p : Problem) (k : model.Kind) → T (is_query_kind k) → Holds p x.problem → Holds (at_place model.queried p) (problem_after x k)
 unfolding problem_after
-after_query x p k t h = any_query (λ k. Holds (at_place Queried p) (problem_after x k)) (kept, (kept, (kept, (kept, tt)))) k t
+after_query x p k t h = any_query (λ k. Holds (at_place model.queried p) (problem_after x k)) (kept, (kept, (kept, (kept, tt)))) k t
   where
-    kept : Holds (at_place Queried p) (model.at_place model.queried x.problem)
-    kept = holds_candidates Queried p x.problem p.candidates x.problem.cands x.problem.weights x.problem.ranges h h.cands
+    kept : Holds (at_place model.queried p) (model.at_place model.queried x.problem)
+    kept = holds_candidates model.queried p x.problem p.candidates x.problem.cands x.problem.weights x.problem.ranges h h.cands

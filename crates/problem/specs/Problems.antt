@@ -12,9 +12,6 @@ use Rattle.model.specs.Candidates.{Candidate, usual, term_cost, candidate_cost}
 use Rattle.model.specs.Commands as model
 use Rattle.model.specs.Commands.{Row}
 use Rattle.model.specs.Invariants.{Valid}
-use Rattle.model.specs.Places.{place_of}
-use Rattle.model.specs.declared.place.Place.{Place}
-use Rattle.model.specs.declared.place.Place.TheVariants.{Start, Queried}
 use Rattle.bits.specs.Bits.{removed}
 use Rattle.bits.specs.Lists.{Filled}
 use Rattle.incidence.specs.Stored.{entry_of, is_block, BlocksAt, Stored}
@@ -33,7 +30,7 @@ no_rows = record { on = replicate 256 0; dc = replicate 256 0; given = replicate
 abbrev pub listed : List Term → List ℕ → List ℕ → List ℕ → ℕ → ℕ → Candidates
 listed terms weights lows highs blocks count = record { terms = terms; weights = weights; lows = lows; highs = highs; blocks = blocks; count = count }
 
-unfoldable pub started_with : ℕ → ℕ → Place → Problem
+unfoldable pub started_with : ℕ → ℕ → ℕ → Problem
 started_with n m place = record {
   place = place;
   settings = record { n = n; m = m; prices = usual };
@@ -42,11 +39,11 @@ started_with n m place = record {
 }
 
 abbrev pub no_problem : Problem
-no_problem = started_with 0 0 Start
+no_problem = started_with 0 0 0
 
 -- ---- what a command changes
 
-abbrev pub at_place : Place → Problem → Problem
+abbrev pub at_place : ℕ → Problem → Problem
 at_place place p = record { place = place; settings = p.settings; rows = p.rows; candidates = p.candidates }
 
 abbrev pub with_prices : Prices → Problem → Problem
@@ -98,7 +95,7 @@ alone terms weights count = listed terms weights weights weights 0 count
 
 -- r is p behind a P: the primes of the list are its candidates, and their weights stand beside them, at both ends of their ranges too
 pub record WithPrimes (p : Problem) (list : PrimeList) (r : Problem) : Type 0 where
-  pub is : r ≡ at_place Queried (with_candidates (alone list.terms r.candidates.weights list.count) p)
+  pub is : r ≡ at_place model.queried (with_candidates (alone list.terms r.candidates.weights list.count) p)
   pub weights : Filled 64 (map (term_cost p.settings.prices) (take list.count list.terms)) r.candidates.weights list.count
 
 -- ---- what it holds
@@ -135,7 +132,7 @@ pub record HoldsCands (w : Prices) (cs : Candidates) (ks : List Candidate) (ws :
 
 -- p holds the problem q of the definitions, but for the vertices of its blocks: those stand in sets lent beside p (`BlocksAt`)
 pub record Holds (p : Problem) (q : model.Problem) : Type 0 where
-  pub place : place_of p.place ≡ q.place
+  pub place : p.place ≡ q.place
   pub settings : HoldsSettings p.settings q.settings
   pub rows : HoldsRows p.rows q.rows
   pub cands : HoldsCands p.settings.prices p.candidates q.cands q.weights q.ranges

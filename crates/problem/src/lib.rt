@@ -6,10 +6,9 @@
 // proofs/Keeping says that the record goes on holding the problem of the definitions.
 #![tactic(auto)]
 
-ghost use Rattle.std.specs.Prelude.{◌≡◌, ◌≤◌, ◌<◌, length};
+ghost use Rattle.std.specs.Prelude.{◌≡◌, ◌≤◌, ◌<◌, length, max};
 ghost use Rattle.model.specs.Candidates.{usual};
-ghost use Rattle.model.specs.Places.{later};
-ghost use Rattle.model.specs.declared.place.Place.TheVariants.{InPrices, AmongRows, InCandidates, Queried};
+ghost use Rattle.model.specs.Commands as model;
 ghost use Rattle.problem.specs.Problems.{no_problem, started_with, at_place, with_prices, with_rows, with_candidates, entry_put, term_put, block_put, range_put, entries_without, candidate_taken, WithPrimes};
 
 use bits::set;
@@ -52,10 +51,10 @@ pub struct Candidates {
     pub count: usize,
 }
 
-// The record, with its place in the job.
+// The record, with its place in the job: the number of one, since `started` takes any number (`Place` names those that come).
 #[derive(Clone, Copy)]
 pub struct Problem {
-    pub place: Place,
+    pub place: u8,
     pub settings: Settings,
     pub rows: TableRows,
     pub candidates: Candidates,
@@ -65,7 +64,7 @@ pub struct Problem {
 pub fn empty() -> Problem
     ensures { result ≡ no_problem }
 {
-    started(0, 0, Place::Start)
+    started(0, 0, Place::Start.number())
 }
 
 // The prices without a W.
@@ -80,7 +79,7 @@ pub fn usual_prices() -> Prices
 }
 
 // n inputs and m outputs, with no row and no candidate.
-pub fn started(n: u8, m: u8, place: Place) -> Problem
+pub fn started(n: u8, m: u8, place: u8) -> Problem
     ensures { result ≡ started_with n m place }
 {
     Problem {
@@ -108,29 +107,29 @@ pub fn started(n: u8, m: u8, place: Place) -> Problem
 
 // With these prices: what W leaves.
 pub fn with_prices(mut p: Problem, w: Prices) -> Problem
-    ensures { result ≡ at_place InPrices (with_prices w p) }
+    ensures { result ≡ at_place model.in_prices (with_prices w p) }
 {
     p.settings.prices = w;
-    p.place = Place::InPrices;
+    p.place = Place::InPrices.number();
     p
 }
 
 // With these rows: what a row of R or B leaves. (So the rows of p are not copied.)
 pub fn with_rows(p: Problem, rows: TableRows) -> Problem
-    ensures { result ≡ at_place AmongRows (with_rows rows p) }
+    ensures { result ≡ at_place model.among_rows (with_rows rows p) }
 {
     Problem {
-        place: Place::AmongRows,
+        place: Place::AmongRows.number(),
         rows,
         ..p
     }
 }
 
 // The place of a candidate, or the later one that the job is at.
-fn candidate_place(place: Place) -> Place
-    ensures { result ≡ later place InCandidates }
+fn candidate_place(place: u8) -> u8
+    ensures { result ≡ max place model.in_candidates }
 {
-    place.max(Place::InCandidates)
+    place.max(Place::InCandidates.number())
 }
 
 impl Candidates {
@@ -152,7 +151,7 @@ impl Candidates {
 // With one candidate more, a term and what it costs: what T and A leave.
 pub fn with_term(mut p: Problem, t: Term) -> Problem
     requires { p.candidates.count < 64 }
-    ensures { result ≡ at_place (later p.place InCandidates) (with_candidates (term_put p.settings.prices p.candidates t) p) }
+    ensures { result ≡ at_place (max p.place model.in_candidates) (with_candidates (term_put p.settings.prices p.candidates t) p) }
 {
     let weight = weights::weight(p.settings.prices, t);
     p.candidates.put(t, weight);
@@ -163,7 +162,7 @@ pub fn with_term(mut p: Problem, t: Term) -> Problem
 // With one candidate more, a block and its own weight: what F leaves.
 pub fn with_block(mut p: Problem, b: Block) -> Problem
     requires { p.candidates.count < 64 }
-    ensures { result ≡ at_place (later p.place InCandidates) (with_candidates (block_put p.candidates b) p) }
+    ensures { result ≡ at_place (max p.place model.in_candidates) (with_candidates (block_put p.candidates b) p) }
 {
     let entry = Term {
         outputs: b.outputs,
@@ -201,11 +200,11 @@ pub fn without_candidate(mut p: Problem, k: usize) -> Problem
 // With another range for candidate k: what G leaves.
 pub fn with_range(mut p: Problem, k: usize, low: u16, high: u16) -> Problem
     requires { k < 64 }
-    ensures { result ≡ at_place Queried (with_candidates (range_put p.candidates k low high) p) }
+    ensures { result ≡ at_place model.queried (with_candidates (range_put p.candidates k low high) p) }
 {
     p.candidates.lows[k] = low;
     p.candidates.highs[k] = high;
-    p.place = Place::Queried;
+    p.place = Place::Queried.number();
     p
 }
 
@@ -216,7 +215,7 @@ pub fn with_primes(p: Problem, primes: PrimeList) -> Problem
 {
     let weights = weights::weights(p.settings.prices, &primes.terms[..primes.count]);
     Problem {
-        place: Place::Queried,
+        place: Place::Queried.number(),
         candidates: Candidates {
             terms: primes.terms,
             weights,
@@ -231,8 +230,8 @@ pub fn with_primes(p: Problem, primes: PrimeList) -> Problem
 
 // Behind an L, a V, a C or an N.
 pub fn after_query(mut p: Problem) -> Problem
-    ensures { result ≡ at_place Queried p }
+    ensures { result ≡ at_place model.queried p }
 {
-    p.place = Place::Queried;
+    p.place = Place::Queried.number();
     p
 }

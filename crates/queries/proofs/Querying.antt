@@ -17,7 +17,6 @@ use Rattle.model.specs.Ranges.{Range, Ranged, possibles}
 use Rattle.model.specs.declared.Prices.{Prices}
 use Rattle.model.specs.Candidates.{candidate_cost, weigh}
 use Rattle.model.specs.Commands as model
-use Rattle.model.specs.declared.place.Place.TheVariants.{Queried}
 use Rattle.model.specs.Commands.{Context, is_query_kind, basis_of, covering_of, start, count, problem_after}
 use Rattle.model.specs.Answers.{Answer, bytes_of, answer_for}
 use Rattle.model.specs.Refusals.{first_of, refusals_of}
@@ -88,12 +87,12 @@ module _ (all : List ℕ) (s : ℕ) (old new : List ℕ) (f : PageFill) (p : Pag
 -- ---- queries by their replies
 
 module _ (x : Context) (k : model.Kind) (p : Problem) (old new : List ℕ) (r : Result ℕ Reason) (w : Replied (answer_bytes x k) old new r)
-    (f : x.free ≡ length old) (o : 0 ≡ first_of (refusals_of x k)) (g : Holds p x.problem) (h : Holds (at_place Queried p) (problem_after x k)) where
+    (f : x.free ≡ length old) (o : 0 ≡ first_of (refusals_of x k)) (g : Holds p x.problem) (h : Holds (at_place model.queried p) (problem_after x k)) where
   pub handled_reply : (e : Outcome) → e ≡ replied_as p r → Handled x k old new e
   handled_reply e q = subst⁻¹ (Handled x k old new) q (go r refl)
     where
       go : (s : Result ℕ Reason) → r ≡ s → Handled x k old new (replied_as p s)
-      go (Ok n) i = handled_written x k old new (at_place Queried p) r n i f w o h
+      go (Ok n) i = handled_written x k old new (at_place model.queried p) r n i f w o h
       go (Err y) i = handled_long x k old new p r y (refused_as p (number_of y)) g i refl f w o
 
 -- ---- 12 and 17, of any query
