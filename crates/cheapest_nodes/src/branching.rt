@@ -15,7 +15,8 @@ pub enum Choice {
 }
 
 // How many rows m meets that s does not; 65535 stands for more, so that a product with a cost fits. The count is left open: it only
-// chooses what is tried first.
+// chooses what is tried first. `&` and a sum that can't fail make no branch for each row, since
+// which rows count can't be foreseen.
 fn gain(rows: &[u64], s: u64, m: u64) -> u64
     ensures { result < 65536 }
 {

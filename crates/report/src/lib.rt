@@ -7,7 +7,7 @@
 // error.
 #![tactic(auto)]
 
-ghost use Rattle.std.specs.Prelude.{◌≡◌, ◌+◌, ◌*◌, ◌<◌, ◌≤◌, [], ◌∷◌, ◌++◌, length, take, Some, IsAscii};
+ghost use Rattle.std.specs.Prelude.{◌≡◌, ◌+◌, ◌*◌, ◌<◌, ◌≤◌, ◌∷◌, ◌++◌, length, drop, Some, IsAscii};
 ghost use Rattle.report.specs.Digits.{digit, digits};
 
 use std::{fmt, io, str};
@@ -21,25 +21,26 @@ fn digit(x: u8) -> u8
     if x < 10 { 48 + x } else { 87 + x }
 }
 
-// Puts the digits of up to 32 bytes in front of `line`.
-fn put_digits(line: &mut [u8; 65], bytes: &[u8])
-    requires { length bytes.now ≤ 32 }
-    ensures digits { take (2 * length bytes.now) line.new ≡ digits bytes.now }
-    ensures ascii { IsAscii (take (2 * length bytes.now) line.new) }
+// Puts the digits of the bytes into `text`, which they fill. (The kit's `hex` looks each digit up, and takes 2.6 times the instructions.)
+fn put_digits(text: &mut [u8], bytes: &[u8])
+    requires { length text.old ≡ 2 * length bytes.now }
+    ensures digits { text.new ≡ digits bytes.now }
+    ensures ascii { IsAscii text.new }
 {
     for (i, b) in bytes.iter().enumerate() {
-        line[2 * i] = digit(b / 16);
-        line[2 * i + 1] = digit(b % 16);
+        text[2 * i] = digit(b / 16);
+        text[2 * i + 1] = digit(b % 16);
     }
 }
 
-// Puts the digits of up to 32 bytes and the end of their line in front of `line`.
+// Puts the digits of up to 32 bytes and the end of their line in front of `line`. What stands behind stays.
 fn put_line(line: &mut [u8; 65], bytes: &[u8])
     requires { length bytes.now ≤ 32 }
-    ensures { take (2 * length bytes.now + 1) line.new ≡ digits bytes.now ++ (10 ∷ []) }
+    ensures { line.new ≡ digits bytes.now ++ (10 ∷ drop (2 * length bytes.now + 1) line.old) }
 {
-    put_digits(line, bytes);
-    line[2 * bytes.len()] = b'\n';
+    let end = 2 * bytes.len();
+    put_digits(&mut line[..end], bytes);
+    line[end] = b'\n';
 }
 
 // Bytes that are printed by two digits each.
@@ -50,10 +51,11 @@ impl<'a> fmt::Display for Hex<'a> {
     ghost output = { λ h. Some (digits h.0.now) };
 
     fn fmt<W: fmt::Write>(&self, f: &mut fmt::Formatter<W>) -> fmt::Result {
-        let mut line = [0u8; 65];
+        let mut room = [0u8; 64];
         for bytes in self.0.chunks(32) {
-            put_digits(&mut line, bytes);
-            let Ok(text) = str::from_utf8(&line[..2 * bytes.len()]) else {
+            let digits = &mut room[..2 * bytes.len()];
+            put_digits(digits, bytes);
+            let Ok(text) = str::from_utf8(digits) else {
                 unreachable!();
             };
             f.write_str(text)?;

@@ -2,7 +2,7 @@ use Rattle.std.proofs.Common.{◌≡◌, ℕ, List, ◌++◌, sym, ap, ◌∙◌
 use Rattle.std.proofs.Output.{has_written_append}
 use Rattle.std.proofs.lemmas.Str.{IsUtf8-from_ascii}
 use Rattle.report.specs.Digits.{digits}
-use Rattle.report.proofs.Lines.{digits-append}
+use Rattle.report.proofs.Lines.{digits_append}
 use Rattle.report.proofs.HexDisplay.fmt.Goals as goal
 
 pub unreachable-requires : goal.unreachable-requires
@@ -20,7 +20,7 @@ loop-bytes-preserved g c =
             so_far.0 ++ c.in-Ok.text.now,
             has_written_append _ _ _ _ _ _ so_far.1 (search rules),
             append_assoc so_far.0 _ _
-                ∙ ap (λ (t : List ℕ). so_far.0 ++ t) (rw text (sym (digits-append _ _) ∙ ap digits (sym steps.1.0)))
+                ∙ ap (λ (t : List ℕ). so_far.0 ++ t) (rw text (sym (digits_append _ _) ∙ ap digits (sym steps.1.0)))
                 ∙ so_far.2,
           ),
     )
