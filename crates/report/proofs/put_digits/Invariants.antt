@@ -4,4 +4,7 @@ use Rattle.report.specs.Digits.{digits}
 use Rattle.report.proofs.put_digits.Given as goal
 
 abbrev pub invariant-loop-i : goal.invariant-loop-i
-invariant-loop-i l = (length l.text ≡ 2 * length l.bytes) × (take (2 * l.i) l.text ++ digits (drop l.i l.bytes) ≡ digits l.bytes) × IsAscii (take (2 * l.i) l.text)
+invariant-loop-i l =
+    (length l.text ≡ 2 * length l.bytes)
+    × (take (2 * l.i) l.text ++ digits (drop l.i l.bytes) ≡ digits l.bytes)
+    × IsAscii (take (2 * l.i) l.text)
