@@ -8,14 +8,15 @@
 #![tactic(auto)]
 
 ghost use Rattle.std.specs.Prelude.{◌≡◌, ◌+◌, ◌*◌, ◌<◌, ◌≤◌, ◌∷◌, ◌++◌, length, drop, Some, IsAscii};
-ghost use Rattle.report.specs.Digits.{digit, digits};
+ghost use Rattle.std.specs.Char.{digit_char};
+ghost use Rattle.report.specs.HexText.{hex_text};
 
 use std::{fmt, io, str};
 
 // A hexadecimal digit, in lower case.
 fn digit(x: u8) -> u8
     requires { x < 16 }
-    ensures value { result ≡ digit x }
+    ensures value { result ≡ digit_char x }
     ensures ascii { result < 128 }
 {
     if x < 10 { 48 + x } else { 87 + x }
@@ -24,7 +25,7 @@ fn digit(x: u8) -> u8
 // Puts the digits of the bytes into `text`, which they fill. (The kit's `hex` looks each digit up, and takes 2.6 times the instructions.)
 fn put_digits(text: &mut [u8], bytes: &[u8])
     requires { length text.old ≡ 2 * length bytes.now }
-    ensures digits { text.new ≡ digits bytes.now }
+    ensures digits { text.new ≡ hex_text bytes.now }
     ensures ascii { IsAscii text.new }
 {
     for (i, b) in bytes.iter().enumerate() {
@@ -36,7 +37,7 @@ fn put_digits(text: &mut [u8], bytes: &[u8])
 // Puts the digits of up to 32 bytes and the end of their line in front of `line`. What stands behind stays.
 fn put_line(line: &mut [u8; 65], bytes: &[u8])
     requires { length bytes.now ≤ 32 }
-    ensures { line.new ≡ digits bytes.now ++ (10 ∷ drop (2 * length bytes.now + 1) line.old) }
+    ensures { line.new ≡ hex_text bytes.now ++ (10 ∷ drop (2 * length bytes.now + 1) line.old) }
 {
     let end = 2 * bytes.len();
     put_digits(&mut line[..end], bytes);
@@ -48,7 +49,7 @@ fn put_line(line: &mut [u8; 65], bytes: &[u8])
 pub struct Hex<'a>(pub &'a [u8]);
 
 impl<'a> fmt::Display for Hex<'a> {
-    ghost output = { λ h. Some (digits h.0.now) };
+    ghost output = { λ h. Some (hex_text h.0.now) };
 
     fn fmt<W: fmt::Write>(&self, f: &mut fmt::Formatter<W>) -> fmt::Result {
         let mut room = [0u8; 64];
